@@ -1,0 +1,67 @@
+-- Document 01, "The memory and the tables": cursors, a step, the distance from one cursor to another.
+-- Assumes nothing.
+use Prim.Native.Nat.{ℕ, _+_, _-_, _*_, _/_, _%_}
+use mathlib.Core.Bool.{Bool, true, false, _&&_, cond}
+use lib.Dec.{ltb, leb, eqb}
+use lib.IntN.{ℤ, pos, negsuc, subℕ}
+use Rattle.cursor.specs.declared.Cursor.{Cursor}
+
+-- D = N - 4: an element of N bytes has the eye catcher and D data bytes (exact: N is 8 or more; 0 below 4)
+abbrev pub dataOf : ℕ → ℕ
+dataOf n = n - 4
+
+-- offsets run from 4 to N - 1
+unfoldable pub inRange : ℕ → Cursor → Bool
+inRange n c = leb 4 (c .offset) && ltb (c .offset) n
+
+unfoldable pub sameB : Cursor → Cursor → Bool
+sameB a b = eqb (a .offset) (b .offset) && eqb (a .wrap) (b .wrap)
+
+-- a step of k that reaches N gives 4 and the wrap number plus one, 65,535 going on to 0 (the subtraction is exact: N is reached)
+unfoldable pub movedOf : ℕ → Cursor → ℕ → Cursor
+movedOf n c k =
+    cond (ltb (c .offset + k) n)
+    (record { offset = c .offset + k; wrap = c .wrap })
+    (record { offset = c .offset + k - n + 4; wrap = (c .wrap + 1) % 65536 })
+
+-- the page gives a step a meaning for an offset in range and at most D bytes; elsewhere the cursor stays
+unfoldable pub stepOf : ℕ → Cursor → ℕ → Cursor
+stepOf n c k = cond (inRange n c && leb (k + 4) n) (movedOf n c k) c
+
+-- z mod m, of an integer (exact: k % m is below m)
+abbrev pub modℤ : ℤ → ℕ → ℕ
+modℤ (pos k) m = k % m
+modℤ (negsuc k) m = m - 1 - k % m
+
+-- (w2 - w1) mod 65,536; `subℕ a b` is the integer a - b
+unfoldable pub turnsOf : ℕ → ℕ → ℕ
+turnsOf w1 w2 = modℤ (subℕ w2 w1) 65536
+
+-- the distance from (c1, w1) to (c2, w2): ((w2 - w1) mod 65,536) x D + c2 - c1, an integer that may be below zero
+unfoldable pub distanceOf : ℕ → Cursor → Cursor → ℤ
+distanceOf d from to = subℕ (turnsOf (from .wrap) (to .wrap) * d + to .offset) (from .offset)
+
+-- it counts as good only from 0 to D
+abbrev pub fromZeroTo : ℕ → ℤ → Bool
+fromZeroTo d (pos k) = leb k d
+fromZeroTo d (negsuc k) = false
+
+unfoldable pub goodB : ℕ → Cursor → Cursor → Bool
+goodB d from to = fromZeroTo d (distanceOf d from to)
+
+-- an integer as a natural number, where it is not below zero
+abbrev pub natural : ℤ → ℕ
+natural (pos k) = k
+natural (negsuc k) = 0
+
+-- the distance as a natural number: the distance itself wherever it is good
+unfoldable pub gapOf : ℕ → Cursor → Cursor → ℕ
+gapOf d from to = natural (distanceOf d from to)
+
+-- what the code computes: the distance with the first cursor's offset added, which is never below zero
+unfoldable pub leadOf : ℕ → Cursor → Cursor → ℕ
+leadOf d from to = turnsOf (from .wrap) (to .wrap) * d + to .offset
+
+-- the cursor of a position: x bytes from the open, counted without wrapping, in an element with d data bytes
+unfoldable pub cursorAt : ℕ → ℕ → Cursor
+cursorAt d x = record { offset = 4 + x % d; wrap = x / d % 65536 }
