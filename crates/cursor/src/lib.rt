@@ -71,11 +71,7 @@ pub fn step(n: u32, c: Cursor, k: u32) -> Cursor
 {
     let size = n as u64;
     let ok = in_range(n, c) & ((k as u64) + 4 <= size);
-    if ok {
-        moved(n, c, k)
-    } else {
-        c
-    }
+    if ok { moved(n, c, k) } else { c }
 }
 
 fn moved(n: u32, c: Cursor, k: u32) -> Cursor

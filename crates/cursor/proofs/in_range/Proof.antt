@@ -1,16 +1,11 @@
+-- `cursor::in_range` meets its contract. Assumes nothing.
 use borrow.Author.Needs.{needs}
-use native.Mathlib.Omega.{arith}
-use Prim.Native.Nat.{ℕ, _+_, _-_, _*_, _≤_, _<_}
-use mathlib.Core.Path.{_≡_, refl, sym, ap, _∙_}
-use mathlib.Core.List.{List, [], _∷_, _++_}
-use lib.ListN.{length, take, drop, getD, set, length-set}
+use Rattle.cursor.specs.Cursor.{inRange}
 use Rattle.cursor.proofs.in_range.Statement.{statement}
 use Rattle.cursor.proofs.in_range.Tie as tie
-use Rattle.cursor.proofs.in_range.Reads as reads
-use Rattle.cursor.proofs.in_range.Lts as lts
 
--- src/lib.rt:19:1
 returns : tie.Need-returns
+unfolding inRange
 returns c = search needs
 
 pub in-range-spec : {M : Type 1} → statement M
