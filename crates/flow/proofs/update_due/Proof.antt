@@ -1,0 +1,38 @@
+-- `flow::update_due` meets its contract. Assumes nothing.
+use borrow.Author.Needs.{needs}
+use Rattle.flow.specs.Flow.{updateDue}
+use Rattle.flow.proofs.update_due.Statement.{statement}
+use Rattle.flow.proofs.update_due.Tie as tie
+
+data-size-requires : tie.Need-data-size-requires
+data-size-requires c κs = search needs
+
+window-requires : tie.Need-window-requires
+window-requires c κs = search needs
+
+gap-requires : tie.Need-gap-requires
+gap-requires c κs = search needs
+
+small-requires : tie.Need-small-requires
+small-requires c κs = search needs
+
+large-requires : tie.Need-large-requires
+large-requires c κs = search needs
+
+returns : tie.Need-returns
+unfolding updateDue
+returns c =
+    let g = c .before .before in
+    let w = g .before in
+    simp (c .before .small .ensures, c .large .ensures, ← (w .before .data-size .ensures), ← (w .window .ensures .0), ← (g .gap .ensures .0))
+
+pub update-due-spec : {M : Type 1} → statement M
+update-due-spec =
+    tie.close
+    (tie.spec
+    data-size-requires
+    window-requires
+    gap-requires
+    small-requires
+    large-requires
+    returns)

@@ -1,0 +1,107 @@
+// Flow control between a producer and a consumer: room, placings, the peer's window and when it is worth telling
+// (document 01, "Calls of a connection": Send and Read; RFC 7609, 4.5.1).
+ghost use mathlib.Core.Path.{_≡_};
+ghost use Prim.Native.Nat.{_-_, _*_, _≤_, _<_};
+ghost use lib.Dec.{ltb, leb};
+ghost use Rattle.flow.specs.Flow.{roomOf, takenOf, firstOf, placingsOf, windowOf, updateDue};
+use cursor::Cursor;
+
+// An offset in the peer's element, a start in the bytes sent, and a length.
+pub struct Placing {
+    pub offset: u32,
+    pub start: u32,
+    pub len: u32,
+}
+
+pub enum Placings {
+    Nowhere,
+    One(Placing),
+    Two(Placing, Placing),
+}
+
+// Room in an element of `size` bytes, written at `producer` and read up to `consumer`.
+pub fn room(size: u32, consumer: Cursor, producer: Cursor) -> u32
+    ensures { λ r. ⌜ (r ≡ roomOf size consumer producer) × (r ≤ size - 4) ⌝ }
+{
+    let d = cursor::data_size(size);
+    let g = cursor::gap(d, consumer, producer);
+    if (d as u64) < g { 0 } else { d - (g as u32) }
+}
+
+// How many of `len` bytes are taken.
+pub fn taken(room: u32, len: usize) -> u32
+    ensures { λ r. ⌜ (r ≡ takenOf room len) × (r ≤ room) ⌝ }
+{
+    if (room as usize) <= len {
+        room
+    } else {
+        len as u32
+    }
+}
+
+// The length of the first placing: up to the element's end at most.
+fn first_part(size: u32, producer: Cursor, n: u32) -> u32
+    ensures { λ r. ⌜ (r ≡ firstOf size producer n) × (r ≤ n) ⌝ }
+{
+    let at = producer.offset;
+    if size < at {
+        return 0;
+    }
+    if n <= size - at { n } else { size - at }
+}
+
+// Where n bytes go, from `producer` on.
+pub fn placings_of(size: u32, producer: Cursor, n: u32) -> Placings
+    ensures { λ r. ⌜ r ≡ placingsOf size producer n ⌝ }
+{
+    let f = first_part(size, producer, n);
+    if n == 0 {
+        return Placings::Nowhere;
+    }
+    let one = Placing {
+        offset: producer.offset,
+        start: 0,
+        len: f,
+    };
+    if n == f {
+        return Placings::One(one);
+    }
+    let two = Placing {
+        offset: 4,
+        start: f,
+        len: n - f,
+    };
+    Placings::Two(one, two)
+}
+
+// The peer's window: what it may still write, by what it was told.
+pub fn window(n: u32, told: Cursor, producer: Cursor) -> u32
+    ensures { λ r. ⌜ (r ≡ windowOf n told producer) × (r ≤ n - 4) ⌝ }
+{
+    room(n, told, producer)
+}
+
+// Whether a window is small: twice it is below d.
+fn small(d: u32, w: u32) -> bool
+    ensures { λ r. ⌜ r ≡ ltb (2 * w) d ⌝ }
+{
+    2 * (w as u64) < (d as u64)
+}
+
+// Whether a gain is large: ten times it is at least d.
+fn large(d: u32, g: u64) -> bool
+    requires { ⌜ g < 562949953421312 ⌝ }
+    ensures { λ r. ⌜ r ≡ leb d (10 * g) ⌝ }
+{
+    (d as u64) <= 10 * g
+}
+
+// Whether the window is small and the gain, the distance from `told` to `consumer`, is large.
+pub fn update_due(n: u32, told: Cursor, producer: Cursor, consumer: Cursor) -> bool
+    ensures { λ r. ⌜ r ≡ updateDue n told producer consumer ⌝ }
+{
+    let d = cursor::data_size(n);
+    let w = window(n, told, producer);
+    let g = cursor::gap(d, told, consumer);
+    small(d, w) & large(d, g)
+}
