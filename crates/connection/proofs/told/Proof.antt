@@ -1,0 +1,21 @@
+-- `connection::told` meets its contract.
+-- Assumes nothing.
+use borrow.Author.Needs.{needs}
+use Rattle.connection.specs.Connection.{toldOf}
+use Rattle.connection.proofs.told.Statement.{statement}
+use Rattle.connection.proofs.told.Tie as tie
+
+told-in-requires : tie.Need-told-in-requires
+told-in-requires c κs = search needs
+
+used-in-requires : tie.Need-used-in-requires
+used-in-requires c κs = search needs
+
+returns : tie.Need-returns
+unfolding toldOf
+returns c =
+    let a = c .before .before .before .before .args in
+    λ i. record { id = a .c .id; inbound = c .before .told-in .ensures i; outbound = c .used-in .ensures i; marks = a .c .marks }
+
+pub told-spec : {M : Type 1} → statement M
+told-spec = tie.close (tie.spec told-in-requires used-in-requires returns)

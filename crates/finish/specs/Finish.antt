@@ -1,0 +1,39 @@
+-- Document 01, "Calls of a connection": Shutdown, Close and Abort.
+-- Assumes nothing.
+use Prim.Native.Nat.{ℕ}
+use mathlib.Core.Bool.{Bool, true, _||_, cond}
+use lib.Dec.{eqb}
+use Rattle.closing.specs.declared.Marks.{Marks}
+use Rattle.closing.specs.Closing.{doneSent, closedSent, abortSent}
+use Rattle.connection.specs.declared.Record.{Record}
+use Rattle.connection.specs.declared.Reply.the-variants.{Accepted}
+use Rattle.connection.specs.declared.Outcome.{Outcome}
+use Rattle.connection.specs.Connection.{refusalOf, refusedOf, outcomeOf, closedIf, marksTo}
+
+-- 7: shutdown after D, C or A sent
+unfoldable pub shutdownForbids : Marks → Bool
+shutdownForbids m = m .sent .done || (m .sent .closed || m .abort)
+
+-- shutdown sends D
+unfoldable pub shutdownOf : ℕ → Bool → Record → Outcome
+shutdownOf n active c =
+    let no = refusalOf n active c (shutdownForbids (c .marks)) in
+    cond (eqb no 0) (outcomeOf Accepted true (marksTo c (doneSent (c .marks)))) (refusedOf no c)
+
+-- 7: close after C or A sent
+unfoldable pub closeForbids : Marks → Bool
+closeForbids m = m .sent .closed || m .abort
+
+-- close sends C, and the slot is closed if C was heard; unread bytes are dropped
+unfoldable pub closeOf : ℕ → Bool → Record → Outcome
+closeOf n active c =
+    let no = refusalOf n active c (closeForbids (c .marks)) in
+    cond (eqb no 0)
+    (closedIf (c .marks .heard .closed) (outcomeOf Accepted true (marksTo c (closedSent (c .marks)))))
+    (refusedOf no c)
+
+-- abort sends A; 7: abort after A sent
+unfoldable pub abortOf : ℕ → Bool → Record → Outcome
+abortOf n active c =
+    let no = refusalOf n active c (c .marks .abort) in
+    cond (eqb no 0) (outcomeOf Accepted true (marksTo c (abortSent (c .marks)))) (refusedOf no c)
