@@ -1,0 +1,385 @@
+//! What can be gone through one by one: every row of the close marks, every
+//! first byte of a link message, every reserved bit, the soundings of document
+//! 01, the examples of section 4.5.1 and scenarios 1 to 4 of section 4.7.
+
+use super::{message_of, List};
+use crate::random::Random;
+use crate::replay::{set_marks, Answer};
+use crate::smcr::*;
+
+/// The list; the seed chooses data bytes and tokens only.
+pub fn list(seed: u64) -> Vec<u8> {
+    let mut random = Random::new(seed.wrapping_mul(4));
+    let mut list = List::new();
+    close_marks_heard(&mut list, &mut random);
+    close_marks_called(&mut list, &mut random);
+    link_message_first_bytes(&mut list, &mut random);
+    link_message_reserved_bits(&mut list, &mut random);
+    cdc_reserved_bits(&mut list, &mut random);
+    whole_example(&mut list, &mut random);
+    soundings(&mut list, &mut random);
+    window_examples(&mut list, &mut random);
+    scenario_1_and_2(&mut list, &mut random);
+    scenario_3(&mut list, &mut random);
+    scenario_4(&mut list, &mut random);
+    list.text
+}
+
+/// A record with all cursors at one place, on link 1.
+fn resting(n: u32, own: u32, peer: u32, at: Cursor) -> Connection {
+    Connection {
+        open: true,
+        own_token: own,
+        peer_token: peer,
+        link: 1,
+        peer_size: n,
+        peer_producer: at,
+        consumer: at,
+        told: at,
+        producer: at,
+        peer_consumer: at,
+        next_sequence: 1,
+        ..Connection::default()
+    }
+}
+
+fn message_to(c: &Connection) -> Message {
+    Message {
+        sequence: c.heard_sequence.wrapping_add(1),
+        token: c.own_token,
+        producer: c.peer_producer,
+        consumer: c.peer_consumer,
+        ..Message::default()
+    }
+}
+
+fn token(random: &mut Random) -> u32 {
+    random.between(1, 0xFFFF_FFFF) as u32
+}
+
+/// All 32 rows of the close marks, with and without the abort mark, before
+/// messages that add no mark, D, C and both.
+fn close_marks_heard(list: &mut List, random: &mut Random) {
+    list.comment("all rows of the close marks, heard");
+    list.group(2, 12);
+    list.link(1, true);
+    for marks in 0..64 {
+        for (done, closed) in [(false, false), (true, false), (false, true), (true, true)] {
+            let mut c = resting(12, token(random), token(random), cursor(5, 3));
+            set_marks(&mut c, marks);
+            list.record(1, c);
+            let message = Message {
+                done,
+                closed,
+                ..message_to(&c)
+            };
+            list.hear(message.write().to_vec());
+            if !done && !closed {
+                list.table();
+            }
+        }
+        let mut c = resting(12, token(random), token(random), cursor(5, 3));
+        set_marks(&mut c, marks);
+        list.record(2, c);
+        let abort = Message {
+            abort: true,
+            ..message_to(&c)
+        };
+        list.hear(abort.write().to_vec());
+        list.record(1, Connection::default());
+        list.record(2, Connection::default());
+    }
+}
+
+/// The same rows before every call on a slot.
+fn close_marks_called(list: &mut List, random: &mut Random) {
+    list.comment("all rows of the close marks, before each call");
+    list.group(1, 12);
+    list.link(1, true);
+    list.poke(0, EYE_CATCHER.to_vec());
+    for marks in 0..64 {
+        let mut c = resting(12, token(random), token(random), cursor(5, 3));
+        c.peer_producer = cursor(7, 3);
+        set_marks(&mut c, marks);
+        let bytes = random.bytes(2);
+        list.record(1, c);
+        list.send(1, bytes.clone());
+        list.record(1, c);
+        list.place(1, 7, bytes);
+        list.record(1, c);
+        list.read(1, 3);
+        list.record(1, c);
+        list.free(1);
+        list.record(1, c);
+        list.shutdown(1);
+        list.table();
+        list.record(1, c);
+        list.close(1);
+        list.table();
+        list.record(1, c);
+        list.abort(1);
+    }
+}
+
+/// All 256 first bytes, with byte 1 right and wrong.
+fn link_message_first_bytes(list: &mut List, random: &mut Random) {
+    list.comment("all first bytes of a link message");
+    list.group(1, 8);
+    list.link(3, true);
+    for first in 0..=255u8 {
+        for second in [LENGTH_BYTE, LENGTH_BYTE ^ 1] {
+            let mut bytes = random.bytes(MESSAGE_BYTES);
+            bytes[0] = first;
+            bytes[1] = second;
+            bytes[3] &= !LLC_REPLY;
+            list.link_message(3, bytes);
+        }
+    }
+}
+
+/// A TEST LINK whose reserved bits are set one by one, and its reply.
+fn link_message_reserved_bits(list: &mut List, random: &mut Random) {
+    list.comment("each reserved bit of a TEST LINK");
+    let mut base = vec![0; MESSAGE_BYTES];
+    base[0] = TEST_LINK;
+    base[1] = LENGTH_BYTE;
+    base[4..20].copy_from_slice(&random.bytes(16));
+    for at in [2, 3].into_iter().chain(20..44) {
+        for bit in 0..8 {
+            let mut bytes = base.clone();
+            bytes[at] |= 1 << bit;
+            list.link_message(3, bytes);
+        }
+    }
+    let mut reply = base;
+    reply[3] |= 0xFF;
+    list.link_message(3, reply);
+}
+
+/// Each reserved bit of a heard message, and each flag that is not looked at.
+fn cdc_reserved_bits(list: &mut List, random: &mut Random) {
+    list.comment("each reserved bit of a heard message");
+    list.group(1, 20);
+    list.link(1, true);
+    let mut c = resting(20, token(random), token(random), cursor(9, 65_535));
+    c.consumer = cursor(10, 65_535);
+    c.peer_producer = cursor(12, 65_535);
+    let base = Message {
+        producer: cursor(6, 0),
+        ..message_to(&c)
+    }
+    .write();
+    let mut places: Vec<(usize, u8)> = Vec::new();
+    for at in [8, 9, 16, 17].into_iter().chain(26..44) {
+        places.extend((0..8).map(|bit| (at, 1 << bit)));
+    }
+    places.extend([0x01, 0x02, 0x04].map(|bit| (24, bit)));
+    places.extend([0x01, 0x02, 0x04, 0x08, 0x10].map(|bit| (25, bit)));
+    places.extend([FLAG_URGENT_PENDING, FLAG_URGENT_PRESENT, FLAG_FAILOVER].map(|bit| (24, bit)));
+    for (at, bit) in places {
+        list.record(1, c);
+        let mut bytes = base.to_vec();
+        bytes[at] |= bit;
+        list.hear(bytes);
+    }
+    list.table();
+    for (at, bit) in [
+        (24, FLAG_BLOCKED),
+        (24, FLAG_UPDATE_REQUESTED),
+        (25, FLAG_DONE),
+        (25, FLAG_CLOSED),
+        (25, FLAG_ABORT),
+    ] {
+        list.record(1, c);
+        let mut bytes = base.to_vec();
+        bytes[at] |= bit;
+        list.hear(bytes);
+        list.table();
+    }
+}
+
+/// The whole example: the first message of scenario 1.
+fn whole_example(list: &mut List, random: &mut Random) {
+    list.comment("the whole example message");
+    list.group(1, 10_000);
+    list.link(1, true);
+    list.open(1, 5, 0x0102_0304, 1, 10_000);
+    let bytes = random.bytes(1_000);
+    list.send(1, bytes);
+    list.table();
+}
+
+/// The soundings that document 01 lists as already checked.
+fn soundings(list: &mut List, random: &mut Random) {
+    list.comment("(4,0) plus 1,000 is (1004,0); room left 8,996");
+    list.group(1, 10_000);
+    list.link(1, true);
+    list.poke(0, EYE_CATCHER.to_vec());
+    let rest = resting(10_000, 5, 6, cursor(4, 0));
+    list.record(1, rest);
+    list.send(1, random.bytes(1_000));
+    list.send(1, random.bytes(8_997));
+    list.table();
+
+    list.comment("(1004,0), empty, 9,996 sent");
+    list.record(1, resting(10_000, 5, 6, cursor(1004, 0)));
+    list.send(1, random.bytes(9_996));
+    list.send(1, random.bytes(1));
+    list.send(1, random.bytes(1));
+    list.table();
+
+    list.comment("(9999,0) plus 1 and (9999,65535) plus 1");
+    for wrap in [0, 65_535] {
+        let mut c = resting(10_000, 5, 6, cursor(9999, wrap));
+        list.record(1, c);
+        list.send(1, random.bytes(1));
+        let mut message = message_to(&c);
+        message.producer = step(cursor(9999, wrap), 1, 10_000);
+        c.heard_sequence = 65_535;
+        list.hear(message.write().to_vec());
+        list.read(1, 2);
+        list.table();
+    }
+
+    list.comment("distances (1004,0) to (1003,1), (1005,1) and (1003,0)");
+    for producer in [cursor(1003, 1), cursor(1005, 1), cursor(1003, 0)] {
+        let c = resting(10_000, 5, 6, cursor(1004, 0));
+        list.record(1, c);
+        let message = Message {
+            producer,
+            ..message_to(&c)
+        };
+        list.hear(message.write().to_vec());
+        list.table();
+    }
+
+    list.comment("(4,65535) to (4,0): 9,996, full");
+    let c = resting(10_000, 5, 6, cursor(4, 65_535));
+    list.record(1, c);
+    let message = Message {
+        producer: cursor(4, 0),
+        ..message_to(&c)
+    };
+    list.hear(message.write().to_vec());
+    list.place(1, 4, vec![0]);
+    list.read(1, 5);
+    list.table();
+
+    list.comment("the peer's window 4,998, 4,997 with gain 1,000 and with gain 999");
+    for (window, gain) in [(4_998, 1_000), (4_997, 1_000), (4_997, 999), (4_998, 4_998)] {
+        let mut c = resting(10_000, 5, 6, cursor(4, 0));
+        c.peer_producer = step(c.told, 9_996 - window, 10_000);
+        list.record(1, c);
+        list.read(1, gain);
+        list.table();
+    }
+
+    list.comment("N' 8, room 4, Q (7,0), six bytes");
+    let mut c = resting(10_000, 5, 6, cursor(7, 0));
+    c.peer_size = 8;
+    list.record(1, c);
+    list.send(1, random.bytes(6));
+    list.table();
+    list.send(1, random.bytes(1));
+}
+
+/// Section 4.5.1's examples a, b and c, N 65,540.
+fn window_examples(list: &mut List, random: &mut Random) {
+    list.comment("the examples a, b and c of section 4.5.1");
+    for (window, receiver_window) in [(51_200, 65_536), (30_720, 31_744), (30_720, 65_536)] {
+        list.group(1, 65_540);
+        list.link(1, true);
+        list.open(1, 5, 6, 1, 65_540);
+        let unread = 65_536 - window;
+        let c = list.group.table[0];
+        let message = Message {
+            producer: step(c.peer_producer, unread, 65_540),
+            ..message_to(&c)
+        };
+        list.place(1, 4, random.bytes(64));
+        list.hear(message.write().to_vec());
+        list.read(1, (receiver_window - window) as usize);
+        list.table();
+    }
+}
+
+/// A send whose placings are performed at the other end and whose message is
+/// heard there.
+fn send_across(list: &mut List, from: u32, to: u32, bytes: &[u8]) -> i64 {
+    let Answer::Sent(sent) = list.send(from, bytes.to_vec()) else {
+        return 0;
+    };
+    for placing in &sent.placings {
+        let start = placing.start as usize;
+        let part = bytes[start..start + placing.length as usize].to_vec();
+        list.place(to, placing.offset as u32, part);
+    }
+    if let Some(message) = sent.message {
+        list.hear(message.to_vec());
+    }
+    sent.taken
+}
+
+/// A read whose message, if it makes one, is heard at the other end.
+fn read_back(list: &mut List, slot: u32, room: usize) {
+    let answer = list.read(slot, room);
+    if let Some(message) = message_of(&answer) {
+        list.hear(message.to_vec());
+    }
+}
+
+fn two_hosts(list: &mut List) {
+    list.group(2, 10_000);
+    list.link(1, true);
+    list.open(1, 0x0A0A_0A0A, 0x0102_0304, 1, 10_000);
+    list.open(2, 0x0102_0304, 0x0A0A_0A0A, 1, 10_000);
+}
+
+/// Host A is slot 1, host B slot 2.
+fn scenario_1_and_2(list: &mut List, random: &mut Random) {
+    list.comment("scenarios 1 and 2");
+    two_hosts(list);
+    send_across(list, 1, 2, &random.bytes(1_000));
+    read_back(list, 2, 1_004);
+    list.table();
+    send_across(list, 2, 1, &random.bytes(500));
+    read_back(list, 1, 500);
+    list.table();
+}
+
+fn scenario_3(list: &mut List, random: &mut Random) {
+    list.comment("scenario 3");
+    two_hosts(list);
+    send_across(list, 1, 2, &random.bytes(3_000));
+    read_back(list, 2, 3_001);
+    send_across(list, 1, 2, &random.bytes(4_000));
+    read_back(list, 2, 4_001);
+    list.table();
+}
+
+/// 20,000 bytes; both hosts start at (1004,1) on the way from A to B.
+fn scenario_4(list: &mut List, random: &mut Random) {
+    list.comment("scenario 4");
+    two_hosts(list);
+    let start = cursor(1004, 1);
+    let mut host_a = list.group.table[0];
+    host_a.producer = start;
+    host_a.peer_consumer = start;
+    let mut host_b = list.group.table[1];
+    host_b.peer_producer = start;
+    host_b.consumer = start;
+    host_b.told = start;
+    list.record(1, host_a);
+    list.record(2, host_b);
+    let bytes = random.bytes(20_000);
+    let mut at = 0;
+    while at < bytes.len() {
+        let taken = send_across(list, 1, 2, &bytes[at..]);
+        if taken == 0 {
+            break;
+        }
+        at += taken as usize;
+        read_back(list, 2, 10_000);
+        list.table();
+    }
+}

@@ -1,0 +1,167 @@
+//! Lists of calls, made from a seed.
+
+pub mod exhaust;
+pub mod hostile;
+pub mod orders;
+pub mod traffic;
+
+use crate::replay::{execute, first_group, parse, print_line, Answer, Line};
+use crate::smcr::*;
+
+/// A list under construction. Every line is also run on a group of the list's
+/// own, so that later lines can be built from earlier answers.
+pub struct List {
+    pub text: Vec<u8>,
+    pub group: Group,
+    pub count: usize,
+}
+
+impl Default for List {
+    fn default() -> List {
+        List::new()
+    }
+}
+
+impl List {
+    pub fn new() -> List {
+        List {
+            text: Vec::new(),
+            group: first_group(),
+            count: 0,
+        }
+    }
+
+    pub fn add(&mut self, line: Line) -> Answer {
+        print_line(&mut self.text, &line);
+        self.text.push(b'\n');
+        self.count += 1;
+        execute(&mut self.group, &line)
+    }
+
+    /// A line as it stands, which may be bad.
+    pub fn raw(&mut self, line: &[u8]) {
+        self.text.extend_from_slice(line);
+        self.text.push(b'\n');
+        self.count += 1;
+        if let Ok(call) = parse(line, self.group.memory.len()) {
+            execute(&mut self.group, &call);
+        }
+    }
+
+    pub fn comment(&mut self, text: &str) {
+        self.text.extend_from_slice(b"# ");
+        self.text.extend_from_slice(text.as_bytes());
+        self.text.push(b'\n');
+    }
+
+    pub fn group(&mut self, elements: u32, size: u32) {
+        self.group_of(elements, size, elements as usize * size as usize);
+    }
+
+    pub fn group_of(&mut self, elements: u32, size: u32, length: usize) {
+        self.add(Line::Group {
+            elements,
+            size,
+            length,
+        });
+    }
+
+    pub fn all_links_up(&mut self) {
+        for link in 1..=4 {
+            self.link(link, true);
+        }
+    }
+
+    pub fn link(&mut self, link: u8, up: bool) -> Answer {
+        self.add(Line::Link { link, up })
+    }
+
+    pub fn link_message(&mut self, link: u8, bytes: Vec<u8>) -> Answer {
+        self.add(Line::LinkMsg { link, bytes })
+    }
+
+    pub fn open(&mut self, slot: u32, own: u32, peer: u32, link: u8, size: u32) -> Answer {
+        self.add(Line::Open {
+            slot,
+            own,
+            peer,
+            link,
+            size,
+        })
+    }
+
+    pub fn free(&mut self, slot: u32) -> Answer {
+        self.add(Line::Free { slot })
+    }
+
+    pub fn send(&mut self, slot: u32, bytes: Vec<u8>) -> Answer {
+        self.add(Line::Send { slot, bytes })
+    }
+
+    pub fn place(&mut self, slot: u32, offset: u32, bytes: Vec<u8>) -> Answer {
+        self.add(Line::Place {
+            slot,
+            offset,
+            bytes,
+        })
+    }
+
+    pub fn read(&mut self, slot: u32, room: usize) -> Answer {
+        self.add(Line::Read { slot, room })
+    }
+
+    pub fn hear(&mut self, bytes: Vec<u8>) -> Answer {
+        self.add(Line::Hear { bytes })
+    }
+
+    pub fn shutdown(&mut self, slot: u32) -> Answer {
+        self.add(Line::Shutdown { slot })
+    }
+
+    pub fn close(&mut self, slot: u32) -> Answer {
+        self.add(Line::Close { slot })
+    }
+
+    pub fn abort(&mut self, slot: u32) -> Answer {
+        self.add(Line::Abort { slot })
+    }
+
+    pub fn record(&mut self, slot: usize, record: Connection) {
+        self.add(Line::Record { slot, record });
+    }
+
+    pub fn poke(&mut self, at: usize, bytes: Vec<u8>) {
+        self.add(Line::Poke { at, bytes });
+    }
+
+    pub fn table(&mut self) {
+        self.add(Line::Table);
+    }
+
+    pub fn memory(&mut self, at: usize, count: usize) {
+        self.add(Line::Memory { at, count });
+    }
+
+    /// The whole memory, in pieces that the format allows.
+    pub fn whole_memory(&mut self) {
+        let length = self.group.memory.len();
+        let mut at = 0;
+        while at < length {
+            let count = (length - at).min(65_600);
+            self.memory(at, count);
+            at += count;
+        }
+    }
+}
+
+/// The message that an answer carries, if any.
+pub fn message_of(answer: &Answer) -> Option<Bytes44> {
+    match answer {
+        Answer::Sent(sent) => sent.message,
+        Answer::Read(ReadAnswer::Read { message, .. }, _) => *message,
+        Answer::Read(ReadAnswer::Torn { message }, _) => Some(*message),
+        Answer::Heard(heard) => heard.message,
+        Answer::Made(_, message) => Some(*message),
+        _ => None,
+    }
+}

@@ -1,0 +1,559 @@
+//! Two-sided traffic: connections whose two ends are two slots of one group, or
+//! one slot of the group and one of a far group that stands behind the scenes
+//! with its own element size. A send's placings are performed as `place` at the
+//! other end, its message is heard there, and so on back.
+
+use std::collections::VecDeque;
+
+use super::{message_of, List};
+use crate::random::Random;
+use crate::replay::{execute, Answer, Line};
+use crate::smcr::*;
+
+/// How many lines a list has unless asked otherwise.
+pub const COUNT: usize = 3_000;
+/// A list of large elements ends early when its text has this many bytes.
+const MOST_TEXT: usize = 700_000;
+
+/// One end of a connection.
+#[derive(Clone, Copy, Debug, PartialEq, Eq)]
+struct End {
+    far: bool,
+    slot: u32,
+}
+
+/// What is on its way to an end.
+#[derive(Clone, Debug)]
+enum Flight {
+    Write { offset: u32, bytes: Vec<u8> },
+    Message(Bytes44),
+}
+
+/// A connection: its two ends and what is on its way to each of them.
+struct Pair {
+    ends: [End; 2],
+    flights: [VecDeque<Flight>; 2],
+    last_heard: [Option<Bytes44>; 2],
+    /// Actions left before the ends begin to close.
+    life: i64,
+}
+
+/// What a world may do beside traffic.
+#[derive(Clone, Copy, Debug)]
+pub struct Habits {
+    /// Lays records and bytes as a stranger would.
+    pub strangers: bool,
+    /// Makes `table` and `memory` lines.
+    pub looks: bool,
+    /// Makes calls that nobody owns, and refused calls of the other kinds.
+    pub noise: bool,
+}
+
+pub struct World {
+    pub list: List,
+    far: Group,
+    pairs: Vec<Pair>,
+    random: Random,
+    habits: Habits,
+    next_token: u32,
+}
+
+/// A list of traffic.
+pub fn list(seed: u64, count: usize) -> Vec<u8> {
+    let mut random = Random::new(seed.wrapping_mul(4).wrapping_add(1));
+    let size = match seed % 16 {
+        5 => 65_540,
+        3 | 11 => 10_000,
+        7 => 8,
+        _ => random.between(8, 40) as u32,
+    };
+    let habits = Habits {
+        strangers: true,
+        looks: true,
+        noise: true,
+    };
+    let elements = if size > 1_000 {
+        random.between(2, 3)
+    } else {
+        random.between(2, 16)
+    };
+    let mut world = World::new(random, elements as u32, size, habits);
+    while world.list.count < count && world.list.text.len() < MOST_TEXT {
+        world.act();
+    }
+    world.list.table();
+    if size <= 1_000 {
+        world.list.whole_memory();
+    }
+    world.list.text
+}
+
+impl World {
+    pub fn new(mut random: Random, elements: u32, size: u32, habits: Habits) -> World {
+        let mut list = List::new();
+        list.group(elements, size);
+        let far_size = random.between(8, 48) as u32;
+        let mut far = Group::fresh(16, far_size, 16 * far_size as usize);
+        far.links = [true; 4];
+        let next_token = random.between(1, 1_000_000_000) as u32;
+        let mut world = World {
+            list,
+            far,
+            pairs: Vec::new(),
+            random,
+            habits,
+            next_token,
+        };
+        world.pair_up(elements);
+        world
+    }
+
+    /// Parts the slots among near pairs and far pairs; some stay closed.
+    fn pair_up(&mut self, elements: u32) {
+        let mut slots: Vec<u32> = (1..=elements).collect();
+        self.random.shuffle(&mut slots);
+        while let Some(slot) = slots.pop() {
+            let near = End { far: false, slot };
+            let other = match slots.pop() {
+                Some(other) if self.random.chance(4, 5) => End {
+                    far: false,
+                    slot: other,
+                },
+                Some(unused) if self.random.chance(1, 2) => {
+                    slots.push(unused);
+                    End { far: true, slot }
+                }
+                _ => End { far: true, slot },
+            };
+            self.pairs.push(Pair {
+                ends: [near, other],
+                flights: [VecDeque::new(), VecDeque::new()],
+                last_heard: [None, None],
+                life: 0,
+            });
+            if self.pairs.len() == 5 {
+                break;
+            }
+        }
+        // Slots that belong to no pair stay closed and can be named in error.
+        for link in 1..=4 {
+            if self.random.chance(4, 5) {
+                self.list.link(link, true);
+            }
+        }
+    }
+
+    pub fn act(&mut self) {
+        match self.random.below(400) {
+            0..=1 => self.flap_link(),
+            2..=5 => self.test_link(),
+            6 if self.habits.looks => self.list.table(),
+            7 if self.habits.looks => self.look_at_memory(),
+            8 if self.habits.strangers => self.damage(),
+            9..=24 if self.habits.noise => self.noise(),
+            _ => self.act_on_pair(),
+        }
+    }
+
+    fn act_on_pair(&mut self) {
+        let which = self.random.below(self.pairs.len() as u64) as usize;
+        let side = self.random.below(2) as usize;
+        if self.both_closed(which) {
+            if self.random.chance(1, 6) {
+                self.open_pair(which);
+            }
+            return;
+        }
+        self.pairs[which].life -= 1;
+        if self.pairs[which].life < 0 && self.random.chance(1, 4) {
+            self.wind_down(which, side);
+            return;
+        }
+        match self.random.below(100) {
+            0..=34 => self.send(which, side),
+            35..=69 => self.deliver(which, side),
+            70..=97 => self.read(which, side),
+            98 => {
+                if self.random.chance(1, 12) {
+                    self.end_call(which, side, |slot| Line::Shutdown { slot })
+                }
+            }
+            _ => {
+                if self.random.chance(1, 20) {
+                    self.end_call(which, side, |slot| Line::Abort { slot })
+                }
+            }
+        }
+    }
+
+    // The ends.
+
+    fn group_of(&self, end: End) -> &Group {
+        if end.far {
+            &self.far
+        } else {
+            &self.list.group
+        }
+    }
+
+    fn record_of(&self, end: End) -> Connection {
+        self.group_of(end).table[end.slot as usize - 1]
+    }
+
+    fn both_closed(&self, which: usize) -> bool {
+        self.pairs[which]
+            .ends
+            .iter()
+            .all(|&end| !self.record_of(end).open)
+    }
+
+    /// Makes a call at an end: in the list, or behind the scenes.
+    fn call(&mut self, end: End, line: Line) -> Answer {
+        if end.far {
+            execute(&mut self.far, &line)
+        } else {
+            self.list.add(line)
+        }
+    }
+
+    /// Makes a call at one side of a pair and sends off the message it makes.
+    fn call_at(&mut self, which: usize, side: usize, line: Line) -> Answer {
+        let end = self.pairs[which].ends[side];
+        let answer = self.call(end, line);
+        if let Some(message) = message_of(&answer) {
+            self.pairs[which].flights[1 - side].push_back(Flight::Message(message));
+        }
+        answer
+    }
+
+    // The actions.
+
+    fn open_pair(&mut self, which: usize) {
+        let first = self.next_token;
+        self.next_token += self.random.between(2, 5) as u32;
+        let tokens = [first, first + 1];
+        let ends = self.pairs[which].ends;
+        let link = self.random.between(1, 4) as u8;
+        for side in 0..2 {
+            let size = self.group_of(ends[1 - side]).size;
+            let line = Line::Open {
+                slot: ends[side].slot,
+                own: tokens[side],
+                peer: tokens[1 - side],
+                link,
+                size,
+            };
+            self.call(ends[side], line);
+        }
+        self.pairs[which].flights = [VecDeque::new(), VecDeque::new()];
+        self.pairs[which].last_heard = [None, None];
+        self.pairs[which].life = self.random.between(10, 160);
+        let opened = ends.iter().all(|&end| self.record_of(end).open);
+        if !opened {
+            self.drop_pair(which);
+        } else if self.habits.strangers && self.random.chance(1, 2) {
+            self.shift_pair(which);
+        }
+    }
+
+    /// An open that failed at one end is taken back at the other.
+    fn drop_pair(&mut self, which: usize) {
+        for end in self.pairs[which].ends {
+            if !self.record_of(end).open {
+                continue;
+            }
+            self.call(end, Line::Abort { slot: end.slot });
+            self.call(end, Line::Free { slot: end.slot });
+        }
+    }
+
+    /// Lays records that put wraps and sequence numbers close to 65,535.
+    fn shift_pair(&mut self, which: usize) {
+        let ends = self.pairs[which].ends;
+        let mut records = [self.record_of(ends[0]), self.record_of(ends[1])];
+        for side in 0..2 {
+            // The direction from this side to the other one.
+            let size = i64::from(self.group_of(ends[1 - side]).size);
+            let near_end = self.random.chance(1, 2);
+            let offset = if near_end {
+                self.random.between((size - 5).max(4), size - 1)
+            } else {
+                self.random.between(4, size - 1)
+            };
+            let start = cursor(offset as u32, self.random.between(65_531, 65_535) as u16);
+            records[side].producer = start;
+            records[side].peer_consumer = start;
+            records[1 - side].peer_producer = start;
+            records[1 - side].consumer = start;
+            records[1 - side].told = start;
+            let sequence = self.random.between(65_520, 65_535) as u16;
+            records[side].next_sequence = sequence;
+            records[1 - side].heard_sequence = sequence.wrapping_sub(1);
+        }
+        for side in 0..2 {
+            self.call(
+                ends[side],
+                Line::Record {
+                    slot: ends[side].slot as usize,
+                    record: records[side],
+                },
+            );
+        }
+    }
+
+    fn send(&mut self, which: usize, side: usize) {
+        let end = self.pairs[which].ends[side];
+        let peer_size = i64::from(self.record_of(end).peer_size);
+        let length = match self.random.below(20) {
+            0 => 0,
+            1..=3 => 1,
+            4..=15 => self.random.between(1, (peer_size / 2).min(400)),
+            16..=18 if peer_size <= 1_000 => self.random.between(1, peer_size + 6),
+            19 if peer_size > 1_000 => self.random.between(1, peer_size + 6).min(69_000),
+            _ => self.random.between(1, peer_size.min(900)),
+        };
+        let bytes = self.random.bytes(length as usize);
+        let line = Line::Send {
+            slot: end.slot,
+            bytes: bytes.clone(),
+        };
+        let answer = self.call(end, line);
+        if let Answer::Sent(sent) = answer {
+            let flights = &mut self.pairs[which].flights[1 - side];
+            for placing in &sent.placings {
+                let start = placing.start as usize;
+                flights.push_back(Flight::Write {
+                    offset: placing.offset as u32,
+                    bytes: bytes[start..start + placing.length as usize].to_vec(),
+                });
+            }
+            if let Some(message) = sent.message {
+                flights.push_back(Flight::Message(message));
+            }
+        }
+    }
+
+    /// Performs what is on its way to a side, up to some messages.
+    fn deliver(&mut self, which: usize, side: usize) {
+        let end = self.pairs[which].ends[side];
+        let mut messages = self.random.between(1, 3);
+        while messages > 0 {
+            let Some(flight) = self.pairs[which].flights[side].pop_front() else {
+                self.hear_again(which, side);
+                return;
+            };
+            let (answer, is_message) = match &flight {
+                Flight::Write { offset, bytes } => {
+                    let line = Line::Place {
+                        slot: end.slot,
+                        offset: *offset,
+                        bytes: bytes.clone(),
+                    };
+                    (self.call_at(which, side, line), false)
+                }
+                Flight::Message(message) => {
+                    self.pairs[which].last_heard[side] = Some(*message);
+                    let bytes = self.of_another_make(*message).to_vec();
+                    (self.call_at(which, side, Line::Hear { bytes }), true)
+                }
+            };
+            if answer == Answer::Refused(6) {
+                self.pairs[which].flights[side].push_front(flight);
+                return;
+            }
+            if is_message {
+                messages -= 1;
+            }
+        }
+    }
+
+    /// A message heard a second time.
+    fn hear_again(&mut self, which: usize, side: usize) {
+        if !self.random.chance(1, 10) {
+            return;
+        }
+        if let Some(message) = self.pairs[which].last_heard[side] {
+            let bytes = message.to_vec();
+            self.call_at(which, side, Line::Hear { bytes });
+        }
+    }
+
+    /// Peers of another make ask for updates and use what is reserved.
+    fn of_another_make(&mut self, mut message: Bytes44) -> Bytes44 {
+        if self.random.chance(1, 16) {
+            message[24] |= FLAG_UPDATE_REQUESTED;
+        }
+        if self.random.chance(1, 40) {
+            message[24] ^= FLAG_BLOCKED;
+        }
+        if self.random.chance(1, 40) {
+            message[24] |= self.random.draw() as u8 & 0x6F;
+            message[25] |= self.random.draw() as u8 & 0x1F;
+            for at in [8, 9, 16, 17].into_iter().chain(26..44) {
+                message[at] = self.random.draw() as u8;
+            }
+        }
+        message
+    }
+
+    fn read(&mut self, which: usize, side: usize) {
+        let end = self.pairs[which].ends[side];
+        let size = i64::from(self.group_of(end).size);
+        let unread = self.record_of(end).unread(size).max(0);
+        let room = match self.random.below(12) {
+            0 => 0,
+            1..=2 => 1,
+            3..=5 => self.random.between(1, (size / 8).max(2)),
+            6..=7 => self.random.between(0, unread),
+            8 => unread + self.random.between(0, 8),
+            _ => self.random.between(1, size.min(300)),
+        };
+        let line = Line::Read {
+            slot: end.slot,
+            room: room as usize,
+        };
+        self.call_at(which, side, line);
+    }
+
+    fn end_call(&mut self, which: usize, side: usize, line: fn(u32) -> Line) {
+        let slot = self.pairs[which].ends[side].slot;
+        self.call_at(which, side, line(slot));
+    }
+
+    /// Closes a connection that has lived long enough, one step at a time.
+    fn wind_down(&mut self, which: usize, side: usize) {
+        let end = self.pairs[which].ends[side];
+        let record = self.record_of(end);
+        if record.abort_sent {
+            let nothing_comes = self.pairs[which].flights[side].is_empty();
+            if nothing_comes || self.random.chance(1, 10) {
+                self.call(end, Line::Free { slot: end.slot });
+            }
+            return;
+        }
+        match self.random.below(12) {
+            0..=3 => self.end_call(which, side, |slot| Line::Shutdown { slot }),
+            4..=9 => self.end_call(which, side, |slot| Line::Close { slot }),
+            _ => self.end_call(which, side, |slot| Line::Abort { slot }),
+        }
+    }
+
+    fn flap_link(&mut self) {
+        let link = self.random.between(1, 4) as u8;
+        let up = !self.list.group.links[usize::from(link) - 1] || self.random.chance(1, 4);
+        self.list.link(link, up);
+        if !up {
+            for _ in 0..self.random.between(0, 12) {
+                self.act_on_pair();
+            }
+            self.list.link(link, true);
+        }
+    }
+
+    fn test_link(&mut self) {
+        let link = self.random.between(1, 4) as u8;
+        let mut bytes = self.random.bytes(MESSAGE_BYTES);
+        bytes[0] = *self
+            .random
+            .pick(&[TEST_LINK, TEST_LINK, TEST_LINK, 0x80, 0xBF, 0x01]);
+        bytes[1] = LENGTH_BYTE;
+        self.list.link_message(link, bytes);
+    }
+
+    fn look_at_memory(&mut self) {
+        let length = self.list.group.memory.len();
+        let at = self.random.below(length as u64) as usize;
+        let count = self.random.below((length - at).min(400) as u64 + 1) as usize;
+        self.list.memory(at, count);
+    }
+
+    /// Something writes over an eye catcher.
+    fn damage(&mut self) {
+        let slot = self.random.below(u64::from(self.list.group.elements)) as usize;
+        let at = slot * self.list.group.size as usize + self.random.below(4) as usize;
+        let bytes = self.random.bytes(1);
+        self.list.poke(at, bytes);
+    }
+
+    /// Calls that nobody owns and calls that are refused, the open, free and
+    /// link calls among them.
+    fn noise(&mut self) {
+        let elements = self.list.group.elements;
+        let size = self.list.group.size;
+        let slot = match self.random.below(6) {
+            0 => 0,
+            1 => elements + 1,
+            2 => u32::MAX,
+            3 => self.random.between(1, 40) as u32,
+            _ => self.random.between(1, i64::from(elements)) as u32,
+        };
+        let bytes = self.random.between(0, 3) as usize;
+        let bytes = self.random.bytes(bytes);
+        let token = match self.random.below(3) {
+            0 => 0,
+            1 => self.random.draw() as u32,
+            _ => self.list.group.table[self.random.below(16) as usize].own_token,
+        };
+        match self.random.below(20) {
+            0..=2 => {
+                self.list.send(slot, bytes);
+            }
+            3..=4 => {
+                let offset = self.random.between(0, i64::from(size) + 1) as u32;
+                self.list.place(slot, offset, bytes);
+            }
+            5..=6 => {
+                let room = self.random.below(4) as usize;
+                self.list.read(slot, room);
+            }
+            7..=10 => {
+                let mut message = Message {
+                    token,
+                    producer: cursor(self.random.between(3, i64::from(size)) as u32, 0),
+                    consumer: cursor(self.random.between(3, i64::from(size)) as u32, 0),
+                    ..Message::default()
+                }
+                .write()
+                .to_vec();
+                match self.random.below(4) {
+                    0 => message[0] = self.random.draw() as u8,
+                    1 => {
+                        message.pop();
+                    }
+                    _ => {}
+                }
+                self.list.hear(message);
+            }
+            11 if elements < slot || slot == 0 => {
+                self.list.shutdown(slot);
+            }
+            12 if elements < slot || slot == 0 => {
+                self.list.close(slot);
+            }
+            13 if elements < slot || slot == 0 => {
+                self.list.abort(slot);
+            }
+            14 => {
+                self.list.free(slot);
+            }
+            15 => {
+                let link = *self.random.pick(&[0, 5, 255]);
+                self.list.link(link, true);
+            }
+            16 => {
+                let link = self.random.below(7) as u8;
+                let length = *self.random.pick(&[0, 43, 44, 45]);
+                let bytes = self.random.bytes(length);
+                self.list.link_message(link, bytes);
+            }
+            17 => {
+                let link = self.random.below(6) as u8;
+                self.list.open(slot, token, 0, link, size);
+            }
+            _ => {
+                let link = *self.random.pick(&[0, 5, 255]);
+                self.list.open(slot, token, 1, link, size);
+            }
+        }
+    }
+}

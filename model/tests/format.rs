@@ -1,0 +1,169 @@
+//! The replay format: its example, what it skips, what does not parse, and what
+//! each line prints.
+
+use model::replay::answer_all;
+
+fn answers(input: &str) -> Vec<String> {
+    String::from_utf8(answer_all(input.as_bytes()))
+        .unwrap()
+        .lines()
+        .map(str::to_string)
+        .collect()
+}
+
+#[test]
+fn example() {
+    let input = "group 1 10000 10000\nlink 1 1\nopen 1 5 16909060 1 10000\nshutdown 1\n";
+    let output = "group\nlink\nopen\nshutdown message FE2C0001010203040000000000000004000000000000\
+                  00040080000000000000000000000000000000000000\n";
+    assert_eq!(answer_all(input.as_bytes()), output.as_bytes());
+}
+
+#[test]
+fn last_line_without_its_end() {
+    assert_eq!(answers("link 1 1"), ["link"]);
+    assert_eq!(answers("link 1 1\n"), ["link"]);
+    assert_eq!(answers("\n\n# nothing\n#\n"), Vec::<String>::new());
+    assert_eq!(answers(""), Vec::<String>::new());
+}
+
+#[test]
+fn the_group_before_the_first_group_line() {
+    assert_eq!(answers("memory 0 8"), ["memory 0000000000000000"]);
+    assert_eq!(answers("memory 0 9"), ["bad line"]);
+    assert_eq!(
+        answers("link 1 1\nopen 1 1 1 1 8\nmemory 0 8"),
+        ["link", "open", "memory E2D4C3D900000000"]
+    );
+    assert_eq!(answers("link 1 1\nopen 2 1 1 1 8"), ["link", "refused 2"]);
+}
+
+#[test]
+fn lines_that_do_not_parse() {
+    for line in [
+        " link 1 1",
+        "link 1 1 ",
+        "link  1 1",
+        "link 1\t1",
+        "link 1 1\r",
+        "\r",
+        " ",
+        "Link 1 1",
+        "links 1 1",
+        "link 1",
+        "link 1 1 1",
+        "link 256 1",
+        "link 1 2",
+        "link -1 1",
+        "link +1 1",
+        "link 1 -",
+        "link  1",
+        "send 1 ",
+        "send 1",
+        "send 1 A",
+        "send 1 abcd",
+        "send 1 AG",
+        "send 1 --",
+        "send 4294967296 AA",
+        "read 1 65601",
+        "hear",
+        "hear ",
+        "group 1 8 1048705",
+        "group 1 8",
+        "group 4294967296 8 8",
+        "table 1",
+        "record 0 0 0 0 0 0 0 0 0 0 0 0 0 0 0 0 0 0 0",
+        "record 17 0 0 0 0 0 0 0 0 0 0 0 0 0 0 0 0 0 0",
+        "record 1 0 0 0 0 0 0 0 0 0 0 0 0 0 0 0 0 0 512",
+        "record 1 0 0 0 0 0 0 65536 0 0 0 0 0 0 0 0 0 0 0",
+        "record 1 2 0 0 0 0 0 0 0 0 0 0 0 0 0 0 0 0 0",
+        "record 1 0 0 0 256 0 0 0 0 0 0 0 0 0 0 0 0 0 0",
+        "record 1 0 0 0 0 0 0 0 0 0 0 0 0 0 0 0 0 0",
+        "record 1 0 0 0 0 0 0 0 0 0 0 0 0 0 0 0 0 0 0 0",
+        "poke 8 00",
+        "poke 7 0000",
+        "memory 8 1",
+        "memory 9 0",
+    ] {
+        assert_eq!(answers(line), ["bad line"], "{line:?}");
+    }
+    let long = "0".repeat(140_000);
+    assert_eq!(answers(&format!("hear {long}")), ["refused 4"]);
+    assert_eq!(answers(&format!("hear {long}00")), ["bad line"]);
+}
+
+#[test]
+fn lines_that_parse() {
+    for (line, answer) in [
+        ("link 0001 01", "link"),
+        (
+            "link 00000000000000000000000000000000000000000005 1",
+            "refused 13",
+        ),
+        ("link 255 1", "refused 13"),
+        ("send 4294967295 -", "refused 2"),
+        ("read 1 0", "refused 2 out -"),
+        ("read 1 3", "refused 2 out A5A5A5"),
+        ("hear -", "refused 4"),
+        ("poke 8 -", "poke"),
+        ("poke 7 FF", "poke"),
+        ("memory 8 0", "memory -"),
+        ("memory 0 1", "memory 00"),
+        ("group 0 4294967295 1048704", "group"),
+        ("linkmsg 1 00", "refused 6"),
+        ("free 1", "refused 2"),
+    ] {
+        assert_eq!(answers(line), [answer], "{line:?}");
+    }
+}
+
+#[test]
+fn table() {
+    let lines =
+        answers("link 3 1\nrecord 16 1 2 3 4 5 6 7 8 9 10 11 12 13 14 15 16 17 511\ntable\n");
+    assert_eq!(lines.len(), 2 + 17);
+    assert_eq!(lines[1], "record");
+    assert_eq!(lines[2], "slot 1 0 0 0 0 0 0 0 0 0 0 0 0 0 0 0 0 0 0");
+    assert_eq!(
+        lines[17],
+        "slot 16 1 2 3 4 5 6 7 8 9 10 11 12 13 14 15 16 17 511"
+    );
+    assert_eq!(lines[18], "links 0 0 1 0");
+}
+
+#[test]
+fn what_calls_print() {
+    let lines = answers(
+        "group 1 8 8\nlink 2 1\nopen 1 1 2 2 8\nrecord 1 1 1 2 2 8 7 0 4 0 4 0 7 0 7 0 65535 0 0\n\
+         send 1 010203040506\nsend 1 07\nsend 1 -\nplace 1 7 AB\nread 1 5\n\
+         linkmsg 2 072C00000102030405060708090A0B0C0D0E0F10FFFFFFFFFFFFFFFFFFFFFFFFFFFFFFFFFFFFFFFFFFFFFFFF\n\
+         linkmsg 2 072C00800102030405060708090A0B0C0D0E0F10000000000000000000000000000000000000000000000000\n\
+         poke 2 00\nread 1 1\n",
+    );
+    assert_eq!(
+        lines[4..],
+        [
+            "send 4 placings 7,0,1;4,1,3 message FE2CFFFF0000000200000001000000070000000000000004\
+             8000000000000000000000000000000000000000",
+            "send 0 placings - message -",
+            "send 0 placings - message -",
+            "place",
+            "read 3 out 000000A5A5 message FE2C000000000002000000010000000700000000000000078000000000\
+             000000000000000000000000000000",
+            "linkmsg reply 072C00800102030405060708090A0B0C0D0E0F10000000000000000000000000000000000000\
+             000000000000",
+            "linkmsg reply -",
+            "poke",
+            "torn out A5 message FE2C00010000000200000001000000070000000000000007802000000000000000\
+             0000000000000000000000",
+        ]
+    );
+}
+
+#[test]
+fn the_plate_example() {
+    let folder = concat!(env!("CARGO_MANIFEST_DIR"), "/../examples");
+    let input = std::fs::read(format!("{folder}/plate.txt")).unwrap();
+    let output = std::fs::read(format!("{folder}/plate.expected.txt")).unwrap();
+    assert_eq!(answer_all(&input), output);
+}

@@ -1,0 +1,112 @@
+//! The lists themselves: the same seed gives the same list, the stored traces
+//! reach every cell, the two orders of a pair answer alike, and what is read is
+//! what was sent.
+
+use std::collections::VecDeque;
+
+use model::generate::{exhaust, hostile, orders, traffic};
+use model::random::Random;
+use model::replay::{answer_all, lines};
+use model::smcr::*;
+use model::{count, traces};
+
+#[test]
+fn lists_repeat() {
+    assert_eq!(traffic::list(6, 500), traffic::list(6, 500));
+    assert_ne!(traffic::list(6, 500), traffic::list(7, 500));
+    assert_eq!(hostile::list(2, None), hostile::list(2, None));
+    assert_eq!(exhaust::list(1), exhaust::list(1));
+    assert_eq!(orders::pair(4, 300).second, orders::pair(4, 300).second);
+}
+
+#[test]
+fn stored_traces_reach_every_cell() {
+    let input = traces::input();
+    let output = answer_all(&input);
+    assert!(input.len() < 3_000_000, "{}", input.len());
+    assert!(output.len() < 6_000_000, "{}", output.len());
+    let missing = count::count(&input).missing();
+    assert!(missing.is_empty(), "{missing:?}");
+}
+
+#[test]
+fn two_orders_answer_alike() {
+    for seed in 1..=40 {
+        let pair = orders::pair(seed, 400);
+        let (first, second) = (answer_all(&pair.first), answer_all(&pair.second));
+        let (first, second) = (lines(&first), lines(&second));
+        let calls = lines(&pair.first);
+        let moving = calls.iter().position(|line| line == b"table").unwrap();
+        assert_eq!(calls.len(), pair.permutation.len());
+        for call in 0..moving {
+            assert_eq!(
+                first[call], second[pair.permutation[call]],
+                "seed {seed}, call {call}"
+            );
+        }
+        assert_eq!(first[moving..], second[moving..]);
+        assert_ne!(pair.first, pair.second);
+    }
+}
+
+/// Bytes on their way to the other end, then the message that announces them.
+enum Flight {
+    Write(u32, Vec<u8>),
+    Message(Bytes44),
+}
+
+#[test]
+fn what_is_read_is_what_was_sent() {
+    for seed in 0..30 {
+        let mut random = Random::new(seed);
+        let size = random.between(8, 30) as u32;
+        let mut group = Group::fresh(2, size, 2 * size as usize);
+        group.link_change(1, true).unwrap();
+        group.open(1, 1, 2, 1, size).unwrap();
+        group.open(2, 2, 1, 1, size).unwrap();
+        let mut flights = [VecDeque::new(), VecDeque::new()];
+        let mut sent = [Vec::new(), Vec::new()];
+        let mut read = [Vec::new(), Vec::new()];
+        for _ in 0..3_000 {
+            let side = random.below(2) as usize;
+            let (slot, other) = (side as u32 + 1, 1 - side);
+            match random.below(3) {
+                0 => {
+                    let length = random.between(0, i64::from(size)) as usize;
+                    let bytes = random.bytes(length);
+                    let answer = group.send(slot, &bytes).unwrap();
+                    sent[side].extend_from_slice(&bytes[..answer.taken as usize]);
+                    for placing in &answer.placings {
+                        let start = placing.start as usize;
+                        let part = bytes[start..start + placing.length as usize].to_vec();
+                        flights[other].push_back(Flight::Write(placing.offset as u32, part));
+                    }
+                    flights[other].extend(answer.message.map(Flight::Message));
+                }
+                1 => match flights[side].pop_front() {
+                    Some(Flight::Write(offset, bytes)) => {
+                        group.place(slot, offset, &bytes).unwrap();
+                    }
+                    Some(Flight::Message(message)) => {
+                        let heard = group.hear(&message).unwrap();
+                        flights[other].extend(heard.message.map(Flight::Message));
+                    }
+                    None => {}
+                },
+                _ => {
+                    let mut out = vec![0; random.between(0, i64::from(size)) as usize];
+                    let ReadAnswer::Read { taken, message } = group.read(slot, &mut out).unwrap()
+                    else {
+                        panic!("torn");
+                    };
+                    read[other].extend_from_slice(&out[..taken as usize]);
+                    flights[other].extend(message.map(Flight::Message));
+                }
+            }
+        }
+        for side in 0..2 {
+            assert!(read[side].len() > 200, "seed {seed}");
+            assert_eq!(read[side][..], sent[side][..read[side].len()]);
+        }
+    }
+}

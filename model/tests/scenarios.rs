@@ -1,0 +1,205 @@
+//! Scenarios 1 to 4 of section 4.7, host A as slot 1 and host B as slot 2 of one
+//! group. The expected cursors are those of the figures; where the text and the
+//! figure differ, NOTES.md says which holds.
+
+use model::smcr::*;
+
+const TOKEN_A: u32 = 0x0A0A_0A0A;
+const TOKEN_B: u32 = 0x0102_0304;
+
+/// Two hosts with elements of 10,000 bytes.
+fn hosts() -> Group {
+    let mut group = Group::fresh(2, 10_000, 20_000);
+    group.link_change(1, true).unwrap();
+    group.open(1, TOKEN_A, TOKEN_B, 1, 10_000).unwrap();
+    group.open(2, TOKEN_B, TOKEN_A, 1, 10_000).unwrap();
+    group
+}
+
+/// The placings of a send performed at the other host; the message comes back.
+fn write(group: &mut Group, from: u32, to: u32, bytes: &[u8]) -> (Sent, Message) {
+    let sent = group.send(from, bytes).unwrap();
+    for placing in &sent.placings {
+        let start = placing.start as usize;
+        let part = &bytes[start..start + placing.length as usize];
+        group.place(to, placing.offset as u32, part).unwrap();
+    }
+    let message = Message::read(&sent.message.expect("a message")).unwrap();
+    (sent, message)
+}
+
+fn ranges(sent: &Sent) -> Vec<(i64, i64)> {
+    sent.placings
+        .iter()
+        .map(|placing| (placing.offset, placing.offset + placing.length - 1))
+        .collect()
+}
+
+/// Reads up to 10,000 bytes, as host B's recv does.
+fn receive(group: &mut Group, slot: u32) -> (Vec<u8>, Option<Message>) {
+    let mut out = vec![0xA5; 10_000];
+    match group.read(slot, &mut out).unwrap() {
+        ReadAnswer::Read { taken, message } => {
+            assert!(out[taken as usize..].iter().all(|&byte| byte == 0xA5));
+            out.truncate(taken as usize);
+            (out, message.map(|bytes| Message::read(&bytes).unwrap()))
+        }
+        ReadAnswer::Torn { .. } => panic!("torn"),
+    }
+}
+
+fn pattern(length: usize, start: u8) -> Vec<u8> {
+    (0..length).map(|at| (at % 251) as u8 ^ start).collect()
+}
+
+#[test]
+fn scenario_1() {
+    let mut group = hosts();
+    let bytes = pattern(1_000, 1);
+    let (sent, message) = write(&mut group, 1, 2, &bytes);
+    assert_eq!(ranges(&sent), [(4, 1003)]);
+    assert_eq!(message.producer, cursor(1004, 0));
+    assert_eq!(message.consumer, cursor(4, 0));
+    assert!(!message.blocked);
+    let heard = group.hear(&message.write()).unwrap();
+    assert_eq!(
+        (heard.moved, heard.state, heard.message),
+        (1_000, State::Active, None)
+    );
+    assert_eq!(group.table[1].peer_producer, cursor(1004, 0));
+    let (received, update) = receive(&mut group, 2);
+    assert_eq!(received, bytes);
+    assert_eq!(update, None);
+    assert_eq!(group.table[1].peer_window(10_000), 8_996);
+    // Host A has not been told.
+    assert_eq!(group.table[0].peer_consumer, cursor(4, 0));
+}
+
+#[test]
+fn scenario_2() {
+    let mut group = hosts();
+    let (_, message) = write(&mut group, 1, 2, &pattern(1_000, 1));
+    group.hear(&message.write()).unwrap();
+    let (_, update) = receive(&mut group, 2);
+    assert_eq!(update, None);
+    let answer = pattern(500, 9);
+    let (sent, message) = write(&mut group, 2, 1, &answer);
+    assert_eq!(ranges(&sent), [(4, 503)]);
+    // The text says 503; the next byte to be written is 504.
+    assert_eq!(message.producer, cursor(504, 0));
+    assert_eq!(message.consumer, cursor(1004, 0));
+    assert_eq!(group.table[1].told, cursor(1004, 0));
+    let heard = group.hear(&message.write()).unwrap();
+    assert_eq!(heard.moved, 500);
+    assert_eq!(group.table[0].peer_consumer, cursor(1004, 0));
+    assert_eq!(group.table[0].room(), 9_996);
+    assert_eq!(receive(&mut group, 1).0, answer);
+}
+
+#[test]
+fn scenario_3() {
+    let mut group = hosts();
+    let (sent, message) = write(&mut group, 1, 2, &pattern(3_000, 1));
+    assert_eq!(ranges(&sent), [(4, 3003)]);
+    assert_eq!(message.producer, cursor(3004, 0));
+    group.hear(&message.write()).unwrap();
+    let (_, update) = receive(&mut group, 2);
+    assert_eq!(update, None);
+    let (sent, message) = write(&mut group, 1, 2, &pattern(4_000, 2));
+    assert_eq!(ranges(&sent), [(3004, 7003)]);
+    assert_eq!(message.producer, cursor(7004, 0));
+    group.hear(&message.write()).unwrap();
+    let (received, update) = receive(&mut group, 2);
+    assert_eq!(received, pattern(4_000, 2));
+    let update = update.expect("the window is constrained");
+    assert_eq!(update.consumer, cursor(7004, 0));
+    assert_eq!(update.sequence, 1);
+    group.hear(&update.write()).unwrap();
+    assert_eq!(group.table[0].peer_consumer, cursor(7004, 0));
+}
+
+#[test]
+fn scenario_4() {
+    let mut group = hosts();
+    let start = cursor(1004, 1);
+    group.table[0].producer = start;
+    group.table[0].peer_consumer = start;
+    group.table[1].peer_producer = start;
+    group.table[1].consumer = start;
+    group.table[1].told = start;
+    let bytes = pattern(20_000, 3);
+
+    // Times 1 to 3.
+    let (sent, message) = write(&mut group, 1, 2, &bytes);
+    assert_eq!(sent.taken, 9_996);
+    assert_eq!(ranges(&sent), [(1004, 9999), (4, 1003)]);
+    assert_eq!(message.producer, cursor(1004, 2));
+    assert!(message.blocked);
+    let heard = group.hear(&message.write()).unwrap();
+    assert_eq!(heard.moved, 9_996);
+
+    // Time 4: blocked, so host B tells its consumer.
+    let (received, update) = receive(&mut group, 2);
+    assert_eq!(received, bytes[..9_996]);
+    let update = update.expect("the writer is blocked");
+    assert_eq!(update.consumer, cursor(1004, 2));
+    group.hear(&update.write()).unwrap();
+    assert_eq!(group.table[0].peer_consumer, cursor(1004, 2));
+
+    // Times 5 to 7: 1004 to 9999, not 1003, then 4 to 1003; eight bytes remain.
+    let (sent, message) = write(&mut group, 1, 2, &bytes[9_996..]);
+    assert_eq!(sent.taken, 9_996);
+    assert_eq!(ranges(&sent), [(1004, 9999), (4, 1003)]);
+    assert_eq!(message.producer, cursor(1004, 3));
+    assert!(message.blocked);
+    group.hear(&message.write()).unwrap();
+
+    // Time 8.
+    let (received, update) = receive(&mut group, 2);
+    assert_eq!(received, bytes[9_996..19_992]);
+    let update = update.expect("the writer is still blocked");
+    assert_eq!(update.consumer, cursor(1004, 3));
+    group.hear(&update.write()).unwrap();
+
+    // The final eight bytes, 1004 to 1011.
+    let (sent, message) = write(&mut group, 1, 2, &bytes[19_992..]);
+    assert_eq!(ranges(&sent), [(1004, 1011)]);
+    assert!(!message.blocked);
+    group.hear(&message.write()).unwrap();
+    let (received, update) = receive(&mut group, 2);
+    assert_eq!(received, bytes[19_992..]);
+    assert_eq!(update, None);
+}
+
+#[test]
+fn closing_both_ways() {
+    // 3A, 3B, 3C and 4A, 4B, 4C of section 4.8.1, in document 01's names.
+    let mut group = hosts();
+    let done = group.shutdown(1).unwrap();
+    assert_eq!(state(&group.table[0]), State::PeerCloseWait1);
+    assert_eq!(group.hear(&done).unwrap().state, State::AppCloseWait1);
+    let done = group.shutdown(2).unwrap();
+    assert_eq!(state(&group.table[1]), State::AppCloseWait2);
+    assert_eq!(group.hear(&done).unwrap().state, State::PeerCloseWait2);
+    let closed = group.close(2).unwrap();
+    assert_eq!(state(&group.table[1]), State::PeerCloseWait2);
+    assert_eq!(group.hear(&closed).unwrap().state, State::AppCloseWait2);
+    let closed = group.close(1).unwrap();
+    assert_eq!(group.table[0], Connection::default());
+    assert_eq!(group.hear(&closed).unwrap().state, State::Closed);
+    assert_eq!(group.table[1], Connection::default());
+}
+
+#[test]
+fn aborting() {
+    // Figure 23: active abort 1A and 1B, passive abort 2A and 2B.
+    let mut group = hosts();
+    let abort = group.abort(1).unwrap();
+    assert_eq!(state(&group.table[0]), State::PeerAbortWait);
+    let heard = group.hear(&abort).unwrap();
+    assert_eq!((heard.moved, heard.state), (0, State::Closed));
+    let answer = heard.message.expect("an abort message");
+    assert!(Message::read(&answer).unwrap().abort);
+    let heard = group.hear(&answer).unwrap();
+    assert_eq!((heard.state, heard.message), (State::Closed, None));
+}
