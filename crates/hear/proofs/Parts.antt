@@ -1,0 +1,21 @@
+-- The parts of an accepted message, put together.
+-- Assumes nothing.
+use mathlib.Core.Path.{_≡_}
+use mathlib.Core.Bool.{Bool, _&&_}
+use Prim.Native.Nat.{ℕ}
+use Rattle.cursor.specs.Cursor.{dataOf, gapOf}
+use Rattle.cdc.specs.declared.Message.{Message}
+use Rattle.closing.specs.declared.State.{State}
+use Rattle.closing.specs.Closing.{stateOf}
+use Rattle.connection.specs.declared.Record.{Record}
+use Rattle.connection.specs.declared.Reply.the-variants.{Heard}
+use Rattle.connection.specs.declared.Outcome.{Outcome}
+use Rattle.connection.specs.Connection.{outcomeOf, closedIf}
+use Rattle.hear.specs.Hear.{heardRecord, answersB, acceptedOf}
+
+pub accepted-parts : (n : ℕ) (c : Record) (m : Message) (d g : ℕ) (w : Record) (s : State) (t : Bool) (o z : Outcome)
+    → d ≡ dataOf n → g ≡ gapOf d (c .inbound .producer) (m .producer) → w ≡ heardRecord c m → s ≡ stateOf (w .marks)
+    → t ≡ answersB (c .inbound) m → o ≡ outcomeOf (Heard g s) t w
+    → z ≡ closedIf (w .marks .heard .closed && w .marks .sent .closed) o → z ≡ acceptedOf n c m
+unfolding acceptedOf
+accepted-parts n c m d g w s t o z hd hg hw hs ht ho hz = simp (hz, ho, ht, hs, hw, hg, hd)

@@ -1,0 +1,55 @@
+-- `hear::accepted` meets its contract.
+-- Assumes nothing.
+use borrow.Author.Needs.{needs}
+use Rattle.hear.proofs.Parts.{accepted-parts}
+use Rattle.hear.proofs.accepted.Statement.{statement}
+use Rattle.hear.proofs.accepted.Tie as tie
+
+data-size-requires : tie.Need-data-size-requires
+data-size-requires c κs = search needs
+
+gap-requires : tie.Need-gap-requires
+gap-requires c κs = search needs
+
+heard-requires : tie.Need-heard-requires
+heard-requires c κs = search needs
+
+state-of-requires : tie.Need-state-of-requires
+state-of-requires c κs = search needs
+
+answers-requires : tie.Need-answers-requires
+answers-requires c κs = search needs
+
+outcome-of-requires : tie.Need-outcome-of-requires
+outcome-of-requires c κs = search needs
+
+closed-if-requires : tie.Need-closed-if-requires
+closed-if-requires c κs = search needs
+
+returns : tie.Need-returns
+returns c =
+    let o = c .before .before in
+    let h = o .before .before .before .before in
+    let d = h .before .before in
+    let a = d .before .before .before .args in
+    accepted-parts (a .n) (a .c) (a .m) _ _ _ _ _ _ _
+    (d .data-size .ensures)
+    (h .before .gap .ensures .0)
+    (h .heard .ensures)
+    (o .before .before .state-of .ensures)
+    (o .before .answers .ensures)
+    (o .outcome-of .ensures)
+    (c .closed-if .ensures)
+
+pub accepted-spec : {M : Type 1} → statement M
+accepted-spec =
+    tie.close
+    (tie.spec
+    data-size-requires
+    gap-requires
+    heard-requires
+    state-of-requires
+    answers-requires
+    outcome-of-requires
+    closed-if-requires
+    returns)
