@@ -12,7 +12,7 @@ use Rattle.cdc.specs.declared.Message.{Message}
 use Rattle.cdc.specs.declared.Decoded.{Decoded}
 use Rattle.cdc.specs.declared.Decoded.the-variants.{Good, Malformed}
 
--- big-endian
+-- big-endian; x is a 16-bit or a 32-bit number by its type, so the first is a byte too
 abbrev pub be16 : ℕ → List ℕ
 be16 x = x / 256 ∷ x % 256 ∷ []
 

@@ -1,5 +1,7 @@
 -- Document 01, "The memory and the tables" and "The 44-byte message": a connection's record, coherence, and making a message.
--- P, C, T are the inbound producer, consumer and told; Q, R the outbound producer and consumer; N' is the outbound size.
+-- P, C, T are the inbound producer, consumer and told; Q, R the outbound producer and consumer; N' is the outbound size. Inbound `last` is
+-- the last sequence number heard, `blocked` and `request` are B and R of the last message heard; outbound `next` is the next sequence
+-- number, `blocked` our present B. Of the marks, `abort` is A sent and `first` ours first.
 -- Assumes nothing.
 use Prim.Native.Nat.{ℕ, _+_, _%_}
 use mathlib.Core.Bool.{Bool, true, false, _&&_, not, cond}

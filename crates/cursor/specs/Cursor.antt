@@ -1,4 +1,5 @@
--- Document 01, "The memory and the tables": cursors, a step, the distance from one cursor to another.
+-- Document 01, "The memory and the tables": cursors, a step, the distance from one cursor to another. A wrap number is a 16-bit number by
+-- the type of the code's field; no definition or law here needs it to be.
 -- Assumes nothing.
 use Prim.Native.Nat.{ℕ, _+_, _-_, _*_, _/_, _%_}
 use mathlib.Core.Bool.{Bool, true, false, _&&_, cond}
@@ -58,7 +59,9 @@ natural (negsuc k) = 0
 unfoldable pub gapOf : ℕ → Cursor → Cursor → ℕ
 gapOf d from to = natural (distanceOf d from to)
 
--- what the code computes: the distance with the first cursor's offset added, which is never below zero
+-- No rule below: what the code computes, and what laws are stated with.
+
+-- the distance with the first cursor's offset added, which is never below zero
 unfoldable pub leadOf : ℕ → Cursor → Cursor → ℕ
 leadOf d from to = turnsOf (from .wrap) (to .wrap) * d + to .offset
 

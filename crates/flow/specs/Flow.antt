@@ -18,11 +18,11 @@ roomOf size r q = dataOf size - gapOf (dataOf size) r q
 unfoldable pub takenOf : ℕ → ℕ → ℕ
 takenOf room len = min room len
 
--- the first placing: from Q's offset to the element's end at most (exact: the offset is in range)
+-- the length of the first placing: from Q's offset to the element's end at most (exact: the offset is in range)
 unfoldable pub firstOf : ℕ → Cursor → ℕ → ℕ
 firstOf size q n = min n (size - q .offset)
 
--- at most two placings, the second from 4; empty placings are not named
+-- at most two placings, the second from 4; empty placings are not named (exact: the first length is at most n)
 unfoldable pub placingsOf : ℕ → Cursor → ℕ → Placings
 placingsOf size q n =
     let first = firstOf size q n in
@@ -30,11 +30,12 @@ placingsOf size q n =
     let two : Placing = record { offset = 4; start = first; len = n - first } in
     cond (eqb n 0) Nowhere (cond (eqb n first) (One one) (Two one two))
 
--- Read. The peer's window: D minus the distance T to P (exact: that distance is good in a coherent record)
+-- Read. The peer's window: D minus the distance T to P (exact: in a coherent record it is T to C and C to P added, at most D)
 unfoldable pub windowOf : ℕ → Cursor → Cursor → ℕ
 windowOf n t p = dataOf n - gapOf (dataOf n) t p
 
--- twice the peer's window is below D and ten times the distance T to the new C is at least D (4.5.1)
+-- twice the peer's window is below D and ten times the distance T to the new C is at least D (4.5.1); that distance is good: the new C
+-- lies between the old C and P
 unfoldable pub updateDue : ℕ → Cursor → Cursor → Cursor → Bool
 updateDue n t p c = ltb (2 * windowOf n t p) (dataOf n) && leb (dataOf n) (10 * gapOf (dataOf n) t c)
 

@@ -17,7 +17,8 @@ use Rattle.connection.specs.declared.Reply.the-variants.{Heard}
 use Rattle.connection.specs.declared.Outcome.{Outcome}
 use Rattle.connection.specs.Connection.{every, refusalOf, refusedOf, outcomeOf, closedIf, marksTo}
 
--- With A: if we had not sent A, one abort message is made; the slot is then closed, cursors not looked at. P isn't replaced: 0
+-- With A: if we had not sent A, one abort message is made; the slot is then closed, cursors not looked at. P isn't replaced: 0.
+-- The state named is the slot's after the call: Closed
 unfoldable pub abortedOf : Record → Outcome
 abortedOf c = closedIf true (outcomeOf (Heard 0 Closed) (not (c .marks .abort)) (marksTo c (abortSent (c .marks))))
 
@@ -70,7 +71,8 @@ heardRecord c m =
 unfoldable pub answersB : Inbound → Message → Bool
 answersB i m = m .flags .request && not (sameB (i .told) (i .consumer))
 
--- after that, C heard and C sent: closed. The answer names how far P moved and the state
+-- after that, C heard and C sent: closed. The answer names how far P moved and the state (that distance is good: the new P is no nearer
+-- to T than the old one, and both are within D of it)
 unfoldable pub acceptedOf : ℕ → Record → Message → Outcome
 acceptedOf n c m =
     let next = heardRecord c m in

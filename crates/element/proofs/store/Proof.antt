@@ -1,0 +1,55 @@
+-- `element::store` meets its contract. Assumes nothing.
+use Rattle.element.proofs.Laws.{put-mid}
+use Rattle.element.proofs.Calls.{stored-in, stored-out}
+use native.Mathlib.Omega.{arith}
+use mathlib.Core.Path.{refl, sym, _∙_}
+use borrow.Author.Needs.{needs}
+use Rattle.element.proofs.store.Statement.{statement}
+use Rattle.element.proofs.store.Tie as tie
+
+add-e : tie.Need-add-e
+add-e c = search needs
+
+sub-copy : tie.Need-sub-copy
+sub-copy c = search needs
+
+part-copy-start : tie.Need-part-copy-start
+part-copy-start c = search needs
+
+part-copy-end : tie.Need-part-copy-end
+part-copy-end c = search needs
+
+copy-requires : tie.Need-copy-requires
+copy-requires c κs = search needs
+
+same-length : tie.Need-same-length
+same-length c = search needs
+
+returns : tie.Need-returns
+returns c =
+    let at-copy = c .before .before in
+    put-mid _ _ _ _ _ (at-copy .copy .ensures) refl ∙ sym (stored-in _ _ _ (omega arith) (omega arith))
+
+returns-2 : tie.Need-returns-2
+returns-2 c = sym (stored-out _ _ _ (λ h. omega arith))
+
+returns-3 : tie.Need-returns-3
+returns-3 c = sym (stored-out _ _ _ (λ h. omega arith))
+
+returns-4 : tie.Need-returns-4
+returns-4 c = sym (stored-out _ _ _ (λ h. omega arith))
+
+pub store-spec : {M : Type 1} → statement M
+store-spec =
+    tie.close
+    (tie.spec
+    add-e
+    sub-copy
+    part-copy-start
+    part-copy-end
+    copy-requires
+    same-length
+    returns
+    returns-2
+    returns-3
+    returns-4)

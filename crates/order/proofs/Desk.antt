@@ -1,0 +1,155 @@
+-- Desk calls keep what holds of every group made from a fresh one: open refuses an own token that another open slot has (11).
+-- Assumes nothing.
+use mathlib.Core.Path.{_≡_, refl, sym, ap, _∙_}
+use mathlib.Core.Logic.{_⊎_, inl, inr, _≢_}
+use mathlib.Core.Bool.{Bool, true, false, false≢true, not, cond, _||_}
+use mathlib.Core.List.{List, []}
+use Prim.Native.Nat.{ℕ, zero, suc, _<_}
+use native.Mathlib.Decide.{ℕ-discrete}
+use native.Mathlib.Omega.{arith}
+use lib.Dec.{ltb, eqb}
+use lib.ListN.{length}
+use borrow.Author.Tests.{eqb-true, ltb-false, not-false}
+use Rattle.llc.specs.declared.Kind.{Kind}
+use Rattle.llc.specs.declared.Kind.the-variants as Kinds
+use Rattle.llc.specs.Llc.{receivedOf}
+use Rattle.element.specs.Element.{freshElement}
+use Rattle.element.proofs.Others.{fresh-length}
+use Rattle.connection.specs.Connection.{zeroRecord}
+use Rattle.table.specs.Table.{slotB, openB, activeB, findFrom, withLink}
+use Rattle.table.specs.Rules.{Group, desk, Desk, openSlot, freeSlot, linkChange, linkMessage, Turn, next, plain, refuses, sizesOk, recordOf, elementIn, putTurn, openRefusal, openedRecord, openDoes, freeRefusal, freeDoes, linkIn, linkDoes, linkAnswer, linkMessageDoes}
+use Rattle.order.proofs.Slots.{slot-in, open-in, open-is, open-found, element-long, Sizes, sizes-in, Put, put}
+use Rattle.order.proofs.Acts.{OpenAt, ownOf}
+use Rattle.order.proofs.Near.{Good}
+
+good-sizes : (g : Group) → Good g → Sizes (g .S) (g .N) (length (g .memory))
+good-sizes g h = sizes-in (g .S) (g .N) (length (g .memory)) (h .sizes)
+
+-- no open slot has the token
+free-token : (g : Group) (j token : ℕ) → findFrom (g .table) token (g .S) ≡ 0 → OpenAt g (suc j) → ownOf g (suc j) ≡ token → ⊥
+free-token g j token f o e =
+    let w = open-found (g .S) (g .table) j o in
+    omega (arith, sym f ∙ ap (λ t. findFrom (g .table) t (g .S)) (sym e) ∙ w .1)
+
+-- what is put into a slot is closed, or has an own token that no open slot has
+good-put : (g : Group) (i : ℕ) (t : Turn) → Good g → i < g .S → length (t .element) ≡ g .N
+    → (t .after .id .opened ≡ false) ⊎ (findFrom (g .table) (t .after .id .own) (g .S) ≡ 0) → Good ((putTurn g (suc i) t) .group)
+good-put g i t good l fits f =
+    record {
+      sizes = cc (p .put-S, p .put-N, p .put-memory, good .sizes);
+      enough = omega (arith, p .put-S, p .put-table, good .enough);
+      apart = λ j k x y e. go j k x y e (ℕ-discrete j i) (ℕ-discrete k i);
+    }
+  where
+    h : Group
+    h = (putTurn g (suc i) t) .group
+
+    p : Put g i t ((putTurn g (suc i) t) .group)
+    p = put g i t ((good-sizes g good) .whole) l (omega (arith, good .enough)) fits
+
+    old : (j : ℕ) → j ≢ i → OpenAt h (suc j) → OpenAt g (suc j)
+    old j d x =
+        let w = open-in (h .S) (h .table) (suc j) x in
+        open-is (g .S) (g .table) (suc j) (rw (p .put-S) at (w .slot)) (ap (λ r. r .id .opened) (sym (p .other-record j d)) ∙ w .is-open)
+
+    old-own : (j : ℕ) → j ≢ i → ownOf h (suc j) ≡ ownOf g (suc j)
+    old-own j d = ap (λ r. r .id .own) (p .other-record j d)
+
+    new-own : (j : ℕ) → j ≡ i → ownOf h (suc j) ≡ t .after .id .own
+    new-own j e = ap (λ x. ownOf h (suc x)) e ∙ ap (λ r. r .id .own) (p .this-record)
+
+    -- another open slot with its own token
+    clash : (j k : ℕ) → j ≡ i → k ≢ i → OpenAt h (suc j) → OpenAt h (suc k) → ownOf h (suc k) ≡ ownOf h (suc j)
+        → (t .after .id .opened ≡ false) ⊎ (findFrom (g .table) (t .after .id .own) (g .S) ≡ 0) → ⊥
+    clash j k e d x y q (inl c) =
+        false≢true (sym (ap (λ r. r .id .opened) (p .this-record) ∙ c) ∙ (open-in (h .S) (h .table) (suc i) (rw e at x)) .is-open)
+    clash j k e d x y q (inr c) = free-token g k (t .after .id .own) c (old k d y) (sym (old-own k d) ∙ q ∙ new-own j e)
+
+    go : (j k : ℕ) → OpenAt h (suc j) → OpenAt h (suc k) → ownOf h (suc j) ≡ ownOf h (suc k) → Dec (j ≡ i) → Dec (k ≡ i) → j ≡ k
+    go j k x y q (yes a) (yes b) = a ∙ sym b
+    go j k x y q (yes a) (no b) = absurd (clash j k a b x y (sym q) f)
+    go j k x y q (no a) (yes b) = absurd (clash k j b a y x q f)
+    go j k x y q (no a) (no b) = good .apart j k (old j a x) (old k b y) (sym (old-own j a) ∙ q ∙ old-own k b)
+
+-- a test that gives no refusal
+past : (t : Bool) (x y : ℕ) → cond t (suc x) y ≡ 0 → (t ≡ false) × (y ≡ 0)
+past true x y e = absurd (omega (arith, e))
+past false x y e = (refl, e)
+
+open-good : (g : Group) (k own peer link size : ℕ) → Good g → Good ((openDoes g k own peer link size) .group)
+unfolding openDoes openRefusal refuses openedRecord
+open-good g k own peer link size good = go (eqb (openRefusal g k own peer link size) 0) refl
+  where
+    by : (k : ℕ) → slotB (g .S) k ≡ true → findFrom (g .table) own (g .S) ≡ 0
+        → Good ((putTurn g k (record { answer = plain; after = openedRecord own peer link size; element = freshElement (g .N) })) .group)
+    by zero s f = absurd (omega (arith, slot-in (g .S) 0 s))
+    by (suc i) s f =
+        good-put g i (record { answer = plain; after = openedRecord own peer link size; element = freshElement (g .N) }) good
+        ((slot-in (g .S) (suc i) s) .1) (fresh-length (g .N) (omega (arith, (good-sizes g good) .least))) (inr f)
+
+    go : (t : Bool) → eqb (openRefusal g k own peer link size) 0 ≡ t
+        → Good ((cond t (putTurn g k (record { answer = plain; after = openedRecord own peer link size; element = freshElement (g .N) }))
+        (refuses g (openRefusal g k own peer link size) [])) .group)
+    go false e = good
+    go true e =
+        let a = past (not (sizesOk g)) 0 _ (eqb-true (openRefusal g k own peer link size) 0 e) in
+        let b = past (not (slotB (g .S) k)) 1 _ (a .1) in
+        let c = past (recordOf g k .id .opened) 9 _ (b .1) in
+        let d = past (eqb own 0 || (eqb peer 0 || (ltb size 8 || ltb 65540 size))) 11 _ (c .1) in
+        let x = past (not (linkIn link)) 12 _ (d .1) in
+        let y = past (not (activeB (g .links) link)) 5 _ (x .1) in
+        let z = past (ltb 0 (findFrom (g .table) own (g .S))) 10 _ (y .1) in
+        by k (not-false (slotB (g .S) k) (b .0)) (omega (arith, ltb-false 0 (findFrom (g .table) own (g .S)) (z .0)))
+
+free-good : (g : Group) (k : ℕ) → Good g → Good ((freeDoes g k) .group)
+unfolding freeDoes freeRefusal refuses zeroRecord
+free-good g k good = go (eqb (freeRefusal g k) 0) refl
+  where
+    by : (k : ℕ) → openB (g .S) (g .table) k ≡ true → Good ((putTurn g k (record { answer = plain; after = zeroRecord; element = elementIn g k })) .group)
+    by zero o = absurd (omega (arith, (open-in (g .S) (g .table) 0 o) .low))
+    by (suc i) o =
+        let l = (open-in (g .S) (g .table) (suc i) o) .high in
+        good-put g i (record { answer = plain; after = zeroRecord; element = elementIn g (suc i) }) good l
+        (element-long (g .N) (g .S) (g .memory) ((good-sizes g good) .whole) i l) (inl refl)
+
+    go : (t : Bool) → eqb (freeRefusal g k) 0 ≡ t
+        → Good ((cond t (putTurn g k (record { answer = plain; after = zeroRecord; element = elementIn g k })) (refuses g (freeRefusal g k) [])) .group)
+    go false e = good
+    go true e =
+        let a = past (not (sizesOk g)) 0 _ (eqb-true (freeRefusal g k) 0 e) in
+        let b = past (not (openB (g .S) (g .table) k)) 1 _ (a .1) in
+        by k (not-false (openB (g .S) (g .table) k) (b .0))
+
+link-good : (g : Group) (l : ℕ) (up : Bool) → Good g → Good ((linkDoes g l up) .group)
+unfolding linkDoes refuses
+link-good g l up good = go (linkIn l)
+  where
+    with-link : Group
+    with-link = record { S = g .S; N = g .N; table = g .table; links = withLink (g .links) l up; memory = g .memory }
+
+    go : (t : Bool) → Good ((cond t (record { answer = plain; group = with-link }) (refuses g 13 [])) .group)
+    go true = record { sizes = good .sizes; enough = good .enough; apart = good .apart }
+    go false = good
+
+answer-good : (g : Group) (k : Kind) (reply : List ℕ) → Good g → Good ((linkAnswer g k reply) .group)
+unfolding refuses
+answer-good g Kinds.Malformed reply good = good
+answer-good g Kinds.Optional reply good = good
+answer-good g Kinds.Named reply good = good
+answer-good g Kinds.TestRequest reply good = good
+answer-good g Kinds.TestReply reply good = good
+
+message-good : (g : Group) (l : ℕ) (b : List ℕ) → Good g → Good ((linkMessageDoes g l b) .group)
+unfolding linkMessageDoes refuses
+message-good g l b good = go (linkIn l) (activeB (g .links) l)
+  where
+    go : (t u : Bool) → Good ((cond t (cond u (linkAnswer g (receivedOf b .kind) (receivedOf b .reply)) (refuses g 6 [])) (refuses g 13 [])) .group)
+    go true true = answer-good g (receivedOf b .kind) (receivedOf b .reply) good
+    go true false = good
+    go false u = good
+
+pub desk-good : (g : Group) (d : Desk) → Good g → Good (next g (desk d))
+desk-good g (openSlot k own peer link size) good = open-good g k own peer link size good
+desk-good g (freeSlot k) good = free-good g k good
+desk-good g (linkChange l up) good = link-good g l up good
+desk-good g (linkMessage l b) good = message-good g l b good
