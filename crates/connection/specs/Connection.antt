@@ -59,19 +59,19 @@ numbersOk c =
 
 -- all offsets are in range: P, C, T by N; Q, R by N'
 unfoldable pub offsetsOk : ℕ → Record → Bool
-offsetsOk n c =
+offsetsOk N c =
     every
-    (inRange n (c .inbound .producer)
-    ∷ inRange n (c .inbound .consumer)
-    ∷ inRange n (c .inbound .told)
+    (inRange N (c .inbound .producer)
+    ∷ inRange N (c .inbound .consumer)
+    ∷ inRange N (c .inbound .told)
     ∷ inRange (c .outbound .size) (c .outbound .producer)
     ∷ inRange (c .outbound .size) (c .outbound .consumer)
     ∷ [])
 
 -- the distances T to C and C to P are good and sum to at most D, the distance R to Q is good by D'
 unfoldable pub distancesOk : ℕ → Record → Bool
-distancesOk n c =
-    let d = dataOf n in
+distancesOk N c =
+    let d = dataOf N in
     every
     (goodB d (c .inbound .told) (c .inbound .consumer)
     ∷ goodB d (c .inbound .consumer) (c .inbound .producer)
@@ -81,12 +81,12 @@ distancesOk n c =
 
 -- an open record is coherent
 unfoldable pub coherentB : ℕ → Record → Bool
-coherentB n c = every (numbersOk c ∷ offsetsOk n c ∷ distancesOk n c ∷ [])
+coherentB N c = every (numbersOk c ∷ offsetsOk N c ∷ distancesOk N c ∷ [])
 
 -- what every call on a connection tests, in this order: 3, the record is not coherent; 6, its link is down; 7, the state forbids.
 -- 0: not refused
 unfoldable pub refusalOf : ℕ → Bool → Record → Bool → ℕ
-refusalOf n active c forbids = cond (coherentB n c) (cond active (cond forbids 7 0) 6) 3
+refusalOf N active c forbids = cond (coherentB N c) (cond active (cond forbids 7 0) 6) 3
 
 -- each message carries the peer token, Q, C, our present B, and D, C or A for the marks we have sent; P, U, R and F stay zero
 unfoldable pub messageOf : Record → Message

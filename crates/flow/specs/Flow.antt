@@ -32,12 +32,12 @@ placingsOf size q n =
 
 -- Read. The peer's window: D minus the distance T to P (exact: in a coherent record it is T to C and C to P added, at most D)
 unfoldable pub windowOf : ℕ → Cursor → Cursor → ℕ
-windowOf n t p = dataOf n - gapOf (dataOf n) t p
+windowOf N t p = dataOf N - gapOf (dataOf N) t p
 
 -- twice the peer's window is below D and ten times the distance T to the new C is at least D (4.5.1); that distance is good: the new C
 -- lies between the old C and P
 unfoldable pub updateDue : ℕ → Cursor → Cursor → Cursor → Bool
-updateDue n t p c = ltb (2 * windowOf n t p) (dataOf n) && leb (dataOf n) (10 * gapOf (dataOf n) t c)
+updateDue N t p c = ltb (2 * windowOf N t p) (dataOf N) && leb (dataOf N) (10 * gapOf (dataOf N) t c)
 
 -- What laws say of placings, and no contract cites. How many bytes they name in all
 abbrev pub placingsTotal : Placings → ℕ

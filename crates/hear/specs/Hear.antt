@@ -24,12 +24,12 @@ abortedOf c = closedIf true (outcomeOf (Heard 0 Closed) (not (c .marks .abort)) 
 
 -- the new P must be in range by N, have a good distance from T and none less than before; P may not move once D or C was heard
 unfoldable pub producerB : ℕ → Record → Cursor → Bool
-producerB n c p =
-    let d = dataOf n in
+producerB N c p =
+    let d = dataOf N in
     let t = c .inbound .told in
     let old = c .inbound .producer in
     every
-    (inRange n p
+    (inRange N p
     ∷ goodB d t p
     ∷ leb (gapOf d t old) (gapOf d t p)
     ∷ (not (marked (c .marks .heard)) || sameB old p)
@@ -74,20 +74,20 @@ answersB i m = m .flags .request && not (sameB (i .told) (i .consumer))
 -- after that, C heard and C sent: closed. The answer names how far P moved and the state (that distance is good: the new P is no nearer
 -- to T than the old one, and both are within D of it)
 unfoldable pub acceptedOf : ℕ → Record → Message → Outcome
-acceptedOf n c m =
+acceptedOf N c m =
     let next = heardRecord c m in
-    let moved = gapOf (dataOf n) (c .inbound .producer) (m .producer) in
+    let moved = gapOf (dataOf N) (c .inbound .producer) (m .producer) in
     closedIf (next .marks .heard .closed && next .marks .sent .closed)
     (outcomeOf (Heard moved (stateOf (next .marks))) (answersB (c .inbound) m) next)
 
 -- if we had sent A and this has none: accepted, no change; otherwise the cursors' rules, or 8
 unfoldable pub followedOf : ℕ → Record → Message → Outcome
-followedOf n c m =
+followedOf N c m =
     cond (c .marks .abort) (outcomeOf (Heard 0 PeerAbortWait) false c)
-    (cond (producerB n c (m .producer) && consumerB c (m .consumer)) (acceptedOf n c m) (refusedOf 8 c))
+    (cond (producerB N c (m .producer) && consumerB c (m .consumer)) (acceptedOf N c m) (refusedOf 8 c))
 
 -- hear gives no 7
 unfoldable pub hearOf : ℕ → Bool → Record → Message → Outcome
-hearOf n active c m =
-    let no = refusalOf n active c false in
-    cond (eqb no 0) (cond (m .flags .abort) (abortedOf c) (followedOf n c m)) (refusedOf no c)
+hearOf N active c m =
+    let no = refusalOf N active c false in
+    cond (eqb no 0) (cond (m .flags .abort) (abortedOf c) (followedOf N c m)) (refusedOf no c)

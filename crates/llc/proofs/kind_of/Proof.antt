@@ -40,10 +40,11 @@ returns-3 : tie.Need-returns-3
 unfolding kindOf
 returns-3 c =
     let ens = c .before .before .class .ensures in
-    simp
-    (eq-eqb _ _ (c .before .before .before .before .if1 .left),
-    ne-eqb _ 3 (λ e. c .before .if2 .left (ens ∙ e)),
-    ne-eqb _ 1 (λ e. c .if3 .taken (ens ∙ e)))
+    simp (
+      eq-eqb _ _ (c .before .before .before .before .if1 .left),
+      ne-eqb _ 3 (λ e. c .before .if2 .left (ens ∙ e)),
+      ne-eqb _ 1 (λ e. c .if3 .taken (ens ∙ e)),
+    )
 
 shared-slice-read-if4 : tie.Need-shared-slice-read-if4
 shared-slice-read-if4 c = search needs
