@@ -16,8 +16,8 @@ shutdownForbids m = m .sent .done || (m .sent .closed || m .abort)
 
 -- shutdown sends D
 unfoldable pub shutdownOf : ℕ → Bool → Record → Outcome
-shutdownOf n active c =
-    let no = refusalOf n active c (shutdownForbids (c .marks)) in
+shutdownOf N active c =
+    let no = refusalOf N active c (shutdownForbids (c .marks)) in
     cond (eqb no 0) (outcomeOf Accepted true (marksTo c (doneSent (c .marks)))) (refusedOf no c)
 
 -- 7: close after C or A sent
@@ -26,14 +26,14 @@ closeForbids m = m .sent .closed || m .abort
 
 -- close sends C, and the slot is closed if C was heard; unread bytes are dropped
 unfoldable pub closeOf : ℕ → Bool → Record → Outcome
-closeOf n active c =
-    let no = refusalOf n active c (closeForbids (c .marks)) in
+closeOf N active c =
+    let no = refusalOf N active c (closeForbids (c .marks)) in
     cond (eqb no 0)
     (closedIf (c .marks .heard .closed) (outcomeOf Accepted true (marksTo c (closedSent (c .marks)))))
     (refusedOf no c)
 
 -- abort sends A; 7: abort after A sent
 unfoldable pub abortOf : ℕ → Bool → Record → Outcome
-abortOf n active c =
-    let no = refusalOf n active c (c .marks .abort) in
+abortOf N active c =
+    let no = refusalOf N active c (c .marks .abort) in
     cond (eqb no 0) (outcomeOf Accepted true (marksTo c (abortSent (c .marks)))) (refusedOf no c)

@@ -26,8 +26,8 @@ pub fn shutdown(n: u32, active: bool, c: Record) -> Outcome
     if no != 0 {
         return connection::refused(no, c);
     }
-    let next = connection::marks_to(c, closing::done_sent(c.marks));
-    connection::outcome_of(Reply::Accepted, true, next)
+    let done = connection::marks_to(c, closing::done_sent(c.marks));
+    connection::outcome_of(Reply::Accepted, true, done)
 }
 
 // Close sends C, and the slot is closed if C was heard.
@@ -38,8 +38,8 @@ pub fn close(n: u32, active: bool, c: Record) -> Outcome
     if no != 0 {
         return connection::refused(no, c);
     }
-    let next = connection::marks_to(c, closing::closed_sent(c.marks));
-    let o = connection::outcome_of(Reply::Accepted, true, next);
+    let closed = connection::marks_to(c, closing::closed_sent(c.marks));
+    let o = connection::outcome_of(Reply::Accepted, true, closed);
     connection::closed_if(c.marks.heard.closed, o)
 }
 
@@ -51,6 +51,6 @@ pub fn abort(n: u32, active: bool, c: Record) -> Outcome
     if no != 0 {
         return connection::refused(no, c);
     }
-    let next = connection::marks_to(c, closing::abort_sent(c.marks));
-    connection::outcome_of(Reply::Accepted, true, next)
+    let aborted = connection::marks_to(c, closing::abort_sent(c.marks));
+    connection::outcome_of(Reply::Accepted, true, aborted)
 }

@@ -30,7 +30,8 @@ producedOut o n len =
 unfoldable pub producedOf : Record → ℕ → ℕ → Record
 producedOf c n len = record { id = c .id; inbound = c .inbound; outbound = producedOut (c .outbound) n len; marks = c .marks }
 
--- a message is made if n is above 0, or if bytes are left over and B was not yet told
+-- a message is made if n is above 0, or if bytes are left over and B was not yet told (our B on is a B told: the send that turns it on makes
+-- a message)
 unfoldable pub tellsOf : Record → ℕ → ℕ → Bool
 tellsOf c n len = ltb 0 n || (ltb n len && not (c .outbound .blocked))
 
@@ -42,8 +43,8 @@ sentOf c len =
 
 -- nothing offered: n is 0, no message, no change
 unfoldable pub sendOf : ℕ → Bool → Record → ℕ → Outcome
-sendOf n active c len =
-    let no = refusalOf n active c (sendForbids (c .marks)) in
+sendOf N active c len =
+    let no = refusalOf N active c (sendForbids (c .marks)) in
     cond (eqb no 0)
     (cond (eqb len 0) (outcomeOf (Sent 0 Nowhere) false c) (sentOf c len))
     (refusedOf no c)

@@ -1,0 +1,12 @@
+-- `receive::read_forbids` meets its contract. Assumes nothing.
+use mathlib.Core.Path.{refl}
+use Rattle.receive.specs.Receive.{readForbids}
+use Rattle.receive.proofs.read_forbids.Statement.{statement}
+use Rattle.receive.proofs.read_forbids.Tie as tie
+
+returns : tie.Need-returns
+unfolding readForbids
+returns c = refl
+
+pub read-forbids-spec : {M : Type 1} → statement M
+read-forbids-spec = tie.close (tie.spec returns)

@@ -1,0 +1,39 @@
+-- `receive::take` meets its contract. Assumes nothing.
+use borrow.Author.Needs.{needs}
+use Rattle.receive.proofs.Laws.{take-parts}
+use Rattle.receive.proofs.take.Statement.{statement}
+use Rattle.receive.proofs.take.Tie as tie
+
+unread-requires : tie.Need-unread-requires
+unread-requires c κs = search needs
+
+taken-requires : tie.Need-taken-requires
+taken-requires c κs = search needs
+
+consumed-requires : tie.Need-consumed-requires
+consumed-requires c κs = search needs
+
+updates-requires : tie.Need-updates-requires
+updates-requires c κs = search needs
+
+outcome-of-requires : tie.Need-outcome-of-requires
+outcome-of-requires c κs = search needs
+
+returns : tie.Need-returns
+returns c =
+    let u = c .before in
+    let x = u .before in
+    let k = x .before in
+    take-parts _ _ _ _ _ _ _ _ (k .before .unread .ensures) (k .taken .ensures .0) (x .consumed .ensures) (u .updates .ensures)
+    (c .outcome-of .ensures)
+
+pub take-spec : {M : Type 1} → statement M
+take-spec =
+    tie.close
+    (tie.spec
+    unread-requires
+    taken-requires
+    consumed-requires
+    updates-requires
+    outcome-of-requires
+    returns)

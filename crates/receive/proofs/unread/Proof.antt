@@ -1,0 +1,24 @@
+-- `receive::unread` meets its contract. Assumes nothing.
+use native.Mathlib.Omega.{arith}
+use borrow.Author.Needs.{needs}
+use Rattle.receive.proofs.Laws.{unread-is}
+use Rattle.receive.proofs.unread.Statement.{statement}
+use Rattle.receive.proofs.unread.Tie as tie
+
+data-size-requires : tie.Need-data-size-requires
+data-size-requires c κs = search needs
+
+gap-requires : tie.Need-gap-requires
+gap-requires c κs = search needs
+
+cast-result : tie.Need-cast-result
+cast-result c =
+    let d = c .before in
+    let a = d .before .before .before .args in
+    omega (arith, unread-is (a .n) (a .i) (d .data-size .result) (c .gap .result) (d .data-size .ensures) (c .gap .ensures .0))
+
+returns : tie.Need-returns
+returns c = unread-is _ _ _ _ (c .before .data-size .ensures) (c .gap .ensures .0)
+
+pub unread-spec : {M : Type 1} → statement M
+unread-spec = tie.close (tie.spec data-size-requires gap-requires cast-result returns)

@@ -1,0 +1,73 @@
+-- Document 01, "Calls of a connection": Place and Read.
+-- Assumes nothing.
+use Prim.Native.Nat.{ℕ, _+_}
+use mathlib.Core.Bool.{Bool, true, false, _&&_, _||_, cond}
+use lib.Dec.{ltb, eqb}
+use Rattle.cursor.specs.Cursor.{dataOf, gapOf, stepOf}
+use Rattle.closing.specs.declared.Marks.{Marks}
+use Rattle.closing.specs.Closing.{abortSent}
+use Rattle.flow.specs.Flow.{takenOf, windowOf, updateDue}
+use Rattle.element.specs.Element.{inData, allFree}
+use Rattle.connection.specs.declared.Inbound.{Inbound}
+use Rattle.connection.specs.declared.Record.{Record}
+use Rattle.connection.specs.declared.Reply.the-variants.{Accepted, Read, Torn}
+use Rattle.connection.specs.declared.Outcome.{Outcome}
+use Rattle.connection.specs.Connection.{refusalOf, refusedOf, outcomeOf, marksTo}
+
+-- 7: place after A sent or D or C heard
+unfoldable pub placeForbids : Marks → Bool
+placeForbids m = m .abort || (m .heard .done || m .heard .closed)
+
+-- all bytes must lie in 4 to N-1 and be free: the peer was told T, and its window is measured from there. No bytes: accepted at any offset
+unfoldable pub mayPlace : ℕ → Inbound → ℕ → ℕ → Bool
+mayPlace N i at k =
+    eqb k 0 || (inData N at k && allFree (dataOf N) (i .producer .offset) (windowOf N (i .told) (i .producer)) at k)
+
+-- 9: a placed byte is outside the data or not free
+unfoldable pub placeOf : ℕ → Bool → Record → ℕ → ℕ → Outcome
+placeOf N active c at k =
+    let no = refusalOf N active c (placeForbids (c .marks)) in
+    cond (eqb no 0) (cond (mayPlace N (c .inbound) at k) (outcomeOf Accepted false c) (refusedOf 9 c)) (refusedOf no c)
+
+-- 7: read after C or A sent
+unfoldable pub readForbids : Marks → Bool
+readForbids m = m .sent .closed || m .abort
+
+-- unread: the distance C to P
+unfoldable pub unreadOf : ℕ → Inbound → ℕ
+unreadOf N i = gapOf (dataOf N) (i .consumer) (i .producer)
+
+-- C moves by n
+unfoldable pub consumedIn : ℕ → Inbound → ℕ → Inbound
+consumedIn N i n =
+    record {
+      producer = i .producer;
+      consumer = stepOf N (i .consumer) n;
+      told = i .told;
+      last = i .last;
+      blocked = i .blocked;
+      request = i .request;
+    }
+
+unfoldable pub consumedOf : ℕ → Record → ℕ → Record
+consumedOf N c n = record { id = c .id; inbound = consumedIn N (c .inbound) n; outbound = c .outbound; marks = c .marks }
+
+-- a message is made if n is above 0 and: B or R stood in the last message heard, or an update is due. C is the new one here
+unfoldable pub updateOf : ℕ → Inbound → ℕ → Bool
+updateOf N i n = ltb 0 n && ((i .blocked || i .request) || updateDue N (i .told) (i .producer) (i .consumer))
+
+-- a damaged eye catcher: the answer is "torn", an abort message is made, the abort mark is set
+unfoldable pub tornOf : Record → Outcome
+tornOf c = outcomeOf Torn true (marksTo c (abortSent (c .marks)))
+
+-- otherwise n is the smaller of unread and room in out; the answer names n
+unfoldable pub takeOf : ℕ → Record → ℕ → Outcome
+takeOf N c room =
+    let n = takenOf (unreadOf N (c .inbound)) room in
+    let next = consumedOf N c n in
+    outcomeOf (Read n) (updateOf N (next .inbound) n) next
+
+unfoldable pub readOf : ℕ → Bool → Record → Bool → ℕ → Outcome
+readOf N active c intact room =
+    let no = refusalOf N active c (readForbids (c .marks)) in
+    cond (eqb no 0) (cond intact (takeOf N c room) (tornOf c)) (refusedOf no c)
