@@ -1,0 +1,123 @@
+-- What a connection call never answers, once its record is coherent and its element intact: refusal 3, or "torn". Assumes nothing.
+use mathlib.Core.Path.{_≡_, refl}
+use mathlib.Core.Bool.{Bool, true, false, false≢true, cond}
+use Prim.Native.Nat.{ℕ}
+use native.Mathlib.Omega.{arith}
+use Rattle.cdc.specs.declared.Message.{Message}
+use Rattle.connection.specs.declared.Record.{Record}
+use Rattle.connection.specs.declared.Reply.{Reply}
+use Rattle.connection.specs.declared.Reply.the-variants.{Refused, Accepted, Sent, Read, Torn, Heard}
+use Rattle.connection.specs.declared.Outcome.{Outcome}
+use Rattle.connection.specs.Connection.{coherentB, refusalOf, refusedOf, outcomeOf, closedIf}
+use Rattle.transmit.specs.Transmit.{sendOf, sentOf}
+use Rattle.receive.specs.Receive.{placeOf, readOf, takeOf}
+use Rattle.hear.specs.Hear.{hearOf, abortedOf, followedOf, acceptedOf}
+use Rattle.finish.specs.Finish.{shutdownOf, closeOf, abortOf}
+use Rattle.table.specs.Rules.{Says, refusal, accepted, sent, wasRead, torn, heard, saysOf}
+use Rattle.safety.specs.Statement.{acceptedB}
+
+-- from an equation of two constructors
+pub clash : {A : Type 0} → _≡_ {A = ℕ} 0 1 → A
+clash e = absurd (omega (arith, e))
+
+-- neither refusal 3 nor torn
+abbrev Fair : Reply → Type 0
+Fair (Refused k) = k ≡ 3 → ⊥
+Fair Accepted = Unit {0}
+Fair (Sent n p) = Unit {0}
+Fair (Read n) = Unit {0}
+Fair Torn = ⊥
+Fair (Heard moved state) = Unit {0}
+
+pub fair-3 : (r : Reply) → Fair r → saysOf r ≡ refusal 3 → ⊥
+fair-3 (Refused k) f e = f (cc)
+fair-3 Accepted f e = clash (cc)
+fair-3 (Sent n p) f e = clash (cc)
+fair-3 (Read n) f e = clash (cc)
+fair-3 Torn f e = f
+fair-3 (Heard moved state) f e = clash (cc)
+
+pub fair-torn : (r : Reply) → Fair r → saysOf r ≡ torn → ⊥
+fair-torn (Refused k) f e = clash (cc)
+fair-torn Accepted f e = clash (cc)
+fair-torn (Sent n p) f e = clash (cc)
+fair-torn (Read n) f e = clash (cc)
+fair-torn Torn f e = f
+fair-torn (Heard moved state) f e = clash (cc)
+
+pub record Answers (o : Outcome) : Type 0 where
+  pub fair : Fair (o .reply)
+
+module _ (n : ℕ) (active : Bool) (c : Record) (ok : coherentB n c ≡ true) where
+  by-test : (t : Bool) (o p : Outcome) → Answers o → Answers p → Answers (cond t o p)
+  by-test true o p h k = h
+  by-test false o p h k = k
+
+  -- what is tested before all else is never 3
+  first : (forbids : Bool) → Answers (refusedOf (refusalOf n active c forbids) c)
+  unfolding refusedOf refusalOf
+  first forbids = record { fair = rw ok (go active forbids) }
+    where
+      go : (a f : Bool) → _≡_ {A = ℕ} (cond a (cond f 7 0) 6) 3 → ⊥
+      go true true e = omega (arith, e)
+      go true false e = omega (arith, e)
+      go false f e = omega (arith, e)
+
+  cursors : Answers (refusedOf 8 c)
+  unfolding refusedOf
+  cursors = record { fair = λ e. omega (arith, e) }
+
+  outside : Answers (refusedOf 9 c)
+  unfolding refusedOf
+  outside = record { fair = λ e. omega (arith, e) }
+
+  pub none-answers : Answers (refusedOf 0 c)
+  unfolding refusedOf
+  none-answers = record { fair = λ e. omega (arith, e) }
+
+  outcome : (r : Reply) (t : Bool) (d : Record) → Fair r → Answers (outcomeOf r t d)
+  unfolding outcomeOf
+  outcome r true d h = record { fair = h }
+  outcome r false d h = record { fair = h }
+
+  shut : (t : Bool) (o : Outcome) → Answers o → Answers (closedIf t o)
+  unfolding closedIf
+  shut true o h = record { fair = h .fair }
+  shut false o h = h
+
+  pub send-answers : (k : ℕ) → Answers (sendOf n active c k)
+  unfolding sendOf sentOf
+  send-answers k = search (by-test, first, outcome) depth 9
+
+  pub place-answers : (at k : ℕ) → Answers (placeOf n active c at k)
+  unfolding placeOf
+  place-answers at k = search (by-test, first, outside, outcome) depth 9
+
+  pub read-answers : (k : ℕ) → Answers (readOf n active c true k)
+  unfolding readOf takeOf
+  read-answers k = search (by-test, first, outcome) depth 9
+
+  pub hear-answers : (m : Message) → Answers (hearOf n active c m)
+  unfolding hearOf abortedOf followedOf acceptedOf
+  hear-answers m = search (by-test, first, cursors, outcome, shut) depth 9
+
+  pub shutdown-answers : Answers (shutdownOf n active c)
+  unfolding shutdownOf
+  shutdown-answers = search (by-test, first, outcome) depth 9
+
+  pub close-answers : Answers (closeOf n active c)
+  unfolding closeOf
+  close-answers = search (by-test, first, outcome, shut) depth 9
+
+  pub abort-answers : Answers (abortOf n active c)
+  unfolding abortOf
+  abort-answers = search (by-test, first, outcome) depth 9
+
+-- what `acceptedB` says
+pub says-accepted : (s : Says) → acceptedB s ≡ true → s ≡ accepted
+says-accepted (refusal k) e = absurd (false≢true e)
+says-accepted accepted e = refl
+says-accepted (sent n p) e = absurd (false≢true e)
+says-accepted (wasRead n) e = absurd (false≢true e)
+says-accepted torn e = absurd (false≢true e)
+says-accepted (heard moved state) e = absurd (false≢true e)

@@ -1,0 +1,189 @@
+-- What stays true over any list of calls from any fresh group, and the one-byte sentence of demand 2: six claims about the rules that
+-- every contract cites (`answer`, `next`). A call holds all that a peer hands in, messages and placed bytes, so "any list" is any peer,
+-- lying or not. proofs/Theorem proves each. Assumes nothing.
+use Prim.Native.Nat.{ℕ, _+_, _-_, _*_, _≤_, _<_}
+use mathlib.Core.Path.{_≡_}
+use mathlib.Core.Logic.{_⊎_}
+use mathlib.Core.Bool.{Bool, true, false, cond}
+use mathlib.Core.List.{List, [], _∷_, _++_}
+use lib.Dec.{ltb, eqb}
+use lib.ListN.{length, take, drop, getD, getElem?, replicate}
+use Rattle.flow.specs.declared.Placing.{Placing}
+use Rattle.flow.specs.Flow.{roomOf}
+use Rattle.element.specs.Element.{baseOf, splice, intactB, freshElement, ringFrom}
+use Rattle.connection.specs.Connection.{coherentB}
+use Rattle.transmit.specs.Transmit.{sendForbids}
+use Rattle.table.specs.Table.{slotB, openB}
+use Rattle.table.specs.Rules.{Group, Request, send, place, read, shutdown, close, abort, openSlot, freeSlot, linkChange, linkMessage, Call, on, hear, desk, Says, refusal, accepted, sent, wasRead, torn, heard, answer, next, sizesOk, recordOf, elementIn, linkOf, holderOf, Fresh}
+use Rattle.order.specs.Statement.{leaves, At}
+
+-- whatever calls are made of a fresh group, this holds of the group that they leave
+abbrev pub Always : (Group → Type 0) → Type 0
+Always P = (g : Group) → Fresh g → (cs : List Call) → P (leaves g cs)
+
+-- slot k is one of 1 to S, and open; its own token; the offset of its C
+abbrev pub OpenAt : Group → ℕ → Type 0
+OpenAt h k = openB (h .S) (h .table) k ≡ true
+
+abbrev pub ownOf : Group → ℕ → ℕ
+ownOf h k = recordOf h k .id .own
+
+abbrev pub offsetC : Group → ℕ → ℕ
+offsetC h k = recordOf h k .inbound .consumer .offset
+
+-- 1. TOKENS APART. No two open slots have the same own token, so the lowest slot that hear finds by a token is the only one.
+pub record Apart (h : Group) : Type 0 where
+  pub no-two : (j k : ℕ) → OpenAt h j → OpenAt h k → ownOf h j ≡ ownOf h k → j ≡ k
+  pub the-only : (k token : ℕ) → OpenAt h k → ownOf h k ≡ token → holderOf h token ≡ k
+
+abbrev pub TokensApart : Type 0
+TokensApart = Always Apart
+
+-- 2. COHERENT. Every open record is coherent, so refusal 3 is never given.
+pub record AllCoherent (h : Group) : Type 0 where
+  pub every-open : (k : ℕ) → OpenAt h k → coherentB (h .N) (recordOf h k) ≡ true
+  pub never-3 : (c : Call) → answer h c .says ≡ refusal 3 → ⊥
+
+abbrev pub AlwaysCoherent : Type 0
+AlwaysCoherent = Always AllCoherent
+
+-- 3. INTACT. Every open element begins with its eye catcher, so read never answers "torn".
+pub record AllIntact (h : Group) : Type 0 where
+  pub every-open : (k : ℕ) → OpenAt h k → intactB (elementIn h k) ≡ true
+  pub never-torn : (c : Call) → answer h c .says ≡ torn → ⊥
+
+abbrev pub AlwaysIntact : Type 0
+AlwaysIntact = Always AllIntact
+
+-- 4. NO STALE BYTES. What slot k's element must hold, by the calls alone. An open of slot k that is accepted makes it the eye catcher and
+-- zeros; a place on slot k that is accepted puts its bytes at its offset, and every other byte stays; nothing else changes it.
+abbrev pub acceptedB : Says → Bool
+acceptedB (refusal k) = false
+acceptedB accepted = true
+acceptedB (sent n p) = false
+acceptedB (wasRead n) = false
+acceptedB torn = false
+acceptedB (heard moved state) = false
+
+abbrev pub placedBy : Request → List ℕ → List ℕ
+placedBy (send b) e = e
+placedBy (place at b) e = splice e at b
+placedBy (read out) e = e
+placedBy shutdown e = e
+placedBy close e = e
+placedBy abort e = e
+
+abbrev pub changedBy : ℕ → ℕ → Call → List ℕ → List ℕ
+changedBy N k (on j q) e = cond (eqb j k) (placedBy q e) e
+changedBy N k (hear b) e = e
+changedBy N k (desk (openSlot j own peer link size)) e = cond (eqb j k) (freshElement N) e
+changedBy N k (desk (freeSlot j)) e = e
+changedBy N k (desk (linkChange l up)) e = e
+changedBy N k (desk (linkMessage l b)) e = e
+
+-- one call on, from the bytes e
+unfoldable pub heldAfter : Group → Call → ℕ → List ℕ → List ℕ
+heldAfter g c k e = cond (acceptedB (answer g c .says)) (changedBy (g .N) k c e) e
+
+unfoldable pub heldFrom : Group → List ℕ → List Call → ℕ → List ℕ
+heldFrom g e [] k = e
+heldFrom g e (c ∷ cs) k = heldFrom (next g c) (heldAfter g c k e) cs k
+
+-- a fresh group's memory is all zeros
+abbrev pub held : Group → List Call → ℕ → List ℕ
+held g cs k = heldFrom g (replicate (g .N) 0) cs k
+
+-- The same, of one byte. Call number i of the list, counted from 0, is c and was accepted, made on the group as the calls before left it
+abbrev pub AcceptedAt : Group → List Call → ℕ → Call → Type 0
+AcceptedAt g cs i c = At cs i c × (answer (leaves g (take i cs)) c .says ≡ accepted)
+
+-- it opened slot k
+pub record Opens (g : Group) (cs : List Call) (i k : ℕ) : Type 0 where
+  pub own : ℕ
+  pub peer : ℕ
+  pub link : ℕ
+  pub size : ℕ
+  pub took : AcceptedAt g cs i (desk (openSlot k own peer link size))
+
+-- it stored the byte v at offset x of slot k's element
+pub record Stores (g : Group) (cs : List Call) (i k x v : ℕ) : Type 0 where
+  pub at : ℕ
+  pub bytes : List ℕ
+  pub took : AcceptedAt g cs i (on k (place at bytes))
+  pub low : at ≤ x
+  pub high : x < at + length bytes
+  pub byte : getD bytes (x - at) 0 ≡ v
+
+-- the byte v was stored at offset x of slot k's element by a place on the connection that the slot has now: after its last open
+pub record Stored (g : Group) (cs : List Call) (k x v : ℕ) : Type 0 where
+  pub opening : ℕ
+  pub opened : Opens g cs opening k
+  pub last : (i : ℕ) → opening < i → Opens g cs i k → ⊥
+  pub storing : ℕ
+  pub since : opening < storing
+  pub stored : Stores g cs storing k x v
+
+-- where byte number i of a read stands in an element of N bytes: i bytes on from C, and from the end on at 4
+abbrev pub offsetFrom : ℕ → ℕ → ℕ → ℕ
+offsetFrom N c i = cond (ltb (c + i) N) (c + i) (c + i - N + 4)
+
+-- a read on slot k, made after the calls cs had left h, named n and left its buffer, which held `out`, as `now`
+pub record Handed (g : Group) (cs : List Call) (h : Group) (k n : ℕ) (out now : List ℕ) : Type 0 where
+  -- n bytes of what the element must hold, from C on, stand in front, and out beyond n stays
+  pub bytes : now ≡ take n (ringFrom (held g cs k) (offsetC h k)) ++ drop n out
+  -- each of the n is zero, or was stored by a place on that same connection after its open, at that very offset
+  pub each : (i : ℕ) → i < n → (getD now i 0 ≡ 0) ⊎ Stored g cs k (offsetFrom (g .N) (offsetC h k) i) (getD now i 0)
+
+-- each element holds exactly what it must, and a read hands out bytes of that
+pub record NoneStale (g : Group) (cs : List Call) (h : Group) : Type 0 where
+  pub exactly : (k : ℕ) → slotB (g .S) k ≡ true → elementIn h k ≡ held g cs k
+  pub reads : (k n : ℕ) (out : List ℕ) → answer h (on k (read out)) .says ≡ wasRead n
+      → Handed g cs h k n out (answer h (on k (read out)) .out)
+
+abbrev pub NoStaleBytes : Type 0
+NoStaleBytes = (g : Group) → Fresh g → (cs : List Call) → NoneStale g cs (leaves g cs)
+
+-- 5. NOBODY ELSE'S. Byte x of the memory is data of element k: bytes (k-1)N+4 to kN-1
+abbrev pub InData : Group → ℕ → ℕ → Type 0
+InData h k x = (baseOf (h .N) k + 4 ≤ x) × (x < k * h .N)
+
+-- A call on slot k, a place too, leaves every byte that is not data of element k as it was; a read leaves every byte as it was.
+pub record OwnTouched (h : Group) : Type 0 where
+  pub by-any : (k : ℕ) (q : Request) (x : ℕ) → (InData h k x → ⊥) → getElem? (next h (on k q) .memory) x ≡ getElem? (h .memory) x
+  pub by-read : (k : ℕ) (out : List ℕ) → next h (on k (read out)) .memory ≡ h .memory
+
+-- the bytes of slot k's element after the eye catcher
+abbrev pub dataIn : Group → ℕ → List ℕ
+dataIn h k = drop 4 (elementIn h k)
+
+pub record SameOwn (h i : Group) (k : ℕ) : Type 0 where
+  pub same-S : h .S ≡ i .S
+  pub same-N : h .N ≡ i .N
+  pub same-record : recordOf h k ≡ recordOf i k
+  pub same-link : linkOf h k ≡ linkOf i k
+  pub same-data : dataIn h k ≡ dataIn i k
+
+-- Two groups that calls leave, each of a fresh one, may differ in every byte of the memory that is not data of element k: a call on slot
+-- k, a place or a read too, answers the same in both.
+abbrev pub OwnSeen : Type 0
+OwnSeen =
+    (g₁ g₂ : Group) → Fresh g₁ → Fresh g₂ → (cs₁ cs₂ : List Call) (k : ℕ) → SameOwn (leaves g₁ cs₁) (leaves g₂ cs₂) k
+    → (q : Request) → answer (leaves g₁ cs₁) (on k q) ≡ answer (leaves g₂ cs₂) (on k q)
+
+abbrev pub NobodyElses : Type 0
+NobodyElses = Always OwnTouched × OwnSeen
+
+-- THE ONE-BYTE SENTENCE. Given the right S, N and memory, an open, coherent connection that may send, with data offered, free room at
+-- the peer and an active link, writes at least one byte: n is above 0, and the placings name n bytes in all. It holds of any group,
+-- however it came about.
+abbrev pub totalOf : List Placing → ℕ
+totalOf [] = 0
+totalOf (p ∷ l) = p .len + totalOf l
+
+abbrev pub OneByte : Type 0
+OneByte =
+    (h : Group) (k : ℕ) (b : List ℕ) → sizesOk h ≡ true → OpenAt h k → coherentB (h .N) (recordOf h k) ≡ true
+    → sendForbids (recordOf h k .marks) ≡ false → 0 < length b
+    → 0 < roomOf (recordOf h k .outbound .size) (recordOf h k .outbound .consumer) (recordOf h k .outbound .producer)
+    → linkOf h k ≡ true
+    → (n : ℕ) × (p : List Placing) × (answer h (on k (send b)) .says ≡ sent n p) × (0 < n) × (totalOf p ≡ n)
