@@ -1,0 +1,303 @@
+-- Sizes, slots, links and the search by token: what each definition gives. Assumes nothing.
+use Prim.Native.Nat.{ℕ, zero, suc, _+_, _-_, _*_, _≤_, _<_}
+use mathlib.Core.Path.{_≡_, refl, sym, ap, _∙_}
+use mathlib.Core.Bool.{Bool, true, false}
+use mathlib.Core.List.{List, [], _∷_}
+use native.Mathlib.Numerals.{add-one}
+use native.Mathlib.Omega.{arith}
+use lib.Dec.{leb, eqb}
+use lib.ListN.{length, getD, drop, set, List·getD-eq-default, length-map, length-set}
+use lib.Seq.{drop-cons, getD-set-same, getD-set-other, set-out}
+use mir.Val.{Val}
+use denote.Laws.{Is}
+use borrow.Author.Tests.{le-leb, leb-true, eqb-true}
+use borrow.Author.Needs.{length-unmapped}
+use Rattle.connection.specs.declared.Record.{Record}
+use Rattle.connection.specs.Connection.{zeroRecord}
+use Rattle.connection.proofs.Laws.{and-left, and-right, holds}
+use Rattle.table.specs.declared.Tables.{Tables}
+use Rattle.table.specs.Table.{sizesB, slotB, recordAt, openB, activeB, holdsB, orLater, lowest, findFrom, withRecord, withLink}
+use Rattle.table.proofs.Tables.{the-row}
+
+-- THE ARRAYS' LENGTHS, which a value of the type has
+module _ (t : Tables) (vs : List Val) (is : Is the-row t vs) where
+  pub table-length : length (t .table) ≡ 16
+  table-length = simp length-map at (is .1 .1 .0 .1 .0 .1)
+
+  pub links-length : length (t .links) ≡ 4
+  links-length = length-unmapped Bool (t .links) 4 (is .1 .1 .1 .0 .1 .0 .1)
+
+-- SIZES AND SLOTS: what a test that holds tells
+pub record Sizes (s n len : ℕ) : Type 0 where
+  pub s-least : 1 ≤ s
+  pub s-most : s ≤ 16
+  pub n-least : 8 ≤ n
+  pub n-most : n ≤ 65540
+  pub len-is : len ≡ s * n
+
+module _ (s : ℕ) where
+  pub sizes-facts : (n len : ℕ) → sizesB s n len ≡ true → Sizes s n len
+  unfolding sizesB
+  sizes-facts n len e =
+      let h = holds (leb 1 s ∷ leb s 16 ∷ leb 8 n ∷ leb n 65540 ∷ eqb len (s * n) ∷ []) e in
+      record {
+        s-least = leb-true 1 s (h 0);
+        s-most = leb-true s 16 (h 1);
+        n-least = leb-true 8 n (h 2);
+        n-most = leb-true n 65540 (h 3);
+        len-is = eqb-true len (s * n) (h 4);
+      }
+
+  pub slot-facts : (k : ℕ) → slotB s k ≡ true → (1 ≤ k) × (k ≤ s)
+  unfolding slotB
+  slot-facts k e = (leb-true 1 k (and-left (leb 1 k) (leb k s) e), leb-true k s (and-right (leb 1 k) (leb k s) e))
+
+  pub slot-is : (k : ℕ) → 1 ≤ k → k ≤ s → slotB s k ≡ true
+  unfolding slotB
+  slot-is k h l = simp (le-leb 1 k h, le-leb k s l)
+
+  pub open-facts : (t : List Record) (k : ℕ) → openB s t k ≡ true → (slotB s k ≡ true) × (recordAt t k .id .opened ≡ true)
+  unfolding openB
+  open-facts t k e = (and-left (slotB s k) (recordAt t k .id .opened) e, and-right (slotB s k) (recordAt t k .id .opened) e)
+
+-- SLOTS AND LINKS, as the code counts them
+
+record-zero : (t : List Record) → recordAt t zero ≡ zeroRecord
+unfolding recordAt
+record-zero t = refl
+
+record-next : (t : List Record) (i : ℕ) → recordAt t (suc i) ≡ getD t i zeroRecord
+unfolding recordAt
+record-next t i = refl
+
+record-of : (t : List Record) (k : ℕ) → 1 ≤ k → recordAt t k ≡ getD t (k - 1) zeroRecord
+record-of t k h =
+    let e : k ≡ suc (k - 1) = omega arith in
+    ap (recordAt t) e ∙ record-next t (k - 1)
+
+module _ (t : List Record) where
+  pub record-suc : (i : ℕ) → recordAt t (suc i) ≡ getD t i zeroRecord
+  record-suc i = record-next t i
+
+  pub record-low : (k : ℕ) → k < 1 → recordAt t k ≡ zeroRecord
+  unfolding recordAt
+  record-low k h = let e : k ≡ 0 = omega arith in rw e
+
+  pub record-in : (k : ℕ) → 1 ≤ k → recordAt t k ≡ getD t (k - 1) zeroRecord
+  record-in k h = record-of t k h
+
+  pub record-out : (k : ℕ) → length t < k → recordAt t k ≡ zeroRecord
+  record-out k h = record-in k (omega arith) ∙ List·getD-eq-default t zeroRecord (omega arith)
+
+  pub with-suc : (i : ℕ) (c : Record) → withRecord t (suc i) c ≡ set t i c
+  unfolding withRecord
+  with-suc i c = refl
+
+  pub with-in : (k : ℕ) (c : Record) → 1 ≤ k → withRecord t k c ≡ set t (k - 1) c
+  with-in k c h =
+      let e : k ≡ suc (k - 1) = omega arith in
+      ap (λ (j : ℕ). withRecord t j c) e ∙ with-suc (k - 1) c
+
+  pub with-low : (k : ℕ) (c : Record) → k < 1 → withRecord t k c ≡ t
+  unfolding withRecord
+  with-low k c h = let e : k ≡ 0 = omega arith in rw e
+
+  pub with-out : (k : ℕ) (c : Record) → length t < k → withRecord t k c ≡ t
+  with-out k c h = with-in k c (omega arith) ∙ set-out t (k - 1) c (omega arith)
+
+  -- a record put into a slot of the table is there, and nowhere else
+  pub record-set-same : (k : ℕ) (c : Record) → 1 ≤ k → k ≤ length t → recordAt (withRecord t k c) k ≡ c
+  record-set-same k c h l =
+      ap (λ (u : List Record). recordAt u k) (with-in k c h)
+      ∙ record-of (set t (k - 1) c) k h
+      ∙ getD-set-same t (k - 1) c zeroRecord (omega arith)
+
+  pub record-set-other : (k j : ℕ) (c : Record) → (j ≡ k → ⊥) → recordAt (withRecord t k c) j ≡ recordAt t j
+  record-set-other zero j c h = ap (λ (u : List Record). recordAt u j) (with-low zero c (omega arith))
+  record-set-other (suc i) zero c h = record-zero (withRecord t (suc i) c) ∙ sym (record-zero t)
+  record-set-other (suc i) (suc j) c h =
+      ap (λ (u : List Record). recordAt u (suc j)) (with-suc i c)
+      ∙ record-next (set t i c) j
+      ∙ getD-set-other t i j c zeroRecord (λ e. h (ap suc e))
+      ∙ sym (record-next t j)
+
+  pub with-length : (k : ℕ) (c : Record) → length (withRecord t k c) ≡ length t
+  with-length zero c = ap length (with-low zero c (omega arith))
+  with-length (suc i) c = ap length (with-suc i c) ∙ length-set t i c
+
+module _ (l : List Bool) where
+  pub link-low : (k : ℕ) → k < 1 → activeB l k ≡ false
+  unfolding activeB
+  link-low k h = let e : k ≡ 0 = omega arith in rw e
+
+  pub link-suc : (i : ℕ) → activeB l (suc i) ≡ getD l i false
+  unfolding activeB
+  link-suc i = refl
+
+  pub link-in : (k : ℕ) → 1 ≤ k → activeB l k ≡ getD l (k - 1) false
+  link-in k h =
+      let e : k ≡ suc (k - 1) = omega arith in
+      ap (activeB l) e ∙ link-suc (k - 1)
+
+  pub link-out : (k : ℕ) → length l < k → activeB l k ≡ false
+  link-out k h = link-in k (omega arith) ∙ List·getD-eq-default l false (omega arith)
+
+  pub with-link-low : (k : ℕ) (up : Bool) → k < 1 → withLink l k up ≡ l
+  unfolding withLink
+  with-link-low k up h = let e : k ≡ 0 = omega arith in rw e
+
+  pub with-link-suc : (i : ℕ) (up : Bool) → withLink l (suc i) up ≡ set l i up
+  unfolding withLink
+  with-link-suc i up = refl
+
+  pub with-link-in : (k : ℕ) (up : Bool) → 1 ≤ k → withLink l k up ≡ set l (k - 1) up
+  with-link-in k up h =
+      let e : k ≡ suc (k - 1) = omega arith in
+      ap (λ (j : ℕ). withLink l j up) e ∙ with-link-suc (k - 1) up
+
+  pub with-link-out : (k : ℕ) (up : Bool) → length l < k → withLink l k up ≡ l
+  with-link-out k up h = with-link-in k up (omega arith) ∙ set-out l (k - 1) up (omega arith)
+
+-- THE SEARCH. A slot that the rest of a search counts, after i slots
+abbrev pub after : ℕ → ℕ → ℕ
+after i zero = 0
+after i (suc k) = suc k + i
+
+after-none : (k : ℕ) → after 0 k ≡ k
+after-none zero = refl
+after-none (suc k) = omega arith
+
+after-later : (i k : ℕ) → after i (orLater false k) ≡ after (i + 1) k
+after-later i zero = refl
+after-later i (suc k) = omega arith
+
+module _ (q : Record → Bool) where
+  -- no more slots than the table has
+  pub lowest-beyond : (s : ℕ) (t : List Record) → length t ≤ s → lowest q s t ≡ lowest q (length t) t
+  unfolding lowest
+  lowest-beyond zero [] h = refl
+  lowest-beyond zero (c ∷ t) h = absurd (omega arith)
+  lowest-beyond (suc s) [] h = refl
+  lowest-beyond (suc s) (c ∷ t) h = ap (orLater (q c)) (lowest-beyond s t (omega arith))
+
+  abbrev pub rest : List Record → ℕ → ℕ → ℕ
+  rest t s i = after i (lowest q (s - i) (drop i t))
+
+  module _ (t : List Record) (s : ℕ) where
+    pub rest-all : rest t s 0 ≡ lowest q s t
+    rest-all =
+        let e : s - 0 ≡ s = omega arith in
+        after-none (lowest q (s - 0) t) ∙ ap (λ (k : ℕ). lowest q k t) e
+
+    module _ (i : ℕ) where
+      turn : i < s → i < length t → lowest q (s - i) (drop i t) ≡ orLater (q (getD t i zeroRecord)) (lowest q (s - (i + 1)) (drop (i + 1) t))
+      unfolding lowest
+      turn h k =
+          let e : s - i ≡ suc (s - (i + 1)) = omega arith in
+          rw (e, drop-cons t i zeroRecord k, add-one i)
+
+      pub hit : i < s → i < length t → q (getD t i zeroRecord) ≡ true → rest t s i ≡ i + 1
+      hit h k e =
+          ap (after i) (turn h k ∙ ap (λ (b : Bool). orLater b (lowest q (s - (i + 1)) (drop (i + 1) t))) e) ∙ (omega arith)
+
+      pub miss : i < s → i < length t → q (getD t i zeroRecord) ≡ false → rest t s i ≡ rest t s (i + 1)
+      miss h k e =
+          ap (after i) (turn h k ∙ ap (λ (b : Bool). orLater b (lowest q (s - (i + 1)) (drop (i + 1) t))) e)
+          ∙ after-later i (lowest q (s - (i + 1)) (drop (i + 1) t))
+
+      pub done : s ≤ i → rest t s i ≡ 0
+      unfolding lowest
+      done h = let e : s - i ≡ 0 = omega arith in rw e
+
+-- where the search by token begins: at most as many slots as the table has
+pub begins : (t : List Record) (token s m : ℕ) → m ≡ s → rest (holdsB token) t m 0 ≡ findFrom t token s
+unfolding findFrom
+begins t token s m e = rest-all (holdsB token) t m ∙ ap (λ (k : ℕ). lowest (holdsB token) k t) e
+
+pub begins-all : (t : List Record) (token s m : ℕ) → m ≡ length t → length t ≤ s → rest (holdsB token) t m 0 ≡ findFrom t token s
+unfolding findFrom
+begins-all t token s m e h =
+    rest-all (holdsB token) t m
+    ∙ ap (λ (k : ℕ). lowest (holdsB token) k t) e
+    ∙ sym (lowest-beyond (holdsB token) s t h)
+
+-- what a search finds: a slot that passes, and no lower one; and that it finds none
+module _ (q : Record → Bool) where
+  pub record Lowest (s : ℕ) (t : List Record) (i : ℕ) : Type 0 where
+    pub below : i < s
+    pub inside : i < length t
+    pub passes : q (getD t i zeroRecord) ≡ true
+    pub first : (j : ℕ) → j < i → q (getD t j zeroRecord) ≡ false
+
+  pub lowest-some : (s : ℕ) (t : List Record) (i : ℕ) → lowest q s t ≡ suc i → Lowest s t i
+  unfolding lowest
+  lowest-some zero t i e = absurd (omega arith)
+  lowest-some (suc s) [] i e = absurd (omega arith)
+  lowest-some (suc s) (c ∷ t) i e = go (q c) refl (lowest q s t) refl (λ k f. lowest-some s t k f) e
+    where
+      before : (k : ℕ) → q c ≡ false → Lowest s t k → i ≡ suc k → (j : ℕ) → j < i → q (getD (c ∷ t) j zeroRecord) ≡ false
+      before k p r z zero h = p
+      before k p r z (suc j) h = r .first j (omega arith)
+
+      go : (b : Bool) → q c ≡ b → (k : ℕ) → lowest q s t ≡ k → ((k : ℕ) → lowest q s t ≡ suc k → Lowest s t k)
+          → orLater b k ≡ suc i → Lowest (suc s) (c ∷ t) i
+      go true p k f more g =
+          let z : i ≡ 0 = omega arith in
+          record {
+            below = omega arith;
+            inside = omega arith;
+            passes = ap (λ (j : ℕ). q (getD (c ∷ t) j zeroRecord)) z ∙ p;
+            first = λ j h. absurd (omega arith);
+          }
+      go false p zero f more g = absurd (omega arith)
+      go false p (suc k) f more g =
+          let z : i ≡ suc k = omega arith in
+          let r = more k f in
+          record {
+            below = omega arith;
+            inside = omega arith;
+            passes = ap (λ (j : ℕ). q (getD (c ∷ t) j zeroRecord)) z ∙ r .passes;
+            first = before k p r z;
+          }
+
+  pub lowest-none : (s : ℕ) (t : List Record) → lowest q s t ≡ 0 → (j : ℕ) → j < s → j < length t → q (getD t j zeroRecord) ≡ false
+  unfolding lowest
+  lowest-none zero t e j h l = absurd (omega arith)
+  lowest-none (suc s) [] e j h l = absurd (omega arith)
+  lowest-none (suc s) (c ∷ t) e j h l = go (q c) refl (lowest q s t) (λ f i. lowest-none s t f i) e j h l
+    where
+      go : (b : Bool) → q c ≡ b → (k : ℕ) → (k ≡ 0 → (i : ℕ) → i < s → i < length t → q (getD t i zeroRecord) ≡ false)
+          → orLater b k ≡ 0 → (i : ℕ) → i < suc s → i < suc (length t) → q (getD (c ∷ t) i zeroRecord) ≡ false
+      go true p k more g i h l = absurd (omega arith)
+      go false p zero more g zero h l = p
+      go false p zero more g (suc i) h l = more refl i (omega arith) (omega arith)
+      go false p (suc k) more g i h l = absurd (omega arith)
+
+-- the search by token
+module _ (t : List Record) (token s : ℕ) where
+  pub record Holder (k : ℕ) : Type 0 where
+    pub slot : slotB s k ≡ true
+    pub inside : k ≤ length t
+    pub holds-it : holdsB token (recordAt t k) ≡ true
+    pub no-lower : (j : ℕ) → 1 ≤ j → j < k → holdsB token (recordAt t j) ≡ false
+
+  pub find-some : (i : ℕ) → findFrom t token s ≡ suc i → Holder (suc i)
+  unfolding findFrom
+  find-some i e =
+      let f = lowest-some (holdsB token) s t i e in
+      record {
+        slot = slot-is s (suc i) (omega arith) (omega (arith, f .below));
+        inside = omega (arith, f .inside);
+        holds-it = ap (holdsB token) (record-suc t i) ∙ f .passes;
+        no-lower = λ j h l. ap (holdsB token) (record-in t j h) ∙ f .first (j - 1) (omega arith);
+      }
+
+  pub find-slot : (k : ℕ) → k ≡ findFrom t token s → (k ≡ 0 → ⊥) → Holder k
+  find-slot zero e h = absurd (h refl)
+  find-slot (suc i) e h = find-some i (sym e)
+
+  pub find-none : findFrom t token s ≡ 0 → (k : ℕ) → slotB s k ≡ true → k ≤ length t → holdsB token (recordAt t k) ≡ false
+  unfolding findFrom
+  find-none e k h l =
+      let f = slot-facts s k h in
+      ap (holdsB token) (record-in t k (f .0)) ∙ lowest-none (holdsB token) s t e (k - 1) (omega arith) (omega arith)

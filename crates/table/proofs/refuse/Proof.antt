@@ -1,0 +1,12 @@
+-- `table::refuse` meets its contract. Assumes nothing.
+use mathlib.Core.Path.{refl}
+use Rattle.table.specs.Table.{refusedBy}
+use Rattle.table.proofs.refuse.Statement.{statement}
+use Rattle.table.proofs.refuse.Tie as tie
+
+returns : tie.Need-returns
+unfolding refusedBy
+returns c = refl
+
+pub refuse-spec : {M : Type 1} → statement M
+refuse-spec = tie.close (tie.spec returns)

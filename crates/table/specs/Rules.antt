@@ -1,0 +1,339 @@
+-- Document 01's rules for a whole group: what each of the eleven calls answers, and the group that it leaves.
+-- The contracts of the calls cite `Did`, which is `answer` and `next`; the theorems about lists of calls cite these and `Fresh`, and, for
+-- whose a call is and what it sees, `recordOf`, `elementIn`, `linkOf` and `holderOf`.
+-- Assumes nothing.
+use Prim.Native.Nat.{ℕ, _≤_}
+use mathlib.Core.Path.{_≡_}
+use mathlib.Core.Bool.{Bool, true, false, _&&_, _||_, not, cond}
+use mathlib.Core.Option.{Option, none, some}
+use mathlib.Core.List.{List, [], _∷_}
+use lib.Dec.{ltb, leb, eqb}
+use lib.ListN.{length, replicate}
+use Rattle.cursor.specs.declared.Cursor.{Cursor}
+use Rattle.cdc.specs.declared.Message.{Message}
+use Rattle.cdc.specs.declared.Decoded.{Decoded}
+use Rattle.cdc.specs.declared.Decoded.the-variants.{Good, Malformed}
+use Rattle.cdc.specs.Cdc.{decodeOf}
+use Rattle.llc.specs.declared.Kind.{Kind}
+use Rattle.llc.specs.declared.Kind.the-variants as Kinds
+use Rattle.llc.specs.declared.Received.{Received}
+use Rattle.llc.specs.Llc.{receivedOf}
+use Rattle.closing.specs.declared.State.{State}
+use Rattle.flow.specs.declared.Placing.{Placing}
+use Rattle.flow.specs.declared.Placings.{Placings}
+use Rattle.flow.specs.declared.Placings.the-variants.{Nowhere, One, Two}
+use Rattle.element.specs.Element.{baseOf, elementOf, splice, intactB, freshElement, intoOut}
+use Rattle.connection.specs.declared.Record.{Record}
+use Rattle.connection.specs.declared.Reply.{Reply}
+use Rattle.connection.specs.declared.Reply.the-variants.{Refused, Accepted, Sent, Read, Torn, Heard}
+use Rattle.connection.specs.declared.Outcome.{Outcome}
+use Rattle.connection.specs.Connection.{zeroRecord, noMarks, coherentB}
+use Rattle.transmit.specs.Transmit.{sendOf}
+use Rattle.receive.specs.Receive.{placeOf, readOf}
+use Rattle.hear.specs.Hear.{hearOf}
+use Rattle.finish.specs.Finish.{shutdownOf, closeOf, abortOf}
+use Rattle.table.specs.declared.Tables.{Tables}
+use Rattle.table.specs.declared.Answered.{Answered}
+use Rattle.table.specs.Table.{sizesB, slotB, recordAt, openB, activeB, findFrom, withRecord, withLink}
+
+-- A group: S and N, one connection table, four links, one receive memory. The code is lent 16 slots and four links by its types; the
+-- rules are said for lists of any length.
+pub record Group : Type 0 where
+  pub S : ℕ
+  pub N : ℕ
+  pub table : List Record
+  pub links : List Bool
+  pub memory : List ℕ
+
+-- THE CALLS, each with all bytes lent to it.
+
+-- of a connection, on its slot. A read is lent an out buffer
+pub data Request : Type 0 where
+  send : List ℕ → Request
+  place : ℕ → List ℕ → Request
+  read : List ℕ → Request
+  shutdown : Request
+  close : Request
+  abort : Request
+
+-- of the desk (document 01's word): open takes slot, own token, peer token, link and N'; link change a link and whether it is active;
+-- link message a link and bytes
+pub data Desk : Type 0 where
+  openSlot : ℕ → ℕ → ℕ → ℕ → ℕ → Desk
+  freeSlot : ℕ → Desk
+  linkChange : ℕ → Bool → Desk
+  linkMessage : ℕ → List ℕ → Desk
+
+pub data Call : Type 0 where
+  on : ℕ → Request → Call
+  hear : List ℕ → Call
+  desk : Desk → Call
+
+-- THE ANSWERS: the refusal's number, or all that the call's line names, with every byte of a message made, and the out buffer's bytes
+-- as the call leaves them.
+pub data Says : Type 0 where
+  refusal : ℕ → Says
+  accepted : Says
+  sent : ℕ → List Placing → Says
+  wasRead : ℕ → Says
+  torn : Says
+  heard : ℕ → State → Says
+
+pub record Answer : Type 0 where
+  pub says : Says
+  pub message : Option (List ℕ)
+  pub out : List ℕ
+
+-- the code's enums, as the page's numbers and values
+abbrev pub placingList : Placings → List Placing
+placingList Nowhere = []
+placingList (One p) = p ∷ []
+placingList (Two p q) = p ∷ q ∷ []
+
+abbrev pub saysOf : Reply → Says
+saysOf (Refused k) = refusal k
+saysOf Accepted = accepted
+saysOf (Sent n p) = sent n (placingList p)
+saysOf (Read n) = wasRead n
+saysOf Torn = torn
+saysOf (Heard moved state) = heard moved state
+
+abbrev pub messageIf : Bool → List ℕ → Option (List ℕ)
+messageIf made bytes = cond made (some bytes) none
+
+-- ONE SLOT. A call of a connection, from N, whether its link is active, its record, its element's bytes and what is lent: its answer,
+-- the record and the bytes that it leaves. It sees nothing else.
+pub record Turn : Type 0 where
+  pub answer : Answer
+  pub after : Record
+  pub element : List ℕ
+
+unfoldable pub turnOf : Outcome → List ℕ → List ℕ → Turn
+turnOf o e out =
+    record {
+      answer = record { says = saysOf (o .reply); message = messageIf (o .made) (o .message); out = out };
+      after = o .after;
+      element = e;
+    }
+
+-- the bytes are stored where place is accepted, and nothing else
+abbrev pub placedIn : Reply → List ℕ → ℕ → List ℕ → List ℕ
+placedIn (Refused k) e at b = e
+placedIn Accepted e at b = splice e at b
+placedIn (Sent n p) e at b = e
+placedIn (Read n) e at b = e
+placedIn Torn e at b = e
+placedIn (Heard moved state) e at b = e
+
+-- the first n unread bytes from C are copied to out where n are read; else out is untouched
+abbrev pub readInto : Reply → Cursor → List ℕ → List ℕ → List ℕ
+readInto (Refused k) c e out = out
+readInto Accepted c e out = out
+readInto (Sent n p) c e out = out
+readInto (Read n) c e out = intoOut e (c .offset) n out
+readInto Torn c e out = out
+readInto (Heard moved state) c e out = out
+
+unfoldable pub requestTurn : ℕ → Bool → Record → List ℕ → Request → Turn
+requestTurn n active c e (send b) = turnOf (sendOf n active c (length b)) e []
+requestTurn n active c e (place at b) =
+    let o = placeOf n active c at (length b) in turnOf o (placedIn (o .reply) e at b) []
+requestTurn n active c e (read out) =
+    let o = readOf n active c (intactB e) (length out) in turnOf o e (readInto (o .reply) (c .inbound .consumer) e out)
+requestTurn n active c e shutdown = turnOf (shutdownOf n active c) e []
+requestTurn n active c e close = turnOf (closeOf n active c) e []
+requestTurn n active c e abort = turnOf (abortOf n active c) e []
+
+unfoldable pub hearTurn : ℕ → Bool → Record → List ℕ → Message → Turn
+hearTurn n active c e m = turnOf (hearOf n active c m) e []
+
+-- THE GROUP. What a call answers, and the group that it leaves.
+pub record Done : Type 0 where
+  pub answer : Answer
+  pub group : Group
+
+-- a refusal returns its number only, and changes no table, memory or out buffer
+unfoldable pub refuses : Group → ℕ → List ℕ → Done
+refuses g k out = record { answer = record { says = refusal k; message = none; out = out }; group = g }
+
+-- 1: S, N or the memory's length is wrong
+abbrev pub sizesOk : Group → Bool
+sizesOk g = sizesB (g .S) (g .N) (length (g .memory))
+
+-- the slot's record, its element, and whether its link is active
+abbrev pub recordOf : Group → ℕ → Record
+recordOf g k = recordAt (g .table) k
+
+abbrev pub elementIn : Group → ℕ → List ℕ
+elementIn g k = elementOf (g .N) k (g .memory)
+
+abbrev pub linkOf : Group → ℕ → Bool
+linkOf g k = activeB (g .links) (recordOf g k .id .link)
+
+-- the turn of slot k, with its record and its element put back
+unfoldable pub putTurn : Group → ℕ → Turn → Done
+putTurn g k t =
+    record {
+      answer = t .answer;
+      group =
+          record {
+            S = g .S;
+            N = g .N;
+            table = withRecord (g .table) k (t .after);
+            links = g .links;
+            memory = splice (g .memory) (baseOf (g .N) k) (t .element);
+          };
+    }
+
+-- what is lent as an out buffer
+abbrev pub outOf : Request → List ℕ
+outOf (send b) = []
+outOf (place at b) = []
+outOf (read out) = out
+outOf shutdown = []
+outOf close = []
+outOf abort = []
+
+-- connection calls test 1, then 2
+unfoldable pub onDoes : Group → ℕ → Request → Done
+onDoes g k q =
+    cond (sizesOk g)
+    (cond (openB (g .S) (g .table) k)
+    (putTurn g k (requestTurn (g .N) (linkOf g k) (recordOf g k) (elementIn g k) q))
+    (refuses g 2 (outOf q)))
+    (refuses g 1 (outOf q))
+
+-- 5: no open slot has the token, or it is 0. Hear finds the lowest slot with the token
+abbrev pub holderOf : Group → ℕ → ℕ
+holderOf g token = cond (eqb token 0) 0 (findFrom (g .table) token (g .S))
+
+unfoldable pub hearAt : Group → Message → ℕ → Done
+hearAt g m k =
+    cond (eqb k 0) (refuses g 5 []) (putTurn g k (hearTurn (g .N) (linkOf g k) (recordOf g k) (elementIn g k) m))
+
+-- 4: the bytes are not a message
+abbrev pub hearMessage : Group → Decoded → Done
+hearMessage g (Good m) = hearAt g m (holderOf g (m .token))
+hearMessage g Malformed = refuses g 4 []
+
+unfoldable pub hearDoes : Group → List ℕ → Done
+hearDoes g b = cond (sizesOk g) (hearMessage g (decodeOf b)) (refuses g 1 [])
+
+-- Open sets all cursors to offset 4, wrap 0, next sequence 1, last heard 0, marks off
+abbrev pub startCursor : Cursor
+startCursor = record { offset = 4; wrap = 0 }
+
+unfoldable pub openedRecord : ℕ → ℕ → ℕ → ℕ → Record
+openedRecord own peer link size =
+    record {
+      id = record { opened = true; own = own; peer = peer; link = link };
+      inbound =
+          record { producer = startCursor; consumer = startCursor; told = startCursor; last = 0; blocked = false; request = false };
+      outbound = record { size = size; producer = startCursor; consumer = startCursor; next = 1; blocked = false };
+      marks = record { sent = noMarks; heard = noMarks; first = false; abort = false };
+    }
+
+-- an answer that names nothing and makes no message
+abbrev pub plain : Answer
+plain = record { says = accepted; message = none; out = [] }
+
+abbrev pub linkIn : ℕ → Bool
+linkIn l = leb 1 l && leb l 4
+
+-- Open: 1, 2 (outside only), 10 (already open), 12 (a zero token, or N' out of range), 13, 6 (the named link is down), 11 (own token
+-- held by another open slot: any holder is another, since slot k is closed here); 0: not refused
+unfoldable pub openRefusal : Group → ℕ → ℕ → ℕ → ℕ → ℕ → ℕ
+openRefusal g k own peer link size =
+    cond (not (sizesOk g)) 1
+    (cond (not (slotB (g .S) k)) 2
+    (cond (recordOf g k .id .opened) 10
+    (cond (eqb own 0 || (eqb peer 0 || (ltb size 8 || ltb 65540 size))) 12
+    (cond (not (linkIn link)) 13
+    (cond (not (activeB (g .links) link)) 6
+    (cond (ltb 0 (findFrom (g .table) own (g .S))) 11 0))))))
+
+-- it zeroes the element and writes the eye catcher
+unfoldable pub openDoes : Group → ℕ → ℕ → ℕ → ℕ → ℕ → Done
+openDoes g k own peer link size =
+    let no = openRefusal g k own peer link size in
+    cond (eqb no 0)
+    (putTurn g k (record { answer = plain; after = openedRecord own peer link size; element = freshElement (g .N) }))
+    (refuses g no [])
+
+-- Free: 1, 2, 3, 7 (outside PeerAbortWait, which is: abort sent); it closes the slot
+unfoldable pub freeRefusal : Group → ℕ → ℕ
+freeRefusal g k =
+    cond (not (sizesOk g)) 1
+    (cond (not (openB (g .S) (g .table) k)) 2
+    (cond (not (coherentB (g .N) (recordOf g k))) 3
+    (cond (not (recordOf g k .marks .abort)) 7 0)))
+
+unfoldable pub freeDoes : Group → ℕ → Done
+freeDoes g k =
+    let no = freeRefusal g k in
+    cond (eqb no 0) (putTurn g k (record { answer = plain; after = zeroRecord; element = elementIn g k })) (refuses g no [])
+
+-- Link change: 13; it sets one link
+unfoldable pub linkDoes : Group → ℕ → Bool → Done
+linkDoes g l up =
+    cond (linkIn l)
+    (record {
+      answer = plain;
+      group = record { S = g .S; N = g .N; table = g .table; links = withLink (g .links) l up; memory = g .memory };
+    })
+    (refuses g 13 [])
+
+-- Link message: optional is discarded, a TEST LINK request is answered by a reply, a reply is taken and nothing follows;
+-- 4: malformed; 14: a named link message other than 07
+abbrev pub linkAnswer : Group → Kind → List ℕ → Done
+linkAnswer g Kinds.Malformed reply = refuses g 4 []
+linkAnswer g Kinds.Optional reply = record { answer = plain; group = g }
+linkAnswer g Kinds.Named reply = refuses g 14 []
+linkAnswer g Kinds.TestRequest reply = record { answer = record { says = accepted; message = some reply; out = [] }; group = g }
+linkAnswer g Kinds.TestReply reply = record { answer = plain; group = g }
+
+-- 13, 6, then what the bytes are
+unfoldable pub linkMessageDoes : Group → ℕ → List ℕ → Done
+linkMessageDoes g l b =
+    cond (linkIn l)
+    (cond (activeB (g .links) l) (linkAnswer g (receivedOf b .kind) (receivedOf b .reply)) (refuses g 6 []))
+    (refuses g 13 [])
+
+abbrev pub deskDoes : Group → Desk → Done
+deskDoes g (openSlot k own peer link size) = openDoes g k own peer link size
+deskDoes g (freeSlot k) = freeDoes g k
+deskDoes g (linkChange l up) = linkDoes g l up
+deskDoes g (linkMessage l b) = linkMessageDoes g l b
+
+abbrev pub does : Group → Call → Done
+does g (on k q) = onDoes g k q
+does g (hear b) = hearDoes g b
+does g (desk d) = deskDoes g d
+
+-- ONE RULE FOR ALL CALLS.
+abbrev pub answer : Group → Call → Answer
+answer g c = does g c .answer
+
+abbrev pub next : Group → Call → Group
+next g c = does g c .group
+
+-- what each contract promises: the answer a and the group h that the call c left of g are what the rules say
+pub record Did (g : Group) (c : Call) (a : Answer) (h : Group) : Type 0 where
+  pub answered : a ≡ answer g c
+  pub left : h ≡ next g c
+
+-- what is lent to the code, as a group; and what it returns, as an answer
+abbrev pub groupOf : ℕ → ℕ → Tables → List ℕ → Group
+groupOf s n t m = record { S = s; N = n; table = t .table; links = t .links; memory = m }
+
+abbrev pub answerOf : Answered → List ℕ → Answer
+answerOf r out = record { says = saysOf (r .reply); message = messageIf (r .made) (r .message); out = out }
+
+-- A fresh group has S and N in range, every slot closed (whatever else it holds), every link down and memory all zeros.
+pub record Fresh (g : Group) : Type 0 where
+  pub sizes : sizesOk g ≡ true
+  -- a slot for each element: always so, since 16 are lent
+  pub enough : g .S ≤ length (g .table)
+  pub closed : (k : ℕ) → openB (g .S) (g .table) k ≡ false
+  pub down : (l : ℕ) → activeB (g .links) l ≡ false
+  pub zeros : g .memory ≡ replicate (length (g .memory)) 0

@@ -1,0 +1,76 @@
+-- Document 01, "The memory and the tables", "When the desk says no": sizes, slots, links, and the search by token.
+-- Assumes nothing.
+use Prim.Native.Nat.{ℕ, zero, suc, _*_}
+use mathlib.Core.Bool.{Bool, true, false, _&&_, cond}
+use mathlib.Core.List.{List, [], _∷_}
+use lib.Dec.{leb, eqb}
+use lib.ListN.{getD, set}
+use Rattle.connection.specs.declared.Record.{Record}
+use Rattle.connection.specs.declared.Outcome.{Outcome}
+use Rattle.connection.specs.declared.Reply.the-variants.{Refused}
+use Rattle.connection.specs.Connection.{every, zeroRecord, noMessage}
+use Rattle.table.specs.declared.Tables.{Tables}
+use Rattle.table.specs.declared.Answered.{Answered}
+
+-- S from 1 to 16, N from 8 to 65,540, lent as S x N bytes
+unfoldable pub sizesB : ℕ → ℕ → ℕ → Bool
+sizesB s n len = every (leb 1 s ∷ leb s 16 ∷ leb 8 n ∷ leb n 65540 ∷ eqb len (s * n) ∷ [])
+
+-- slot k, from 1 to S
+unfoldable pub slotB : ℕ → ℕ → Bool
+slotB s k = leb 1 k && leb k s
+
+-- the record of slot k: slots are counted from 1; beyond the table, all zeros
+unfoldable pub recordAt : List Record → ℕ → Record
+recordAt t zero = zeroRecord
+recordAt t (suc i) = getD t i zeroRecord
+
+-- slot k is one of 1 to S, and open
+unfoldable pub openB : ℕ → List Record → ℕ → Bool
+openB s t k = slotB s k && recordAt t k .id .opened
+
+-- link l, from 1 to 4, is active
+unfoldable pub activeB : List Bool → ℕ → Bool
+activeB links zero = false
+activeB links (suc i) = getD links i false
+
+-- the record is open and has the token
+unfoldable pub holdsB : ℕ → Record → Bool
+holdsB token c = c .id .opened && eqb (c .id .own) token
+
+-- 1 where this record passes, else one more than where a later one stands; 0 for none
+abbrev pub orLater : Bool → ℕ → ℕ
+orLater true k = 1
+orLater false zero = 0
+orLater false (suc k) = suc (suc k)
+
+-- where the first of the list's first s records that passes a test stands, counted from 1; 0 for none
+unfoldable pub lowest : (Record → Bool) → ℕ → List Record → ℕ
+lowest q zero t = 0
+lowest q (suc s) [] = 0
+lowest q (suc s) (c ∷ t) = orLater (q c) (lowest q s t)
+
+-- the lowest slot of 1 to S that is open with the token
+unfoldable pub findFrom : List Record → ℕ → ℕ → ℕ
+findFrom t token s = lowest (holdsB token) s t
+
+-- another record in slot k, and every other slot as it was
+unfoldable pub withRecord : List Record → ℕ → Record → List Record
+withRecord t zero c = t
+withRecord t (suc i) c = set t i c
+
+unfoldable pub withLink : List Bool → ℕ → Bool → List Bool
+withLink l zero up = l
+withLink l (suc i) up = set l i up
+
+unfoldable pub setRecord : Tables → ℕ → Record → Tables
+setRecord t k c = record { table = withRecord (t .table) k c; links = t .links }
+
+unfoldable pub setLink : Tables → ℕ → Bool → Tables
+setLink t l up = record { table = t .table; links = withLink (t .links) l up }
+
+unfoldable pub refusedBy : ℕ → Tables → Answered
+refusedBy k t = record { reply = Refused k; made = false; message = noMessage; tables = t }
+
+unfoldable pub putBy : Tables → ℕ → Outcome → Answered
+putBy t k o = record { reply = o .reply; made = o .made; message = o .message; tables = setRecord t k (o .after) }
