@@ -13,7 +13,7 @@ use Rattle.cdc.specs.declared.Decoded.{Decoded}
 use Rattle.cdc.specs.declared.Decoded.the-variants.{Good, Malformed}
 use Rattle.cdc.specs.Cdc.{decodeOf}
 use Rattle.connection.specs.declared.Record.{Record}
-use Rattle.connection.specs.Connection.{zeroRecord}
+use Rattle.connection.specs.Connection.{zeroRecord, noMessage}
 use Rattle.table.specs.Table.{slotB, recordAt, openB, activeB, findFrom}
 use Rattle.table.specs.Rules.{Group, Request, Call, on, hear, desk, refusal, Answer, Turn, Done, does, answer, next, refuses, outOf, sizesOk, recordOf, elementIn, linkOf, putTurn, onDoes, hearDoes, hearMessage, hearAt, holderOf}
 use Rattle.order.specs.Statement.{hearer, ActsOn, SameSlot, Agree, WhoSeesWhat}
@@ -48,7 +48,7 @@ outBy (hear b) = []
 outBy (desk d) = []
 
 abbrev pub refusalBy : Call → Answer
-refusalBy c = record { says = refusal (numberBy c); message = none; out = outBy c }
+refusalBy c = record { says = refusal (numberBy c); made = false; message = noMessage; out = outBy c }
 
 abbrev pub turnAt : Group → ℕ → Call → Turn
 turnAt g k c = turnBy (g .N) (linkOf g k) (recordOf g k) (elementIn g k) c

@@ -5,7 +5,6 @@
 use Prim.Native.Nat.{ℕ, _≤_}
 use mathlib.Core.Path.{_≡_}
 use mathlib.Core.Bool.{Bool, true, false, _&&_, _||_, not, cond}
-use mathlib.Core.Option.{Option, none, some}
 use mathlib.Core.List.{List, [], _∷_}
 use lib.Dec.{ltb, leb, eqb}
 use lib.ListN.{length, replicate}
@@ -27,7 +26,7 @@ use Rattle.connection.specs.declared.Record.{Record}
 use Rattle.connection.specs.declared.Reply.{Reply}
 use Rattle.connection.specs.declared.Reply.the-variants.{Refused, Accepted, Sent, Read, Torn, Heard}
 use Rattle.connection.specs.declared.Outcome.{Outcome}
-use Rattle.connection.specs.Connection.{zeroRecord, noMarks, coherentB}
+use Rattle.connection.specs.Connection.{zeroRecord, noMarks, noMessage, coherentB}
 use Rattle.transmit.specs.Transmit.{sendOf}
 use Rattle.receive.specs.Receive.{placeOf, readOf}
 use Rattle.hear.specs.Hear.{hearOf}
@@ -79,9 +78,11 @@ pub data Says : Type 0 where
   torn : Says
   heard : ℕ → State → Says
 
+-- 44 zeros stand in the place of a message where none is made
 pub record Answer : Type 0 where
   pub says : Says
-  pub message : Option (List ℕ)
+  pub made : Bool
+  pub message : List ℕ
   pub out : List ℕ
 
 -- the code's enums, as the page's numbers and values
@@ -98,9 +99,6 @@ saysOf (Read n) = wasRead n
 saysOf Torn = torn
 saysOf (Heard moved state) = heard moved state
 
-abbrev pub messageIf : Bool → List ℕ → Option (List ℕ)
-messageIf made bytes = cond made (some bytes) none
-
 -- ONE SLOT. A call of a connection, from N, whether its link is active, its record, its element's bytes and what is lent: its answer,
 -- the record and the bytes that it leaves. It sees nothing else.
 pub record Turn : Type 0 where
@@ -111,7 +109,7 @@ pub record Turn : Type 0 where
 unfoldable pub turnOf : Outcome → List ℕ → List ℕ → Turn
 turnOf o e out =
     record {
-      answer = record { says = saysOf (o .reply); message = messageIf (o .made) (o .message); out = out };
+      answer = record { says = saysOf (o .reply); made = o .made; message = o .message; out = out };
       after = o .after;
       element = e;
     }
@@ -154,7 +152,7 @@ pub record Done : Type 0 where
 
 -- a refusal returns its number only, and changes no table, memory or out buffer
 unfoldable pub refuses : Group → ℕ → List ℕ → Done
-refuses g k out = record { answer = record { says = refusal k; message = none; out = out }; group = g }
+refuses g k out = record { answer = record { says = refusal k; made = false; message = noMessage; out = out }; group = g }
 
 -- 1: S, N or the memory's length is wrong
 abbrev pub sizesOk : Group → Bool
@@ -235,7 +233,7 @@ openedRecord own peer link size =
 
 -- an answer that names nothing and makes no message
 abbrev pub plain : Answer
-plain = record { says = accepted; message = none; out = [] }
+plain = record { says = accepted; made = false; message = noMessage; out = [] }
 
 abbrev pub linkIn : ℕ → Bool
 linkIn l = leb 1 l && leb l 4
@@ -289,7 +287,7 @@ abbrev pub linkAnswer : Group → Kind → List ℕ → Done
 linkAnswer g Kinds.Malformed reply = refuses g 4 []
 linkAnswer g Kinds.Optional reply = record { answer = plain; group = g }
 linkAnswer g Kinds.Named reply = refuses g 14 []
-linkAnswer g Kinds.TestRequest reply = record { answer = record { says = accepted; message = some reply; out = [] }; group = g }
+linkAnswer g Kinds.TestRequest reply = record { answer = record { says = accepted; made = true; message = reply; out = [] }; group = g }
 linkAnswer g Kinds.TestReply reply = record { answer = plain; group = g }
 
 -- 13, 6, then what the bytes are
@@ -327,7 +325,7 @@ abbrev pub groupOf : ℕ → ℕ → Tables → List ℕ → Group
 groupOf s n t m = record { S = s; N = n; table = t .table; links = t .links; memory = m }
 
 abbrev pub answerOf : Answered → List ℕ → Answer
-answerOf r out = record { says = saysOf (r .reply); message = messageIf (r .made) (r .message); out = out }
+answerOf r out = record { says = saysOf (r .reply); made = r .made; message = r .message; out = out }
 
 -- A fresh group has S and N in range, every slot closed (whatever else it holds), every link down and memory all zeros.
 pub record Fresh (g : Group) : Type 0 where

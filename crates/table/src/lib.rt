@@ -110,9 +110,9 @@ pub fn set_record(t: Tables, slot: u32, c: Record) -> Tables
     if 16 < slot {
         return t;
     }
-    let i = slot as usize - 1;
+    let at = slot as usize - 1;
     let mut next = t;
-    next.table[i] = c;
+    next.table[at] = c;
     next
 }
 

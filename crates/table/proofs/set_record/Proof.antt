@@ -21,8 +21,8 @@ returns-2 c =
     let l = table-length (a .t) _ (b .good .0) in
     λ i. record { table = sym (with-out (a .t .table) (a .slot) (a .c) (omega arith)) i; links = a .t .links }
 
-sub-i : tie.Need-sub-i
-sub-i c = search needs
+sub-at : tie.Need-sub-at
+sub-at c = search needs
 
 mul-c : tie.Need-mul-c
 mul-c c = search needs
@@ -37,4 +37,4 @@ returns-3 c =
     λ i. record { table = sym (with-in (a .t .table) (a .slot) (a .c) (omega arith)) i; links = a .t .links }
 
 pub set-record-spec : {M : Type 1} → statement M
-set-record-spec = tie.close (tie.spec returns returns-2 sub-i mul-c element-set-from-c returns-3)
+set-record-spec = tie.close (tie.spec returns returns-2 sub-at mul-c element-set-from-c returns-3)
