@@ -1,0 +1,241 @@
+// Replays calls on one group: reads a call from each line of the standard input, makes it, and prints its answer. What a line may be and
+// what is printed is fixed by the replay format; what a call answers is the group's alone.
+//
+// Five buffers are lent throughout: `mem` the receive memory, `given` the bytes of a line, `out` the out buffer of a read, `buf` the
+// input and `o` the output.
+mod answer;
+mod input;
+mod line;
+mod output;
+
+ghost use Prim.Native.Nat.{_≤_};
+use answer::Said;
+use connection::Record;
+use group::Command;
+use line::Line;
+use table::Tables;
+
+// The group as the last call left it, its memory aside, of which it has the first `len` bytes; and how far the output buffer is filled.
+struct World {
+    s: u32,
+    n: u32,
+    len: usize,
+    tables: Tables,
+    at: usize,
+}
+
+// Parts of a buffer are cut by it, so that no number leads out of one.
+fn least(a: usize, b: usize) -> usize
+    ensures { λ r. ⌜ (r ≤ a) × (r ≤ b) ⌝ }
+{
+    if a < b { a } else { b }
+}
+
+fn fill(s: &mut [u8], b: u8) {
+    let mut i = 0;
+    while i < s.len() {
+        s[i] = b;
+        i += 1;
+    }
+}
+
+fn copy(to: &mut [u8], from: &[u8]) {
+    let n = least(to.len(), from.len());
+    let mut i = 0;
+    while i < n {
+        to[i] = from[i];
+        i += 1;
+    }
+}
+
+// A fresh group: every slot all zeros, every link down.
+fn fresh(s: u32, n: u32, len: usize, at: usize) -> World {
+    let z = connection::zero_record();
+    let tables = Tables {
+        table: [z; 16],
+        links: [false; 4],
+    };
+    World {
+        s: s,
+        n: n,
+        len: len,
+        tables: tables,
+        at: at,
+    }
+}
+
+// The output buffer is filled up to `at` now.
+fn filled_to(w: World, at: usize) -> World {
+    let mut next = w;
+    next.at = at;
+    next
+}
+
+fn bad(o: &mut [u8; 65536], w: World) -> World {
+    let at = output::text(o, w.at, b"bad line\n");
+    filled_to(w, at)
+}
+
+fn start_over(mem: &mut [u8], o: &mut [u8; 65536], w: World, s: u32, n: u32, len: usize) -> World {
+    let most = least(len, mem.len());
+    fill(&mut mem[0..most], 0);
+    let at = output::text(o, w.at, b"group\n");
+    fresh(s, n, len, at)
+}
+
+// Makes the call, every byte of out A5 before it, and prints its answer.
+fn call(
+    mem: &mut [u8],
+    bytes: &[u8],
+    out: &mut [u8],
+    o: &mut [u8; 65536],
+    w: World,
+    command: Command,
+) -> World {
+    let tables = w.tables;
+    fill(out, 165);
+    let a = group::make(w.s, w.n, mem, tables, command, bytes, out);
+    let reply = a.reply;
+    let message = a.message;
+    let after = a.tables;
+    let said = Said {
+        reply: reply,
+        made: a.made,
+        message: message,
+    };
+    let at = answer::answer(o, w.at, command, said, out);
+    World {
+        s: w.s,
+        n: w.n,
+        len: w.len,
+        tables: after,
+        at: at,
+    }
+}
+
+// A call, with what it is lent: LEN bytes of memory, its bytes, and ROOM bytes of out.
+fn lent(
+    mem: &mut [u8],
+    given: &[u8],
+    out: &mut [u8],
+    o: &mut [u8; 65536],
+    w: World,
+    command: Command,
+    count: usize,
+    room: usize,
+) -> World {
+    let len = least(w.len, mem.len());
+    let k = least(count, given.len());
+    let most = least(room, out.len());
+    call(&mut mem[0..len], &given[0..k], &mut out[0..most], o, w, command)
+}
+
+// Lays a record into a slot from 1 to 16.
+fn lay_record(o: &mut [u8; 65536], w: World, slot: usize, c: Record) -> World {
+    if slot < 1 {
+        return bad(o, w);
+    }
+    if 16 < slot {
+        return bad(o, w);
+    }
+    let i = slot - 1;
+    let mut tables = w.tables;
+    tables.table[i] = c;
+    let at = output::text(o, w.at, b"record\n");
+    let mut next = w;
+    next.tables = tables;
+    next.at = at;
+    next
+}
+
+// Lays bytes into the memory from byte `at` on, where they lie within it.
+fn poke(mem: &mut [u8], given: &[u8], o: &mut [u8; 65536], w: World, at: usize, count: usize) -> World {
+    let len = least(w.len, mem.len());
+    let k = least(count, given.len());
+    if at <= len {
+        if k <= len - at {
+            let end = at + k;
+            copy(&mut mem[at..end], &given[0..k]);
+            let to = output::text(o, w.at, b"poke\n");
+            return filled_to(w, to);
+        }
+    }
+    bad(o, w)
+}
+
+// Prints bytes of the memory from byte `at` on, where they lie within it.
+fn memory(mem: &[u8], o: &mut [u8; 65536], w: World, at: usize, count: usize) -> World {
+    let len = least(w.len, mem.len());
+    if at <= len {
+        if count <= len - at {
+            let end = at + count;
+            let to = answer::memory(o, w.at, &mem[at..end]);
+            return filled_to(w, to);
+        }
+    }
+    bad(o, w)
+}
+
+fn table(o: &mut [u8; 65536], w: World) -> World {
+    let t = w.tables;
+    let at = answer::tables(o, w.at, t);
+    filled_to(w, at)
+}
+
+fn act(
+    mem: &mut [u8],
+    given: &[u8],
+    out: &mut [u8],
+    o: &mut [u8; 65536],
+    w: World,
+    line: Line,
+) -> World {
+    match line {
+        Line::Skipped => w,
+        Line::Bad => bad(o, w),
+        Line::Group(s, n, len) => start_over(mem, o, w, s, n, len),
+        Line::Call(command, count, room) => lent(mem, given, out, o, w, command, count, room),
+        Line::Record(slot, c) => lay_record(o, w, slot, c),
+        Line::Poke(at, count) => poke(mem, given, o, w, at, count),
+        Line::Table => table(o, w),
+        Line::Memory(at, count) => memory(mem, o, w, at, count),
+    }
+}
+
+fn run(
+    mem: &mut [u8],
+    given: &mut [u8],
+    out: &mut [u8],
+    buf: &mut [u8; 65536],
+    o: &mut [u8; 65536],
+) {
+    let mut w = fresh(1, 8, 8, 0); // as if after `group 1 8 8`
+    let mut scan = input::begin(buf);
+    while 0 < scan.left {
+        let p = line::parse(buf, given, scan);
+        let line = p.line;
+        scan = p.scan;
+        w = act(mem, given, out, o, w, line);
+    }
+    output::flush(o, w.at);
+}
+
+// The arrays, as slices.
+fn start(
+    mem: &mut [u8; 1048704],
+    given: &mut [u8; 70000],
+    out: &mut [u8; 65600],
+    buf: &mut [u8; 65536],
+    o: &mut [u8; 65536],
+) {
+    run(mem, given, out, buf, o);
+}
+
+fn main() {
+    let mut mem = [0u8; 1048704];
+    let mut given = [0u8; 70000];
+    let mut out = [0u8; 65600];
+    let mut buf = [0u8; 65536];
+    let mut o = [0u8; 65536];
+    start(&mut mem, &mut given, &mut out, &mut buf, &mut o);
+}
