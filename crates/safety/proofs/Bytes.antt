@@ -144,7 +144,7 @@ module _ (g : Group) (c : Call) (cs : List Call) (k x was now v : ℕ) where
       inr (
         0,
         omega arith,
-        record { at = at; bytes = b; took = (ap some p, rw p at a); low = low; high = high; byte = byte ∙ sym e }
+        record { at = at; bytes = b; took = (ap some p, rw p at a); low = low; high = high; byte = byte ∙ sym e },
       )
   stored at b p a low high byte (inr w) = inr (w .0, omega arith, w .2)
 

@@ -53,4 +53,3 @@ placed-inside g s k at b e =
     let r = placeOf (g .N) (linkOf g k) (recordOf g k) at (length b) .reply in
     let says = ap (λ a. a .says) (on-answer g k (place at b) (s .good .sizes) o) in
     place-accepted (g .N) (linkOf g k) (recordOf g k) at (length b) (accepted-is r (sym says ∙ e))
-

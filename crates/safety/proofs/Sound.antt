@@ -280,7 +280,7 @@ module _ (g : Group) (s : Sound g) where
                 left-held = k .kept-held ∙ own-held c b i e t a;
                 others-held = λ j e d. other-held c b i j e t a d;
                 was-open = inl o;
-              }
+              },
             );
         not-3 = k .not-3;
         not-torn = k .not-torn;
@@ -374,7 +374,7 @@ module _ (g : Group) (s : Sound g) where
                 left-held = rw a own;
                 others-held = λ j e d. rw a (other j e d);
                 was-open = o;
-              }
+              },
             );
         not-3 = λ e. clash (cc);
         not-torn = λ e. clash (cc);

@@ -130,14 +130,13 @@ no-stale-bytes g f cs = record { exactly = exactly g f cs; reads = reads g f cs 
 
 -- 5. Nobody else's
 pub nobody-elses : NobodyElses
-nobody-elses =
-    (
-      λ g f cs. own-touched (leaves g cs) (sound-leaves cs g (sound-fresh g f)),
-      λ g₁ g₂ f₁ f₂ cs₁ cs₂ k w q.
-        let s₁ = sound-leaves cs₁ g₁ (sound-fresh g₁ f₁) in
-        let s₂ = sound-leaves cs₂ g₂ (sound-fresh g₂ f₂) in
-        own-seen (leaves g₁ cs₁) (leaves g₂ cs₂) s₁ s₂ k w q
-    )
+nobody-elses = (
+  λ g f cs. own-touched (leaves g cs) (sound-leaves cs g (sound-fresh g f)),
+  λ g₁ g₂ f₁ f₂ cs₁ cs₂ k w q.
+      let s₁ = sound-leaves cs₁ g₁ (sound-fresh g₁ f₁) in
+      let s₂ = sound-leaves cs₂ g₂ (sound-fresh g₂ f₂) in
+      own-seen (leaves g₁ cs₁) (leaves g₂ cs₂) s₁ s₂ k w q,
+)
 
 -- the one-byte sentence
 total-is : (p : Placings) → totalOf (placingList p) ≡ placingsTotal p
