@@ -1,18 +1,17 @@
 // Replays calls on one group: reads a call from each line of the standard input, makes it, and prints its answer. What a line may be and
-// what is printed is fixed by the replay format; what a call answers is the group's alone.
+// what is printed is fixed by the replay format; what a call answers is the group's alone. Lines are parsed by `lines`, answers printed by
+// `answers`, both over the streams of `stream`; a record's numbers are read and printed by `records`.
 //
 // Five buffers are lent throughout: `mem` the receive memory, `given` the bytes of a line, `out` the out buffer of a read, `buf` the
 // input and `o` the output.
-mod answer;
-mod input;
-mod line;
-mod output;
-
 ghost use Prim.Native.Nat.{_≤_};
-use answer::Said;
+use answers::Said;
 use connection::Record;
 use group::Command;
-use line::Line;
+use lines::Line;
+use records::print;
+use stream::input;
+use stream::output;
 use table::Tables;
 
 // The group as the last call left it, its memory aside, of which it has the first `len` bytes; and how far the output buffer is filled.
@@ -103,7 +102,7 @@ fn call(
         made: a.made,
         message: message,
     };
-    let at = answer::answer(o, w.at, command, said, out);
+    let at = answers::answer(o, w.at, command, said, out);
     World {
         s: w.s,
         n: w.n,
@@ -127,7 +126,14 @@ fn lent(
     let len = least(w.len, mem.len());
     let k = least(count, given.len());
     let most = least(room, out.len());
-    call(&mut mem[0..len], &given[0..k], &mut out[0..most], o, w, command)
+    call(
+        &mut mem[0..len],
+        &given[0..k],
+        &mut out[0..most],
+        o,
+        w,
+        command,
+    )
 }
 
 // Lays a record into a slot from 1 to 16.
@@ -149,7 +155,14 @@ fn lay_record(o: &mut [u8; 65536], w: World, slot: usize, c: Record) -> World {
 }
 
 // Lays bytes into the memory from byte `at` on, where they lie within it.
-fn poke(mem: &mut [u8], given: &[u8], o: &mut [u8; 65536], w: World, at: usize, count: usize) -> World {
+fn poke(
+    mem: &mut [u8],
+    given: &[u8],
+    o: &mut [u8; 65536],
+    w: World,
+    at: usize,
+    count: usize,
+) -> World {
     let len = least(w.len, mem.len());
     let k = least(count, given.len());
     if at <= len {
@@ -169,7 +182,7 @@ fn memory(mem: &[u8], o: &mut [u8; 65536], w: World, at: usize, count: usize) ->
     if at <= len {
         if count <= len - at {
             let end = at + count;
-            let to = answer::memory(o, w.at, &mem[at..end]);
+            let to = answers::memory(o, w.at, &mem[at..end]);
             return filled_to(w, to);
         }
     }
@@ -178,8 +191,21 @@ fn memory(mem: &[u8], o: &mut [u8; 65536], w: World, at: usize, count: usize) ->
 
 fn table(o: &mut [u8; 65536], w: World) -> World {
     let t = w.tables;
-    let at = answer::tables(o, w.at, t);
+    let at = print::tables(o, w.at, t);
     filled_to(w, at)
+}
+
+// The lines that are no calls.
+fn aside(mem: &mut [u8], given: &[u8], o: &mut [u8; 65536], w: World, line: Line) -> World {
+    match line {
+        Line::Group(s, n, len) => start_over(mem, o, w, s, n, len),
+        Line::Record(slot, c) => lay_record(o, w, slot, c),
+        Line::Poke(at, count) => poke(mem, given, o, w, at, count),
+        Line::Table => table(o, w),
+        Line::Memory(at, count) => memory(mem, o, w, at, count),
+        Line::Skipped => w,
+        _ => bad(o, w),
+    }
 }
 
 fn act(
@@ -191,14 +217,8 @@ fn act(
     line: Line,
 ) -> World {
     match line {
-        Line::Skipped => w,
-        Line::Bad => bad(o, w),
-        Line::Group(s, n, len) => start_over(mem, o, w, s, n, len),
         Line::Call(command, count, room) => lent(mem, given, out, o, w, command, count, room),
-        Line::Record(slot, c) => lay_record(o, w, slot, c),
-        Line::Poke(at, count) => poke(mem, given, o, w, at, count),
-        Line::Table => table(o, w),
-        Line::Memory(at, count) => memory(mem, o, w, at, count),
+        _ => aside(mem, given, o, w, line),
     }
 }
 
@@ -212,7 +232,7 @@ fn run(
     let mut w = fresh(1, 8, 8, 0); // as if after `group 1 8 8`
     let mut scan = input::begin(buf);
     while 0 < scan.left {
-        let p = line::parse(buf, given, scan);
+        let p = lines::parse(buf, given, scan);
         let line = p.line;
         scan = p.scan;
         w = act(mem, given, out, o, w, line);

@@ -1,0 +1,180 @@
+// The numbers of a `record` line.
+ghost use Prim.Native.Nat.{_≤_};
+use closing::Marks;
+use closing::Side;
+use connection::Identity;
+use connection::Inbound;
+use connection::Outbound;
+use connection::Record;
+use cursor::Cursor;
+use stream::input;
+use stream::input::Scan;
+
+// A slot, and what to lay there.
+pub struct Laid {
+    pub scan: Scan,
+    pub slot: usize,
+    pub record: Record,
+}
+
+struct At {
+    scan: Scan,
+    cursor: Cursor,
+}
+
+struct Who {
+    scan: Scan,
+    id: Identity,
+    size: u32,
+}
+
+struct Cursors {
+    scan: Scan,
+    p: Cursor,
+    c: Cursor,
+    t: Cursor,
+    q: Cursor,
+    r: Cursor,
+}
+
+const MOST: u32 = 4294967295;
+
+// An offset and a wrap number.
+fn cursor_of(buf: &mut [u8; 65536], c: Scan) -> At
+    ensures { λ r. ⌜ r .scan .left ≤ c .left ⌝ }
+{
+    let offset = input::number(buf, c, MOST);
+    let wrap = input::number(buf, offset.scan, 65535);
+    let k = Cursor {
+        offset: offset.value,
+        wrap: wrap.value as u16,
+    };
+    let scan = wrap.scan;
+    At {
+        scan: scan,
+        cursor: k,
+    }
+}
+
+// OPEN OWN PEER LINK SIZE
+fn who_of(buf: &mut [u8; 65536], c: Scan) -> Who
+    ensures { λ r. ⌜ r .scan .left ≤ c .left ⌝ }
+{
+    let opened = input::number(buf, c, 1);
+    let own = input::number(buf, opened.scan, MOST);
+    let peer = input::number(buf, own.scan, MOST);
+    let link = input::number(buf, peer.scan, 255);
+    let size = input::number(buf, link.scan, MOST);
+    let id = Identity {
+        opened: opened.value == 1,
+        own: own.value,
+        peer: peer.value,
+        link: link.value as u8,
+    };
+    let scan = size.scan;
+    Who {
+        scan: scan,
+        id: id,
+        size: size.value,
+    }
+}
+
+// The five cursors, in the order P C T Q R.
+fn cursors_of(buf: &mut [u8; 65536], c: Scan) -> Cursors
+    ensures { λ r. ⌜ r .scan .left ≤ c .left ⌝ }
+{
+    let producer = cursor_of(buf, c);
+    let consumer = cursor_of(buf, producer.scan);
+    let told = cursor_of(buf, consumer.scan);
+    let ours = cursor_of(buf, told.scan);
+    let theirs = cursor_of(buf, ours.scan);
+    let p = producer.cursor;
+    let k = consumer.cursor;
+    let t = told.cursor;
+    let q = ours.cursor;
+    let r = theirs.cursor;
+    let scan = theirs.scan;
+    Cursors {
+        scan: scan,
+        p: p,
+        c: k,
+        t: t,
+        q: q,
+        r: r,
+    }
+}
+
+// Whether the mark of this weight is in the sum.
+fn mark(marks: u32, weight: u32) -> bool {
+    if weight == 0 {
+        return false;
+    }
+    marks / weight % 2 == 1
+}
+
+fn marks_of(marks: u32) -> Marks {
+    let sent = Side {
+        done: mark(marks, 1),
+        closed: mark(marks, 2),
+    };
+    let heard = Side {
+        done: mark(marks, 4),
+        closed: mark(marks, 8),
+    };
+    Marks {
+        sent: sent,
+        heard: heard,
+        first: mark(marks, 16),
+        abort: mark(marks, 32),
+    }
+}
+
+fn record_of(h: Who, k: Cursors, next: u16, last: u16, marks: u32) -> Record {
+    let id = h.id;
+    let p = k.p;
+    let c = k.c;
+    let t = k.t;
+    let q = k.q;
+    let r = k.r;
+    let inbound = Inbound {
+        producer: p,
+        consumer: c,
+        told: t,
+        last: last,
+        blocked: mark(marks, 128),
+        request: mark(marks, 256),
+    };
+    let outbound = Outbound {
+        size: h.size,
+        producer: q,
+        consumer: r,
+        next: next,
+        blocked: mark(marks, 64),
+    };
+    let m = marks_of(marks);
+    Record {
+        id: id,
+        inbound: inbound,
+        outbound: outbound,
+        marks: m,
+    }
+}
+
+// The line's numbers, in their order.
+pub fn record(buf: &mut [u8; 65536], c: Scan) -> Laid
+    ensures { λ r. ⌜ (r .scan .left ≤ c .left) × (r .slot ≤ 16) ⌝ }
+{
+    let slot = input::number(buf, c, 16);
+    let h = who_of(buf, slot.scan);
+    let k = cursors_of(buf, h.scan);
+    let next = input::number(buf, k.scan, 65535);
+    let last = input::number(buf, next.scan, 65535);
+    let marks = input::number(buf, last.scan, 511);
+    let r = record_of(h, k, next.value as u16, last.value as u16, marks.value);
+    let scan = marks.scan;
+    Laid {
+        scan: scan,
+        slot: slot.value as usize,
+        record: r,
+    }
+}

@@ -1,0 +1,295 @@
+// The input as a stream with one byte of lookahead, and what a line is made of: spaces, words, numbers, bytes.
+ghost use Prim.Native.Nat.{_-_, _≤_};
+ghost use lib.ListN.{length};
+use libc::STDIN_FILENO;
+
+// `byte` is the next byte, not yet taken; at the end of the input it is a line feed. `left` bounds how many bytes may still come, this
+// one among them, and is 0 at the end: it starts at a number that no run uses up, so that every loop over the stream is seen to end.
+// `at` and `end` say which bytes of the buffer come next. `good`: what was taken of the line so far parses.
+pub struct Scan {
+    pub byte: u8,
+    pub left: u64,
+    pub at: usize,
+    pub end: usize,
+    pub good: bool,
+}
+
+pub struct Decimal {
+    pub scan: Scan,
+    pub value: u32,
+}
+
+// `count` bytes from the start of the buffer that they were put into.
+pub struct Run {
+    pub scan: Scan,
+    pub count: usize,
+}
+
+struct Figures {
+    scan: Scan,
+    value: u64,
+}
+
+struct Pair {
+    scan: Scan,
+    byte: u8,
+}
+
+fn less(x: u64) -> u64
+    ensures { λ r. ⌜ r ≤ x - 1 ⌝ }
+{
+    if 0 < x { x - 1 } else { 0 }
+}
+
+// Reads once more: the first of what came is the next byte.
+fn refilled(buf: &mut [u8; 65536], c: Scan) -> Scan
+    ensures { λ r. ⌜ r .left ≤ c .left - 1 ⌝ }
+{
+    let got = libc::read(STDIN_FILENO, buf);
+    let end = io::count(got, buf);
+    let left = less(c.left);
+    if end == 0 {
+        return Scan {
+            byte: b'\n',
+            left: 0,
+            at: 0,
+            end: 0,
+            good: c.good,
+        };
+    }
+    Scan {
+        byte: buf[0],
+        left: left,
+        at: 1,
+        end: end,
+        good: c.good,
+    }
+}
+
+// Takes the next byte.
+pub fn next(buf: &mut [u8; 65536], c: Scan) -> Scan
+    ensures { λ r. ⌜ r .left ≤ c .left - 1 ⌝ }
+{
+    let at = c.at;
+    let left = less(c.left);
+    if left == 0 {
+        return Scan {
+            byte: b'\n',
+            left: 0,
+            at: 0,
+            end: 0,
+            good: c.good,
+        };
+    }
+    if at < c.end {
+        if at < 65536 {
+            return Scan {
+                byte: buf[at],
+                left: left,
+                at: at + 1,
+                end: c.end,
+                good: c.good,
+            };
+        }
+    }
+    refilled(buf, c)
+}
+
+// The first byte of the input.
+pub fn begin(buf: &mut [u8; 65536]) -> Scan
+    ensures { λ r. ⌜ r .left ≤ 18446744073709551614 ⌝ }
+{
+    let c = Scan {
+        byte: b'\n',
+        left: u64::MAX,
+        at: 0,
+        end: 0,
+        good: true,
+    };
+    next(buf, c)
+}
+
+// The line does not parse.
+pub fn spoilt(c: Scan) -> Scan
+    ensures { λ r. ⌜ r .left ≤ c .left ⌝ }
+{
+    let mut d = c;
+    d.good = false;
+    d
+}
+
+// Takes the byte that is wanted next.
+fn taken(buf: &mut [u8; 65536], c: Scan, byte: u8) -> Scan
+    ensures { λ r. ⌜ r .left ≤ c .left ⌝ }
+{
+    if c.byte == byte {
+        next(buf, c)
+    } else {
+        spoilt(c)
+    }
+}
+
+fn is_digit(b: u8) -> bool {
+    (b'0' <= b) & (b <= b'9')
+}
+
+fn is_letter(b: u8) -> bool {
+    (b'a' <= b) & (b <= b'z')
+}
+
+// One more decimal digit. A number past 32 bits stays past them.
+fn longer(value: u64, digit: u8) -> u64 {
+    if value <= 4294967295 {
+        if b'0' <= digit {
+            return value * 10 + ((digit - b'0') as u64);
+        }
+    }
+    value
+}
+
+fn digits(buf: &mut [u8; 65536], c: Scan) -> Figures
+    ensures { λ r. ⌜ r .scan .left ≤ c .left ⌝ }
+{
+    let mut scan = c;
+    let mut value: u64 = 0;
+    while 0 < scan.left && is_digit(scan.byte) {
+        value = longer(value, scan.byte);
+        scan = next(buf, scan);
+    }
+    Figures {
+        scan: scan,
+        value: value,
+    }
+}
+
+// A space and a decimal number up to `most`; 0 where the line does not parse.
+pub fn number(buf: &mut [u8; 65536], c: Scan, most: u32) -> Decimal
+    ensures { λ r. ⌜ (r .scan .left ≤ c .left) × (r .value ≤ most) ⌝ }
+{
+    let start = taken(buf, c, b' ');
+    let some = is_digit(start.byte);
+    let d = digits(buf, start);
+    let scan = d.scan;
+    if some {
+        if d.value <= most as u64 {
+            return Decimal {
+                scan: scan,
+                value: d.value as u32,
+            };
+        }
+    }
+    let bad = spoilt(scan);
+    Decimal {
+        scan: bad,
+        value: 0,
+    }
+}
+
+// A hexadecimal digit's value; 16 for any other byte.
+fn nibble(b: u8) -> u8
+    ensures { λ r. ⌜ r ≤ 16 ⌝ }
+{
+    if b < b'0' {
+        return 16;
+    }
+    if b <= b'9' {
+        return b - b'0';
+    }
+    if b < b'A' {
+        return 16;
+    }
+    if b <= b'F' {
+        return b - b'A' + 10;
+    }
+    16
+}
+
+// Two hexadecimal digits.
+fn octet(buf: &mut [u8; 65536], c: Scan) -> Pair
+    ensures { λ r. ⌜ r .scan .left ≤ c .left - 1 ⌝ }
+{
+    let high = nibble(c.byte);
+    let second = next(buf, c);
+    let low = nibble(second.byte);
+    if high < 16 {
+        if low < 16 {
+            let after = next(buf, second);
+            return Pair {
+                scan: after,
+                byte: high * 16 + low,
+            };
+        }
+    }
+    let bad = spoilt(second);
+    Pair { scan: bad, byte: 0 }
+}
+
+// As many bytes as there are, or as `to` has room for: digits that are left over are not the line's end.
+fn octets(buf: &mut [u8; 65536], to: &mut [u8], c: Scan) -> Run
+    ensures { λ r. ⌜ (r .scan .left ≤ c .left) × (r .count ≤ length (now (to .entry))) ⌝ }
+{
+    let mut scan = c;
+    let mut k: usize = 0;
+    while 0 < scan.left && k < to.len() && nibble(scan.byte) < 16 {
+        let o = octet(buf, scan);
+        to[k] = o.byte;
+        k += 1;
+        scan = o.scan;
+    }
+    Run {
+        scan: scan,
+        count: k,
+    }
+}
+
+// A space and bytes in hexadecimal, `-` for none.
+pub fn bytes(buf: &mut [u8; 65536], to: &mut [u8], c: Scan) -> Run
+    ensures { λ r. ⌜ (r .scan .left ≤ c .left) × (r .count ≤ length (now (to .entry))) ⌝ }
+{
+    let start = taken(buf, c, b' ');
+    if start.byte == b'-' {
+        let after = next(buf, start);
+        return Run {
+            scan: after,
+            count: 0,
+        };
+    }
+    if nibble(start.byte) < 16 {
+        octets(buf, to, start)
+    } else {
+        let bad = spoilt(start);
+        Run {
+            scan: bad,
+            count: 0,
+        }
+    }
+}
+
+// A word of small letters, as far as `to` has room: letters that are left over are neither a space nor the line's end.
+pub fn word(buf: &mut [u8; 65536], to: &mut [u8; 8], c: Scan) -> Run
+    ensures { λ r. ⌜ (r .scan .left ≤ c .left) × (r .count ≤ 8) ⌝ }
+{
+    let mut scan = c;
+    let mut k: usize = 0;
+    while 0 < scan.left && k < 8 && is_letter(scan.byte) {
+        to[k] = scan.byte;
+        k += 1;
+        scan = next(buf, scan);
+    }
+    Run {
+        scan: scan,
+        count: k,
+    }
+}
+
+// The start of the next line.
+pub fn next_line(buf: &mut [u8; 65536], c: Scan) -> Scan
+    ensures { λ r. ⌜ r .left ≤ c .left - 1 ⌝ }
+{
+    let mut scan = c;
+    while 0 < scan.left && scan.byte != b'\n' {
+        scan = next(buf, scan);
+    }
+    scan.good = true;
+    next(buf, scan)
+}
