@@ -122,7 +122,7 @@ fn refused(o: &mut [u8; 65536], at: usize, command: Command, k: u8, out: &[u8]) 
 }
 
 // The answer of `place` and of the desk calls, which make no message, but for the link message's reply.
-fn desk_accepted(o: &mut [u8; 65536], at: usize, command: Command, said: Said) -> usize
+fn management_accepted(o: &mut [u8; 65536], at: usize, command: Command, said: Said) -> usize
     ensures { λ r. ⌜ r ≤ 65536 ⌝ }
 {
     match command {
@@ -145,7 +145,7 @@ fn accepted(o: &mut [u8; 65536], at: usize, command: Command, said: Said) -> usi
         Command::Shutdown(_) => with_message(o, at, b"shutdown message ", said),
         Command::Close(_) => with_message(o, at, b"close message ", said),
         Command::Abort(_) => with_message(o, at, b"abort message ", said),
-        _ => desk_accepted(o, at, command, said),
+        _ => management_accepted(o, at, command, said),
     }
 }
 

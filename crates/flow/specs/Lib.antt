@@ -1,2 +1,2 @@
 pub mod Flow
-pub mod Soundings
+pub mod Vectors

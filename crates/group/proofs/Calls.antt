@@ -29,7 +29,7 @@ use Rattle.finish.specs.Finish.{shutdownOf, closeOf, abortOf}
 use Rattle.table.specs.declared.Tables.{Tables}
 use Rattle.table.specs.declared.Answered.{Answered}
 use Rattle.table.specs.Table.{sizesB, slotB, recordAt, openB, activeB, findFrom, setRecord, setLink, refusedBy, putBy}
-use Rattle.table.specs.Rules.{Group, Request, Call, Desk, Done, Did, groupOf, answerOf, does, turnOf, putTurn, requestTurn, hearTurn, refuses, onDoes, hearAt, hearMessage, hearDoes, holderOf, openRefusal, openDoes, openedRecord, freeRefusal, freeDoes, linkIn, linkDoes, linkAnswer, linkMessageDoes, outOf, placedIn, readInto, recordOf, elementIn, linkOf, plain}
+use Rattle.table.specs.Rules.{Group, Request, Call, Management, Done, Did, groupOf, answerOf, does, turnOf, putTurn, requestTurn, hearTurn, refuses, onDoes, hearAt, hearMessage, hearDoes, holderOf, openRefusal, openDoes, openedRecord, freeRefusal, freeDoes, linkIn, linkDoes, linkAnswer, linkMessageDoes, outOf, placedIn, readInto, recordOf, elementIn, linkOf, plain}
 use Rattle.table.proofs.Laws.{sizes-facts, open-facts, find-slot}
 use Rattle.group.specs.Group.{foundOf, baseIn, acceptedB, countOf, heardAt, heardBy, plainBy, repliedBy, callOf, outLeft, OutKept}
 use Rattle.group.specs.declared.Command.{Command}
@@ -295,7 +295,7 @@ module _ (s n : ℕ) (t : Tables) (m : List ℕ) where
 
   module _ (k own peer link size j : ℕ) (f : j ≡ openRefusal g k own peer link size) where
     abbrev opening : Call
-    opening = Call.desk (Desk.openSlot k own peer link size)
+    opening = Call.manage (Management.openSlot k own peer link size)
 
     pub open-refused : (a : Answered) → (j ≡ 0 → ⊥) → a ≡ refusedBy j t → Did g opening (answerOf a []) (groupOf s n (a .tables) m)
     unfolding openDoes
@@ -336,7 +336,7 @@ module _ (s n : ℕ) (t : Tables) (m : List ℕ) where
 
   module _ (k j : ℕ) (f : j ≡ freeRefusal g k) where
     abbrev freeing : Call
-    freeing = Call.desk (Desk.freeSlot k)
+    freeing = Call.manage (Management.freeSlot k)
 
     pub free-refused : (a : Answered) → (j ≡ 0 → ⊥) → a ≡ refusedBy j t → Did g freeing (answerOf a []) (groupOf s n (a .tables) m)
     unfolding freeDoes
@@ -361,7 +361,7 @@ module _ (s n : ℕ) (t : Tables) (m : List ℕ) where
     change-does up h = simp h
 
     pub change-did : (up : Bool) (u : Tables) (a : Answered) → linkIn l ≡ true → u ≡ setLink t l up → a ≡ plainBy u
-        → Did g (Call.desk (Desk.linkChange l up)) (answerOf a []) (groupOf s n (a .tables) m)
+        → Did g (Call.manage (Management.linkChange l up)) (answerOf a []) (groupOf s n (a .tables) m)
     unfolding plainBy
     change-did up u a h q p =
         record {
@@ -373,14 +373,14 @@ module _ (s n : ℕ) (t : Tables) (m : List ℕ) where
         }
 
     pub change-refused : (up : Bool) (a : Answered) → linkIn l ≡ false → a ≡ refusedBy 13 t
-        → Did g (Call.desk (Desk.linkChange l up)) (answerOf a []) (groupOf s n (a .tables) m)
+        → Did g (Call.manage (Management.linkChange l up)) (answerOf a []) (groupOf s n (a .tables) m)
     unfolding linkDoes
-    change-refused up a h p = refused (Call.desk (Desk.linkChange l up)) [] 13 a (simp h) p
+    change-refused up a h p = refused (Call.manage (Management.linkChange l up)) [] 13 a (simp h) p
 
     -- LINK MESSAGE
     module _ (b : List ℕ) (a : Answered) where
       abbrev message : Call
-      message = Call.desk (Desk.linkMessage l b)
+      message = Call.manage (Management.linkMessage l b)
 
       pub message-nowhere : linkIn l ≡ false → a ≡ refusedBy 13 t → Did g message (answerOf a []) (groupOf s n (a .tables) m)
       unfolding linkMessageDoes

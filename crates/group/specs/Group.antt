@@ -14,7 +14,7 @@ use Rattle.hear.specs.Hear.{hearOf}
 use Rattle.table.specs.declared.Tables.{Tables}
 use Rattle.table.specs.declared.Answered.{Answered}
 use Rattle.table.specs.Table.{sizesB, recordAt, openB, activeB, findFrom, refusedBy, putBy}
-use Rattle.table.specs.Rules.{Request, Desk, Call}
+use Rattle.table.specs.Rules.{Request, Management, Call}
 use Rattle.table.specs.Rules as Rules
 use Rattle.group.specs.declared.Command.{Command}
 use Rattle.group.specs.declared.Command.the-variants as Commands
@@ -66,10 +66,10 @@ callOf Commands.Hear b out = Call.hear b
 callOf (Commands.Shutdown k) b out = Call.on k Request.shutdown
 callOf (Commands.Close k) b out = Call.on k Request.close
 callOf (Commands.Abort k) b out = Call.on k Request.abort
-callOf (Commands.Open k own peer link size) b out = Call.desk (Desk.openSlot k own peer link size)
-callOf (Commands.Free k) b out = Call.desk (Desk.freeSlot k)
-callOf (Commands.LinkChange l up) b out = Call.desk (Desk.linkChange l up)
-callOf (Commands.LinkMessage l) b out = Call.desk (Desk.linkMessage l b)
+callOf (Commands.Open k own peer link size) b out = Call.manage (Management.openSlot k own peer link size)
+callOf (Commands.Free k) b out = Call.manage (Management.freeSlot k)
+callOf (Commands.LinkChange l up) b out = Call.manage (Management.linkChange l up)
+callOf (Commands.LinkMessage l) b out = Call.manage (Management.linkMessage l b)
 
 -- the out buffer is a read's alone
 abbrev pub outLeft : Command → List ℕ → List ℕ

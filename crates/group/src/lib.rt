@@ -2,7 +2,7 @@
 // what its line names, and the message's bytes. `Did` says that the answer and what is left are what the rules say.
 ghost use mathlib.Core.Path.{_≡_};
 ghost use mathlib.Core.List.{[]};
-ghost use Rattle.table.specs.Rules.{Did, groupOf, answerOf, Call, Request, Desk, openRefusal, freeRefusal, openedRecord};
+ghost use Rattle.table.specs.Rules.{Did, groupOf, answerOf, Call, Request, Management, openRefusal, freeRefusal, openedRecord};
 ghost use Rattle.group.specs.Group.{foundOf, acceptedB, countOf, baseIn, heardBy, plainBy, repliedBy, callOf, outLeft, OutKept};
 use cdc::Decoded;
 use cdc::Message;
@@ -305,7 +305,7 @@ pub fn open(
     link: u8,
     size: u32,
 ) -> Answered
-    ensures { λ r. ⌜ Did (groupOf s n t (now (mem .entry))) (Call.desk (Desk.openSlot slot own peer link size)) (answerOf r []) (groupOf s n (r .tables) (now (mem .exit))) ⌝ }
+    ensures { λ r. ⌜ Did (groupOf s n t (now (mem .entry))) (Call.manage (Management.openSlot slot own peer link size)) (answerOf r []) (groupOf s n (r .tables) (now (mem .exit))) ⌝ }
 {
     let no = open_refusal(s, n, mem, t, slot, own, peer, link, size);
     if no != 0 {
@@ -337,7 +337,7 @@ fn free_refusal(s: u32, n: u32, mem: &[u8], t: Tables, slot: u32) -> u8
 }
 
 pub fn free(s: u32, n: u32, mem: &[u8], t: Tables, slot: u32) -> Answered
-    ensures { λ r. ⌜ Did (groupOf s n t (now (mem .entry))) (Call.desk (Desk.freeSlot slot)) (answerOf r []) (groupOf s n (r .tables) (now (mem .entry))) ⌝ }
+    ensures { λ r. ⌜ Did (groupOf s n t (now (mem .entry))) (Call.manage (Management.freeSlot slot)) (answerOf r []) (groupOf s n (r .tables) (now (mem .entry))) ⌝ }
 {
     let no = free_refusal(s, n, mem, t, slot);
     if no != 0 {
@@ -349,7 +349,7 @@ pub fn free(s: u32, n: u32, mem: &[u8], t: Tables, slot: u32) -> Answered
 }
 
 pub fn link_change(s: u32, n: u32, mem: &[u8], t: Tables, link: u8, up: bool) -> Answered
-    ensures { λ r. ⌜ Did (groupOf s n t (now (mem .entry))) (Call.desk (Desk.linkChange link up)) (answerOf r []) (groupOf s n (r .tables) (now (mem .entry))) ⌝ }
+    ensures { λ r. ⌜ Did (groupOf s n t (now (mem .entry))) (Call.manage (Management.linkChange link up)) (answerOf r []) (groupOf s n (r .tables) (now (mem .entry))) ⌝ }
 {
     let ok = (1 <= link) & (link <= 4);
     if ok {
@@ -373,7 +373,7 @@ fn replied(reply: [u8; 44], t: Tables) -> Answered
 }
 
 pub fn link_message(s: u32, n: u32, mem: &[u8], t: Tables, link: u8, bytes: &[u8]) -> Answered
-    ensures { λ r. ⌜ Did (groupOf s n t (now (mem .entry))) (Call.desk (Desk.linkMessage link (now (bytes .entry)))) (answerOf r []) (groupOf s n (r .tables) (now (mem .entry))) ⌝ }
+    ensures { λ r. ⌜ Did (groupOf s n t (now (mem .entry))) (Call.manage (Management.linkMessage link (now (bytes .entry)))) (answerOf r []) (groupOf s n (r .tables) (now (mem .entry))) ⌝ }
 {
     if !((1 <= link) & (link <= 4)) {
         return table::refuse(13, t);

@@ -95,7 +95,7 @@ fn call_verb(letters: &[u8; 8], count: usize) -> Verb
 }
 
 // The verbs of the desk calls.
-fn desk_verb(letters: &[u8; 8], count: usize) -> Verb
+fn management_verb(letters: &[u8; 8], count: usize) -> Verb
     requires { ⌜ count ≤ 8 ⌝ }
 {
     if is(letters, count, b"open") {
@@ -131,7 +131,7 @@ fn verb_of(letters: &[u8; 8], count: usize) -> Verb
     if is(letters, count, b"memory") {
         return Verb::Memory;
     }
-    desk_verb(letters, count)
+    management_verb(letters, count)
 }
 
 // The line, where what was taken parses and nothing is left of it.

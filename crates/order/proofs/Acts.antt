@@ -15,7 +15,7 @@ use Rattle.cdc.specs.Cdc.{decodeOf}
 use Rattle.connection.specs.declared.Record.{Record}
 use Rattle.connection.specs.Connection.{zeroRecord, noMessage}
 use Rattle.table.specs.Table.{slotB, recordAt, openB, activeB, findFrom}
-use Rattle.table.specs.Rules.{Group, Request, Call, on, hear, desk, refusal, Answer, Turn, Done, does, answer, next, refuses, outOf, sizesOk, recordOf, elementIn, linkOf, putTurn, onDoes, hearDoes, hearMessage, hearAt, holderOf}
+use Rattle.table.specs.Rules.{Group, Request, Call, on, hear, manage, refusal, Answer, Turn, Done, does, answer, next, refuses, outOf, sizesOk, recordOf, elementIn, linkOf, putTurn, onDoes, hearDoes, hearMessage, hearAt, holderOf}
 use Rattle.order.specs.Statement.{hearer, ActsOn, SameSlot, Agree, WhoSeesWhat}
 use Rattle.order.proofs.Records.{Left, turnBy, left-by, long-by}
 use Rattle.order.proofs.Slots.{no-slot, open-in, open-there, found-open, open-found, sizes-in, element-long, Put, put}
@@ -24,13 +24,13 @@ use Rattle.order.proofs.Slots.{no-slot, open-in, open-there, found-open
 abbrev pub Conn : Call → Type 0
 Conn (on s q) = Unit {0}
 Conn (hear b) = Unit {0}
-Conn (desk d) = ⊥
+Conn (manage d) = ⊥
 
 -- the slot on which a connection call acts; 0: none, and it is refused
 abbrev pub target : Group → Call → ℕ
 target g (on k q) = cond (openB (g .S) (g .table) k) k 0
 target g (hear b) = hearer g (decodeOf b)
-target g (desk d) = 0
+target g (manage d) = 0
 
 -- the refusal's number there
 abbrev heardNumber : Decoded → ℕ
@@ -40,12 +40,12 @@ heardNumber Malformed = 4
 abbrev numberBy : Call → ℕ
 numberBy (on s q) = 2
 numberBy (hear b) = heardNumber (decodeOf b)
-numberBy (desk d) = 0
+numberBy (manage d) = 0
 
 abbrev outBy : Call → List ℕ
 outBy (on s q) = outOf q
 outBy (hear b) = []
-outBy (desk d) = []
+outBy (manage d) = []
 
 abbrev pub refusalBy : Call → Answer
 refusalBy c = record { says = refusal (numberBy c); made = false; message = noMessage; out = outBy c }
@@ -76,13 +76,13 @@ pub acts : (g : Group) (c : Call) → Conn c → sizesOk g ≡ true → does g c
 unfolding onDoes hearDoes
 acts g (on k q) t h = rw h (on-acts g k q (openB (g .S) (g .table) k) refl)
 acts g (hear b) t h = rw h (hear-acts g b (decodeOf b) refl)
-acts g (desk d) t h = absurd t
+acts g (manage d) t h = absurd t
 
 wrong-sizes : (g : Group) (c : Call) → Conn c → sizesOk g ≡ false → does g c ≡ refuses g 1 (outBy c)
 unfolding onDoes hearDoes
 wrong-sizes g (on k q) t h = rw h
 wrong-sizes g (hear b) t h = rw h
-wrong-sizes g (desk d) t h = absurd t
+wrong-sizes g (manage d) t h = absurd t
 
 -- WHAT A CALL IS MEANT FOR. The slot k, if that is open with the own token t
 abbrev pub Names : Decoded → ℕ → Type 0
@@ -96,7 +96,7 @@ names-one Malformed t u p q = absurd p
 abbrev pub Aims : Call → ℕ → ℕ → Type 0
 Aims (on s q) k t = s ≡ k
 Aims (hear b) k t = Names (decodeOf b) t
-Aims (desk d) k t = ⊥
+Aims (manage d) k t = ⊥
 
 abbrev pub OpenAt : Group → ℕ → Type 0
 OpenAt g k = openB (g .S) (g .table) k ≡ true
@@ -121,7 +121,7 @@ target-open g (hear b) i e = go (decodeOf b) e
     go : (d : Decoded) → hearer g d ≡ suc i → OpenAt g (suc i) × Names d (ownOf g (suc i))
     go (Good m) p = by m (eqb (m .token) 0) refl p
     go Malformed p = absurd (omega (arith, p))
-target-open g (desk d) i e = absurd (omega (arith, e))
+target-open g (manage d) i e = absurd (omega (arith, e))
 
 -- and on some slot if there is one
 pub target-found : (g : Group) (c : Call) (i : ℕ) → OpenAt g (suc i) → Aims c (suc i) (ownOf g (suc i)) → (j : ℕ) × (target g c ≡ suc j)
@@ -131,7 +131,7 @@ target-found g (hear b) i o a = go (decodeOf b) a
     go : (d : Decoded) → Names d (ownOf g (suc i)) → (j : ℕ) × (hearer g d ≡ suc j)
     go (Good m) p = let w = open-found (g .S) (g .table) i o in (w .0, rw (p .0, ← (p .1)) (w .1))
     go Malformed p = absurd p
-target-found g (desk d) i o a = absurd a
+target-found g (manage d) i o a = absurd a
 
 -- ONE TURN, of an open slot in a group whose sizes are right.
 module _ (g : Group) (c : Call) (i : ℕ) (sizes : sizesOk g ≡ true) (o : OpenAt g (suc i)) where
@@ -157,18 +157,18 @@ module _ (g : Group) (c : Call) (i : ℕ) (sizes : sizesOk g ≡ true) (o : Open
 acts-conn : (g : Group) (c : Call) (k : ℕ) → ActsOn g c k → Conn c
 acts-conn g (on s q) k a = tt
 acts-conn g (hear b) k a = tt
-acts-conn g (desk d) k a = absurd a
+acts-conn g (manage d) k a = absurd a
 
 pub acts-on : (g : Group) (c : Call) (i : ℕ) → target g c ≡ suc i → ActsOn g c (suc i)
 acts-on g (on s q) i e = (target-open g (on s q) i e) .1
 acts-on g (hear b) i e = e
-acts-on g (desk d) i e = absurd (omega (arith, e))
+acts-on g (manage d) i e = absurd (omega (arith, e))
 
 -- no call acts on another slot
 acts-at : (g : Group) (c : Call) (k i : ℕ) → ActsOn g c k → target g c ≡ suc i → k ≡ suc i
 acts-at g (on s q) k i a e = sym a ∙ (target-open g (on s q) i e) .1
 acts-at g (hear b) k i a e = sym a ∙ e
-acts-at g (desk d) k i a e = absurd a
+acts-at g (manage d) k i a e = absurd a
 
 -- what the call did in two groups: equal answers, and the groups still agree
 abbrev Alike : ℕ → Done → Done → Type 0
@@ -189,7 +189,7 @@ module _ (g h : Group) (k : ℕ) (n : Agree g h k) where
   same-target : (c : Call) → ActsOn g c k → ActsOn h c k → target g c ≡ target h c
   same-target (on s q) a b = rw (a, same-open)
   same-target (hear x) a b = a ∙ sym b
-  same-target (desk d) a b = absurd a
+  same-target (manage d) a b = absurd a
 
   refused : (x : ℕ) (out : List ℕ) → Alike k (refuses g x out) (refuses h x out)
   unfolding refuses

@@ -14,8 +14,8 @@ use Rattle.connection.specs.declared.Record.{Record}
 use Rattle.connection.specs.Connection.{zeroRecord}
 use Rattle.element.specs.Element.{elementOf}
 use Rattle.table.specs.Table.{slotB, recordAt, openB, activeB}
-use Rattle.table.specs.Rules.{Group, Call, on, hear, desk, Done, answer, next, refuses, sizesOk, recordOf, elementIn, putTurn, Fresh}
-use Rattle.order.specs.Statement.{the-desk, connection, nobody, connectionAt, ownerOf, SameSlot, Agree}
+use Rattle.table.specs.Rules.{Group, Call, on, hear, manage, Done, answer, next, refuses, sizesOk, recordOf, elementIn, putTurn, Fresh}
+use Rattle.order.specs.Statement.{the-manager, connection, nobody, connectionAt, ownerOf, SameSlot, Agree}
 use Rattle.order.proofs.Records.{Left}
 use Rattle.order.proofs.Slots.{no-slot, open-in, open-is, same-memory, sizes-in, Put}
 use Rattle.order.proofs.Acts.{Conn, target, refusalBy, turnAt, actAt, acts, Aims, names-one, OpenAt, ownOf, target-open, target-found, whole, turned, turn-left, acts-on, same-open, sees-what}
@@ -139,7 +139,7 @@ module _ (b g : Group) (n : Near b g) where
       one : (c : Call) (i j : ℕ) → OpenAt b (suc i) → OpenAt b (suc j) → Aims c (suc i) (ownOf b (suc i)) → Aims c (suc j) (ownOf b (suc j)) → i ≡ j
       one (on s q) i j o p x y = omega (arith, x, y)
       one (hear m) i j o p x y = n .good .apart i j o p (names-one (decodeOf m) (ownOf b (suc i)) (ownOf b (suc j)) x y)
-      one (desk d) i j o p x y = absurd x
+      one (manage d) i j o p x y = absurd x
 
   -- .. and where it would have acted then it acts now, unless the slot was closed since
   pub target-now : (c : Call) (i : ℕ) → target b c ≡ suc i → OpenAt g (suc i) → target g c ≡ suc i
@@ -172,7 +172,7 @@ owner-target b (on k q) t = go k (openB (b .S) (b .table) k) refl
     go (suc i) true e = refl
     go k false e = refl
 owner-target b (hear m) t = refl
-owner-target b (desk d) t = absurd t
+owner-target b (manage d) t = absurd t
 
 pub owner-at : (b : Group) (c : Call) (k : ℕ) → Conn c → ownerOf b c ≡ connection k → (i : ℕ) × (k ≡ suc i) × (target b c ≡ suc i)
 owner-at b c k t e = go (target b c) refl (sym (owner-target b c t) ∙ e)
@@ -189,10 +189,10 @@ owner-none b c t e = go (target b c) (sym (owner-target b c t) ∙ e)
     go (suc i) q = let z : _≡_ {A = ℕ} 0 1 = cc in absurd (omega arith)
 
 -- connection calls are not the desk's
-pub conn-owner : (b : Group) (c : Call) → Conn c → ownerOf b c ≢ the-desk
+pub conn-owner : (b : Group) (c : Call) → Conn c → ownerOf b c ≢ the-manager
 conn-owner b c t e = go (target b c) (sym (owner-target b c t) ∙ e)
   where
-    go : (j : ℕ) → connectionAt j ≢ the-desk
+    go : (j : ℕ) → connectionAt j ≢ the-manager
     go zero q = let z : _≡_ {A = ℕ} 0 1 = cc in omega arith
     go (suc i) q = let z : _≡_ {A = ℕ} 0 1 = cc in omega arith
 

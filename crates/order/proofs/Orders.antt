@@ -10,61 +10,61 @@ use native.Mathlib.Omega.{arith}
 use lib.Dec.{eqb}
 use lib.ListN.{length, getD}
 use borrow.Author.Tests.{eq-eqb}
-use Rattle.table.specs.Rules.{Group, Call, on, hear, desk, freeSlot, Answer, answer, next}
-use Rattle.order.specs.Statement.{answers, leaves, At, Whose, the-desk, connection, nobody, ownerOf, beganBy, whoseFrom}
+use Rattle.table.specs.Rules.{Group, Call, on, hear, manage, freeSlot, Answer, answer, next}
+use Rattle.order.specs.Statement.{answers, leaves, At, Whose, the-manager, connection, nobody, ownerOf, beganBy, whoseFrom}
 use Rattle.order.proofs.Lists.{In, sift, in-sift, to-sift, upto}
-use Rattle.order.proofs.Scripts.{Script, last, cut, before, cutIf, script, flat, siftAll, spanOf, deskOf, restOf}
+use Rattle.order.proofs.Scripts.{Script, last, cut, before, cutIf, script, flat, siftAll, spanOf, manageOf, restOf}
 use Rattle.order.proofs.Acts.{Conn}
 use Rattle.order.proofs.Near.{Good, Near, near-start, near-good, conn-owner}
-use Rattle.order.proofs.Desk.{desk-good}
+use Rattle.order.proofs.Management.{manage-good}
 use Rattle.order.proofs.Spans.{sees, run, Says, run-append, says-append, says-left, says-right, InSpan, span-near, span-group, span-says}
 
-abbrev pub isTheDesk : Whose → Bool
-isTheDesk the-desk = true
-isTheDesk (connection k) = false
-isTheDesk nobody = false
+abbrev pub isTheManager : Whose → Bool
+isTheManager the-manager = true
+isTheManager (connection k) = false
+isTheManager nobody = false
 
-abbrev pub orDesk : Whose → Bool → Bool
-orDesk the-desk t = true
-orDesk (connection k) t = t
-orDesk nobody t = t
+abbrev pub orManagement : Whose → Bool → Bool
+orManagement the-manager t = true
+orManagement (connection k) t = t
+orManagement nobody t = t
 
-or-true : (w : Whose) → orDesk w true ≡ true
-or-true the-desk = refl
+or-true : (w : Whose) → orManagement w true ≡ true
+or-true the-manager = refl
 or-true (connection k) = refl
 or-true nobody = refl
 
-pub desk-sees : (k : ℕ) (w : Whose) → isTheDesk w ≡ true → sees k w ≡ true
-desk-sees k the-desk e = refl
-desk-sees k (connection j) e = absurd (false≢true e)
-desk-sees k nobody e = absurd (false≢true e)
+pub manage-sees : (k : ℕ) (w : Whose) → isTheManager w ≡ true → sees k w ≡ true
+manage-sees k the-manager e = refl
+manage-sees k (connection j) e = absurd (false≢true e)
+manage-sees k nobody e = absurd (false≢true e)
 
-pub desk-or : (w : Whose) (t : Bool) → isTheDesk w ≡ true → orDesk w t ≡ true
-desk-or the-desk t e = refl
-desk-or (connection j) t e = absurd (false≢true e)
-desk-or nobody t e = absurd (false≢true e)
+pub manage-or : (w : Whose) (t : Bool) → isTheManager w ≡ true → orManagement w t ≡ true
+manage-or the-manager t e = refl
+manage-or (connection j) t e = absurd (false≢true e)
+manage-or nobody t e = absurd (false≢true e)
 
 -- what is not the desk's is a connection call, and no new span begins with it
-pub owner-conn : (b : Group) (c : Call) → ownerOf b c ≢ the-desk → Conn c
+pub owner-conn : (b : Group) (c : Call) → ownerOf b c ≢ the-manager → Conn c
 unfolding ownerOf
 owner-conn b (on k q) h = tt
 owner-conn b (hear m) h = tt
-owner-conn b (desk d) h = absurd (h refl)
+owner-conn b (manage d) h = absurd (h refl)
 
-same-span : (w : Whose) (g b : Group) → w ≢ the-desk → beganBy w g b ≡ b
-same-span the-desk g b h = absurd (h refl)
+same-span : (w : Whose) (g b : Group) → w ≢ the-manager → beganBy w g b ≡ b
+same-span the-manager g b h = absurd (h refl)
 same-span (connection k) g b h = refl
 same-span nobody g b h = refl
 
-pub next-good : (b g : Group) (c : Call) → ownerOf b c ≡ the-desk → Good g → Good (next g c)
+pub next-good : (b g : Group) (c : Call) → ownerOf b c ≡ the-manager → Good g → Good (next g c)
 next-good b g (on k q) e h = absurd (conn-owner b (on k q) tt e)
 next-good b g (hear m) e h = absurd (conn-owner b (hear m) tt e)
-next-good b g (desk d) e h = desk-good g d h
+next-good b g (manage d) e h = manage-good g d h
 
 module _ (call : ℕ → Call) (tag : ℕ → Whose) where
   -- one call by its number, and every desk call
   abbrev pub just : ℕ → ℕ → Bool
-  just x i = orDesk (tag i) (eqb i x)
+  just x i = orManagement (tag i) (eqb i x)
 
   abbrev pub conn : ℕ → ℕ → Bool
   conn k i = sees k (tag i)
@@ -74,7 +74,7 @@ module _ (call : ℕ → Call) (tag : ℕ → Whose) where
   abbrev pub Marked : Group → Group → Script → Type 0
   Marked b g (last s) = InSpan call tag b s
   Marked b g (cut s d r) =
-      InSpan call tag b s × (tag d ≡ the-desk) × (ownerOf b (call d) ≡ the-desk)
+      InSpan call tag b s × (tag d ≡ the-manager) × (ownerOf b (call d) ≡ the-manager)
       × Marked (next (run call g s) (call d)) (next (run call g s) (call d)) r
 
   pub record Agrees (A B : Script) : Type 0 where
@@ -129,14 +129,14 @@ module _ (call : ℕ → Call) (tag : ℕ → Whose) where
       tails : Agrees r q
       tails = record { by-conn = λ k. ap restOf (e .by-conn k); by-call = λ x. ap restOf (e .by-call x) }
 
-      same-desk : d ≡ f
-      same-desk = ap (λ z. deskOf z d) (e .by-conn 0)
+      same-manage : d ≡ f
+      same-manage = ap (λ z. manageOf z d) (e .by-conn 0)
 
       same-start : run call b s ≡ run call b t
       same-start = span-group call tag b nb s t (m .0) dt cs hs
 
       same-next : g′ ≡ next (run call b t) (call f)
-      same-next = λ i. next (same-start i) (call (same-desk i))
+      same-next = λ i. next (same-start i) (call (same-manage i))
 
       rest : Same g′ r q → (x : ℕ) (a : Answer) → Says call (run call b s) (d ∷ flat q) x a → Says call (run call b s) (d ∷ flat r) x a
       rest o x a (inl p) = inl p
@@ -144,7 +144,7 @@ module _ (call : ℕ → Call) (tag : ℕ → Whose) where
 
       join : Same g′ r q → (x : ℕ) (a : Answer) → Says call b t x a ⊎ Says call (run call b t) (f ∷ flat q) x a → Says call b (s ++ d ∷ flat r) x a
       join o x a (inl p) = says-left call b s (d ∷ flat r) x a (span-says call tag b nb s t (m .0) dt cs hs x a p)
-      join o x a (inr p) = says-right call b s (d ∷ flat r) x a (rest o x a (rw (same-start, same-desk) p))
+      join o x a (inr p) = says-right call b s (d ∷ flat r) x a (rest o x a (rw (same-start, same-manage) p))
 
       go : Same g′ r q → Same b (cut s d r) (cut t f q)
       go o =
@@ -153,14 +153,14 @@ module _ (call : ℕ → Call) (tag : ℕ → Whose) where
             answered = λ x a p. join o x a (says-append call b t (f ∷ flat q) x a p);
             marks = (
               dt,
-              ap tag (sym same-desk) ∙ m .1,
-              ap (λ i. ownerOf b (call i)) (sym same-desk) ∙ m .2,
+              ap tag (sym same-manage) ∙ m .1,
+              ap (λ i. ownerOf b (call i)) (sym same-manage) ∙ m .2,
               subst (λ g. Marked g g q) same-next (o .marks),
             );
           }
 
-  abbrev pub desk? : ℕ → Bool
-  desk? i = isTheDesk (tag i)
+  abbrev pub manage? : ℕ → Bool
+  manage? i = isTheManager (tag i)
 
   -- the tags are those of the list, read from a group g in a span that began with b
   abbrev pub Listed : Group → Group → List ℕ → Type 0
@@ -168,20 +168,20 @@ module _ (call : ℕ → Call) (tag : ℕ → Whose) where
   Listed b g (i ∷ s) =
       (tag i ≡ ownerOf b (call i)) × Listed (beganBy (ownerOf b (call i)) (next g (call i)) b) (next g (call i)) s
 
-  pub marked : (b g : Group) (s : List ℕ) → Listed b g s → Marked b g (script desk? s)
+  pub marked : (b g : Group) (s : List ℕ) → Listed b g s → Marked b g (script manage? s)
   marked b g [] h = λ i m. absurd m
-  marked b g (i ∷ s) h = go (ownerOf b (call i)) refl (script desk? s) (marked (beganBy (ownerOf b (call i)) (next g (call i)) b) (next g (call i)) s (h .1))
+  marked b g (i ∷ s) h = go (ownerOf b (call i)) refl (script manage? s) (marked (beganBy (ownerOf b (call i)) (next g (call i)) b) (next g (call i)) s (h .1))
     where
-      one : ownerOf b (call i) ≢ the-desk → (u : List ℕ) → InSpan call tag b u → InSpan call tag b (i ∷ u)
+      one : ownerOf b (call i) ≢ the-manager → (u : List ℕ) → InSpan call tag b u → InSpan call tag b (i ∷ u)
       one d u k j (inl q) = rw q (owner-conn b (call i) d, h .0)
       one d u k j (inr q) = k j q
 
-      more : ownerOf b (call i) ≢ the-desk → (r : Script) → Marked b (next g (call i)) r → Marked b g (before i r)
+      more : ownerOf b (call i) ≢ the-manager → (r : Script) → Marked b (next g (call i)) r → Marked b g (before i r)
       more d (last u) k = one d u k
       more d (cut u e r) k = (one d u (k .0), k .1, k .2, k .3)
 
-      go : (w : Whose) → ownerOf b (call i) ≡ w → (r : Script) → Marked (beganBy w (next g (call i)) b) (next g (call i)) r → Marked b g (cutIf (desk? i) i r)
-      go the-desk e r k = rw (h .0 ∙ e) (λ j m. absurd m, h .0 ∙ e, e, k)
+      go : (w : Whose) → ownerOf b (call i) ≡ w → (r : Script) → Marked (beganBy w (next g (call i)) b) (next g (call i)) r → Marked b g (cutIf (manage? i) i r)
+      go the-manager e r k = rw (h .0 ∙ e) (λ j m. absurd m, h .0 ∙ e, e, k)
       go (connection c) e r k = rw (h .0 ∙ e) (more (λ z. let y : _≡_ {A = ℕ} 0 1 = cc in omega arith) r k)
       go nobody e r k = rw (h .0 ∙ e) (more (λ z. let y : _≡_ {A = ℕ} 0 1 = cc in omega arith) r k)
 
@@ -200,7 +200,7 @@ module _ (call : ℕ → Call) (tag : ℕ → Whose) where
   whose-marked b g (last s) m = rw append-nil at (whose-span b g s [] m refl)
   whose-marked b g (cut s d r) m =
       whose-span b g s (d ∷ flat r) (m .0)
-      (rw (m .2, m .1) (ap (λ l. the-desk ∷ l) (whose-marked (next (run call g s) (call d)) (next (run call g s) (call d)) r (m .3))))
+      (rw (m .2, m .1) (ap (λ l. the-manager ∷ l) (whose-marked (next (run call g s) (call d)) (next (run call g s) (call d)) r (m .3))))
 
   -- what is left, and what is answered, by number and in the list
   pub run-leaves : (g : Group) (s : List ℕ) → leaves g (map call s) ≡ run call g s
@@ -228,7 +228,7 @@ listed-suc call tag b g (i ∷ s) h =
 
 -- past the end of a list stands a call that is not met
 abbrev pub unmet : Call
-unmet = desk (freeSlot 0)
+unmet = manage (freeSlot 0)
 
 pub listed : (b g : Group) (cs : List Call) → Listed (λ i. getD cs i unmet) (λ i. getD (whoseFrom b g cs) i nobody) b g (upto (length cs))
 unfolding whoseFrom

@@ -25,7 +25,7 @@ use Rattle.transmit.specs.Transmit.{sendOf, sentOf, producedOf}
 use Rattle.receive.specs.Receive.{placeOf, mayPlace, placeForbids, readOf, takeOf, tornOf, consumedOf}
 use Rattle.hear.specs.Hear.{hearOf, abortedOf, followedOf, acceptedOf, heardRecord}
 use Rattle.finish.specs.Finish.{shutdownOf, closeOf, abortOf}
-use Rattle.table.specs.Rules.{Request, send, place, read, shutdown, close, abort, Call, on, hear, desk, Turn, turnOf, requestTurn, hearTurn, placedIn}
+use Rattle.table.specs.Rules.{Request, send, place, read, shutdown, close, abort, Call, on, hear, manage, Turn, turnOf, requestTurn, hearTurn, placedIn}
 
 -- the record d is left of c
 abbrev pub Left : Record → Record → Type 0
@@ -122,7 +122,7 @@ heardTurn n a c e Malformed = idle c e
 abbrev pub turnBy : ℕ → Bool → Record → List ℕ → Call → Turn
 turnBy n a c e (on s q) = requestTurn n a c e q
 turnBy n a c e (hear b) = heardTurn n a c e (decodeOf b)
-turnBy n a c e (desk d) = idle c e
+turnBy n a c e (manage d) = idle c e
 
 module _ (n : ℕ) (a : Bool) (c : Record) (e : List ℕ) where
   turn-left : (o : Outcome) (f out : List ℕ) → Keeps c o → Left c ((turnOf o f out) .after)
@@ -146,7 +146,7 @@ module _ (n : ℕ) (a : Bool) (c : Record) (e : List ℕ) where
   pub left-by : (call : Call) → Left c ((turnBy n a c e call) .after)
   left-by (on s q) = request-left q
   left-by (hear b) = heard-left (decodeOf b)
-  left-by (desk d) = turn-left _ _ _ (refused c 0)
+  left-by (manage d) = turn-left _ _ _ (refused c 0)
 
   module _ (long : length e ≡ n) where
     request-long : (q : Request) → length ((requestTurn n a c e q) .element) ≡ n
@@ -167,4 +167,4 @@ module _ (n : ℕ) (a : Bool) (c : Record) (e : List ℕ) where
     unfolding turnOf
     long-by (on s q) = request-long q
     long-by (hear b) = heard-long (decodeOf b)
-    long-by (desk d) = long
+    long-by (manage d) = long

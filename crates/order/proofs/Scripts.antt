@@ -19,16 +19,16 @@ cutIf true i r = cut [] i r
 cutIf false i r = before i r
 
 abbrev pub script : (ℕ → Bool) → List ℕ → Script
-script desk [] = last []
-script desk (i ∷ s) = cutIf (desk i) i (script desk s)
+script manage [] = last []
+script manage (i ∷ s) = cutIf (manage i) i (script manage s)
 
 abbrev pub flat : Script → List ℕ
 flat (last s) = s
 flat (cut s d r) = s ++ d ∷ flat r
 
-pub flat-script : (desk : ℕ → Bool) (s : List ℕ) → flat (script desk s) ≡ s
-flat-script desk [] = refl
-flat-script desk (i ∷ s) = go (desk i) (script desk s) (flat-script desk s)
+pub flat-script : (manage : ℕ → Bool) (s : List ℕ) → flat (script manage s) ≡ s
+flat-script manage [] = refl
+flat-script manage (i ∷ s) = go (manage i) (script manage s) (flat-script manage s)
   where
     go : (t : Bool) (r : Script) → flat r ≡ s → flat (cutIf t i r) ≡ i ∷ s
     go true r e = ap (λ u. i ∷ u) e
@@ -40,12 +40,12 @@ siftAll q (last s) = last (sift q s)
 siftAll q (cut s d r) = cut (sift q s) d (siftAll q r)
 
 -- Where desk calls pass the sieve, to sift a list is to sift its spans.
-pub script-sift : (desk q : ℕ → Bool) → ((i : ℕ) → desk i ≡ true → q i ≡ true) → (s : List ℕ) → script desk (sift q s) ≡ siftAll q (script desk s)
-script-sift desk q h [] = refl
-script-sift desk q h (i ∷ s) = go (desk i) refl (q i) refl (script desk s) (script-sift desk q h s)
+pub script-sift : (manage q : ℕ → Bool) → ((i : ℕ) → manage i ≡ true → q i ≡ true) → (s : List ℕ) → script manage (sift q s) ≡ siftAll q (script manage s)
+script-sift manage q h [] = refl
+script-sift manage q h (i ∷ s) = go (manage i) refl (q i) refl (script manage s) (script-sift manage q h s)
   where
-    go : (t : Bool) → desk i ≡ t → (u : Bool) → q i ≡ u → (r : Script) → script desk (sift q s) ≡ siftAll q r
-        → script desk (keep u i (sift q s)) ≡ siftAll q (cutIf t i r)
+    go : (t : Bool) → manage i ≡ t → (u : Bool) → q i ≡ u → (r : Script) → script manage (sift q s) ≡ siftAll q r
+        → script manage (keep u i (sift q s)) ≡ siftAll q (cutIf t i r)
     go true e true f r p = rw (e, p)
     go true e false f r p = absurd (false≢true (sym f ∙ h i e))
     go false e true f (last v) p = rw (e, f, p)
@@ -58,9 +58,9 @@ abbrev pub spanOf : Script → List ℕ
 spanOf (last s) = s
 spanOf (cut s d r) = s
 
-abbrev pub deskOf : Script → ℕ → ℕ
-deskOf (last s) n = n
-deskOf (cut s d r) n = d
+abbrev pub manageOf : Script → ℕ → ℕ
+manageOf (last s) n = n
+manageOf (cut s d r) n = d
 
 abbrev pub restOf : Script → Script
 restOf (last s) = last s

@@ -9,14 +9,14 @@ use native.Mathlib.Omega.{arith}
 use lib.Dec.{eqb}
 use borrow.Author.Tests.{eqb-true, eqb-false}
 use Rattle.table.specs.Rules.{Group, Call, Answer, answer, next}
-use Rattle.order.specs.Statement.{Whose, the-desk, connection, nobody, ownerOf}
+use Rattle.order.specs.Statement.{Whose, the-manager, connection, nobody, ownerOf}
 use Rattle.order.proofs.Lists.{In, sift, keep}
 use Rattle.order.proofs.Acts.{Conn, refusalBy}
 use Rattle.order.proofs.Near.{Near, near-next, conn-owner, partOf, same-group, part-kept, own, nobodys}
 
 -- the test by which a span is sifted: connection k's calls; desk calls pass too
 abbrev pub sees : ℕ → Whose → Bool
-sees k the-desk = true
+sees k the-manager = true
 sees k (connection j) = eqb j k
 sees k nobody = false
 
@@ -81,8 +81,8 @@ module _ (call : ℕ → Call) where
         by j true t = inl (t, ap connection (eqb-true j k t))
         by j false t = inr (t, λ q. eqb-false j k t (cc))
 
-        go : (w : Whose) → w ≢ the-desk → ((sees k w ≡ true) × (w ≡ connection k)) ⊎ ((sees k w ≡ false) × (w ≢ connection k))
-        go the-desk h = absurd (h refl)
+        go : (w : Whose) → w ≢ the-manager → ((sees k w ≡ true) × (w ≡ connection k)) ⊎ ((sees k w ≡ false) × (w ≢ connection k))
+        go the-manager h = absurd (h refl)
         go (connection j) h = by j (eqb j k) refl
         go nobody h = inr (refl, λ q. let z : _≡_ {A = ℕ} 0 1 = cc in omega arith)
 
@@ -186,7 +186,7 @@ module _ (call : ℕ → Call) where
           there = says-in b t x a y
 
           go : (w : Whose) → ownerOf b (call x) ≡ w → Says b s x a
-          go the-desk p = absurd (conn-owner b (call x) ((dt x there) .0) p)
+          go the-manager p = absurd (conn-owner b (call x) ((dt x there) .0) p)
           go nobody p = rw (says-nobodys t b start dt x a p y) at (nobodys-says s b start ds x p (here x there))
           go (connection k) p =
               says-all k s b b start start refl ds x a (rw (conn k) (says-mine k t b b start start refl dt x a p y))

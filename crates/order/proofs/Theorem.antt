@@ -11,13 +11,13 @@ use lib.Dec.{eqb}
 use lib.ListN.{length, getD, getElem?}
 use borrow.Author.Tests.{eqb-true}
 use Rattle.table.specs.Rules.{Group, Call, Answer, next, Fresh}
-use Rattle.order.specs.Statement.{answers, leaves, At, Whose, the-desk, connection, nobody, ownerOf, beganBy, whoseFrom, whose, AnotherOrder, Made, none-made, one-made, Sentence3, NobodysCall, WhoSeesWhat}
+use Rattle.order.specs.Statement.{answers, leaves, At, Whose, the-manager, connection, nobody, ownerOf, beganBy, whoseFrom, whose, AnotherOrder, Made, none-made, one-made, Sentence3, NobodysCall, WhoSeesWhat}
 use Rattle.order.proofs.Lists.{In, sift, in-sift, to-sift, Sorted, sorted-sift, sorted-by, sorted-map, sorted-unique, in-map, to-map, upto, in-upto, to-upto, sorted-upto, at-map, at-upto, at-getD, in-range, same-list, length-map′, by-number, length-upto}
 use Rattle.order.proofs.Scripts.{script, flat-script, siftAll, script-sift}
 use Rattle.order.proofs.Acts.{sees-what}
 use Rattle.order.proofs.Near.{Near, near-start, near-next, near-good, fresh-good, nobodys}
 use Rattle.order.proofs.Spans.{sees, run}
-use Rattle.order.proofs.Orders.{isTheDesk, orDesk, desk-sees, desk-or, owner-conn, next-good, Agrees, Same, orders, marked, whose-marked, run-leaves, says-at, at-says, unmet, listed, length-whose, length-answers}
+use Rattle.order.proofs.Orders.{isTheManager, orManagement, manage-sees, manage-or, owner-conn, next-good, Agrees, Same, orders, marked, whose-marked, run-leaves, says-at, at-says, unmet, listed, length-whose, length-answers}
 
 module _ (g : Group) (fresh : Fresh g) (first second : List Call) (o : AnotherOrder g first second) where
   abbrev place : ℕ → ℕ
@@ -81,44 +81,44 @@ module _ (g : Group) (fresh : Fresh g) (first second : List Call) (o : AnotherOr
   kept-conn k i j l h p q = go (tag i) (tag j) (at-tag i (omega arith)) (at-tag j h) p q
     where
       go : (w v : Whose) → At (whose g first) i w → At (whose g first) j v → sees k w ≡ true → sees k v ≡ true → place i < place j
-      go the-desk v e f p q = o .desk-kept i j l h (inl e)
-      go (connection a) the-desk e f p q = o .desk-kept i j l h (inr f)
+      go the-manager v e f p q = o .manage-kept i j l h (inl e)
+      go (connection a) the-manager e f p q = o .manage-kept i j l h (inr f)
       go (connection a) (connection b) e f p q =
           o .own-kept k i j l h (e ∙ ap (λ z. some (connection z)) (eqb-true a k p)) (f ∙ ap (λ z. some (connection z)) (eqb-true b k q))
       go (connection a) nobody e f p q = absurd (false≢true q)
       go nobody v e f p q = absurd (false≢true p)
 
-  kept-call : (x : ℕ) → Kept (λ i. orDesk (tag i) (eqb i x))
+  kept-call : (x : ℕ) → Kept (λ i. orManagement (tag i) (eqb i x))
   unfolding Kept
   kept-call x i j l h p q = go (tag i) (tag j) (at-tag i (omega arith)) (at-tag j h) p q
     where
       clash : eqb i x ≡ true → eqb j x ≡ true → place i < place j
       clash p q = absurd (omega (arith, eqb-true i x p, eqb-true j x q))
 
-      go : (w v : Whose) → At (whose g first) i w → At (whose g first) j v → orDesk w (eqb i x) ≡ true → orDesk v (eqb j x) ≡ true → place i < place j
-      go the-desk v e f p q = o .desk-kept i j l h (inl e)
-      go (connection a) the-desk e f p q = o .desk-kept i j l h (inr f)
+      go : (w v : Whose) → At (whose g first) i w → At (whose g first) j v → orManagement w (eqb i x) ≡ true → orManagement v (eqb j x) ≡ true → place i < place j
+      go the-manager v e f p q = o .manage-kept i j l h (inl e)
+      go (connection a) the-manager e f p q = o .manage-kept i j l h (inr f)
       go (connection a) (connection b) e f p q = clash p q
       go (connection a) nobody e f p q = clash p q
-      go nobody the-desk e f p q = o .desk-kept i j l h (inr f)
+      go nobody the-manager e f p q = o .manage-kept i j l h (inr f)
       go nobody (connection b) e f p q = clash p q
       go nobody nobody e f p q = clash p q
 
-  abbrev desky : ℕ → Bool
-  desky i = isTheDesk (tag i)
+  abbrev manages : ℕ → Bool
+  manages i = isTheManager (tag i)
 
-  agrees : Agrees call tag (script desky firstly) (script desky secondly)
+  agrees : Agrees call tag (script manages firstly) (script manages secondly)
   agrees =
       record {
-        by-conn = λ k. via (λ i. sees k (tag i)) (λ i e. desk-sees k (tag i) e) (kept-conn k);
-        by-call = λ x. via (λ i. orDesk (tag i) (eqb i x)) (λ i e. desk-or (tag i) (eqb i x) e) (kept-call x);
+        by-conn = λ k. via (λ i. sees k (tag i)) (λ i e. manage-sees k (tag i) e) (kept-conn k);
+        by-call = λ x. via (λ i. orManagement (tag i) (eqb i x)) (λ i e. manage-or (tag i) (eqb i x) e) (kept-call x);
       }
     where
-      via : (q : ℕ → Bool) → ((i : ℕ) → desky i ≡ true → q i ≡ true) → Kept q → siftAll q (script desky firstly) ≡ siftAll q (script desky secondly)
-      via q h k = sym (script-sift desky q h firstly) ∙ ap (λ u. script desky u) (kept q k) ∙ script-sift desky q h secondly
+      via : (q : ℕ → Bool) → ((i : ℕ) → manages i ≡ true → q i ≡ true) → Kept q → siftAll q (script manages firstly) ≡ siftAll q (script manages secondly)
+      via q h k = sym (script-sift manages q h firstly) ∙ ap (λ u. script manages u) (kept q k) ∙ script-sift manages q h secondly
 
-  outcome : Same call tag g (script desky firstly) (script desky secondly)
-  outcome = orders call tag g (fresh-good g fresh) (script desky firstly) (script desky secondly) (marked call tag g g firstly (listed g g first)) agrees
+  outcome : Same call tag g (script manages firstly) (script manages secondly)
+  outcome = orders call tag g (fresh-good g fresh) (script manages firstly) (script manages secondly) (marked call tag g g firstly (listed g g first)) agrees
 
   first-is : map call firstly ≡ first
   first-is = by-number first unmet
@@ -149,16 +149,16 @@ module _ (g : Group) (fresh : Fresh g) (first second : List Call) (o : AnotherOr
   same-group =
       ap (λ u. leaves g u) (sym second-is)
       ∙ run-leaves call tag g secondly
-      ∙ ap (λ u. run call g u) (sym (flat-script desky secondly))
+      ∙ ap (λ u. run call g u) (sym (flat-script manages secondly))
       ∙ sym (outcome .ends)
-      ∙ ap (λ u. run call g u) (flat-script desky firstly)
+      ∙ ap (λ u. run call g u) (flat-script manages firstly)
       ∙ sym (run-leaves call tag g firstly)
       ∙ ap (λ u. leaves g u) first-is
 
   pub same-owner : (i : ℕ) (w : Whose) → At (whose g first) i w → At (whose g second) (place i) w
   same-owner i w e =
       let h : i < length first = omega (arith, in-range (whose g first) i w e, length-whose g g first) in
-      let t = rw (flat-script desky secondly) at (whose-marked call tag g g (script desky secondly) (outcome .marks)) in
+      let t = rw (flat-script manages secondly) at (whose-marked call tag g g (script manages secondly) (outcome .marks)) in
       ap (λ u. getElem? (whose g u) (place i)) (sym second-is)
       ∙ ap (λ u. getElem? u (place i)) t
       ∙ at-map tag secondly (place i)
@@ -170,8 +170,8 @@ module _ (g : Group) (fresh : Fresh g) (first second : List Call) (o : AnotherOr
   same-answer i a e =
       let h : i < length first = omega (arith, in-range (answers g first) i a e, length-answers g first) in
       let r = says-at call tag g secondly (place i) i (at-place i h) in
-      let f = outcome .answered i (r .0) (rw (flat-script desky secondly) (r .2)) in
-      let t = at-says call tag g firstly i (r .0) (rw (flat-script desky firstly) at f) in
+      let f = outcome .answered i (r .0) (rw (flat-script manages secondly) (r .2)) in
+      let t = at-says call tag g firstly i (r .0) (rw (flat-script manages firstly) at f) in
       let n = same (t .0) (t .1) in
       ap (λ u. getElem? (answers g u) (place i)) (sym second-is)
       ∙ r .1
@@ -206,7 +206,7 @@ near-step : (b g : Group) (c : Call) → Near b g → Near (beganBy (ownerOf b c
 near-step b g c n = go (ownerOf b c) refl
   where
     go : (w : Whose) → ownerOf b c ≡ w → Near (beganBy w (next g c) b) (next g c)
-    go the-desk e = near-start (next g c) (next-good b g c e (near-good b g n))
+    go the-manager e = near-start (next g c) (next-good b g c e (near-good b g n))
     go (connection k) e = near-next b g n c (owner-conn b c (λ z. let y : _≡_ {A = ℕ} 0 1 = cc in omega arith))
     go nobody e = near-next b g n c (owner-conn b c (λ z. let y : _≡_ {A = ℕ} 0 1 = cc in omega arith))
 

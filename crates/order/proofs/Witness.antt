@@ -12,7 +12,7 @@ use lib.ListN.{length, getElem?, replicate, length-append}
 use Rattle.connection.specs.Connection.{zeroRecord}
 use Rattle.table.specs.Table.{sizesB, slotB, recordAt, openB, activeB}
 use Rattle.table.specs.Rules.{Group, Call, Fresh}
-use Rattle.order.specs.Statement.{At, Whose, the-desk, connection, whose, AnotherOrder}
+use Rattle.order.specs.Statement.{At, Whose, the-manager, connection, whose, AnotherOrder}
 
 -- one slot, an element of 8 bytes
 abbrev pub aGroup : Group
@@ -93,7 +93,7 @@ at-one l i j {x} {y} e f p = Option·some-injective x y (sym e ∙ ap (λ k. get
 
 pub neighbours : (g : Group) (xs : List Call) (c d : Call) (ys : List Call) (v w : Whose)
     → At (whose g (xs ++ c ∷ d ∷ ys)) (length xs) v → At (whose g (xs ++ c ∷ d ∷ ys)) (suc (length xs)) w
-    → v ≢ the-desk → w ≢ the-desk → ((k : ℕ) → v ≡ connection k → w ≡ connection k → ⊥)
+    → v ≢ the-manager → w ≢ the-manager → ((k : ℕ) → v ≡ connection k → w ≡ connection k → ⊥)
     → AnotherOrder g (xs ++ c ∷ d ∷ ys) (xs ++ d ∷ c ∷ ys)
 neighbours g xs c d ys v w ev ew dv dw apart =
     record {
@@ -108,7 +108,7 @@ neighbours g xs c d ys v w ev ew dv dw apart =
           };
       as-long = length-append xs (d ∷ c ∷ ys) ∙ sym (length-append xs (c ∷ d ∷ ys));
       same-call = λ i x e. swap-at xs c d ys i ∙ e;
-      desk-kept = λ i j l h e. swap-less n i j l (desks i j e);
+      manage-kept = λ i j l h e. swap-less n i j l (manages i j e);
       own-kept = λ k i j l h e f. swap-less n i j l (λ p q. apart k (at-one owners n i ev e p) (at-one owners (suc n) j ew f q));
     }
   where
@@ -121,6 +121,6 @@ neighbours g xs c d ys v w ev ew dv dw apart =
     room : suc n < length (xs ++ c ∷ d ∷ ys)
     room = omega (arith, length-append xs (c ∷ d ∷ ys))
 
-    desks : (i j : ℕ) → At owners i the-desk ⊎ At owners j the-desk → (i ≡ n) → (j ≡ suc n) → ⊥
-    desks i j (inl e) p q = dv (at-one owners n i ev e p)
-    desks i j (inr e) p q = dw (at-one owners (suc n) j ew e q)
+    manages : (i j : ℕ) → At owners i the-manager ⊎ At owners j the-manager → (i ≡ n) → (j ≡ suc n) → ⊥
+    manages i j (inl e) p q = dv (at-one owners n i ev e p)
+    manages i j (inr e) p q = dw (at-one owners (suc n) j ew e q)

@@ -11,7 +11,7 @@ use Rattle.cdc.specs.declared.Decoded.{Decoded}
 use Rattle.cdc.specs.declared.Decoded.the-variants.{Good, Malformed}
 use Rattle.cdc.specs.Cdc.{decodeOf}
 use Rattle.table.specs.Table.{slotB, openB}
-use Rattle.table.specs.Rules.{Group, Call, on, hear, desk, Answer, answer, next, recordOf, elementIn, linkOf, holderOf, Did, Fresh}
+use Rattle.table.specs.Rules.{Group, Call, on, hear, manage, Answer, answer, next, recordOf, elementIn, linkOf, holderOf, Did, Fresh}
 
 -- A LIST OF CALLS, each made on the group as the last one left it: what the rules answer, and the group at the end. A call holds all bytes
 -- lent to it, so a call that stands in two lists is lent the same bytes in both.
@@ -27,9 +27,9 @@ leaves g (c ∷ cs) = leaves (next g c) cs
 abbrev pub At : {A : Type 0} → List A → ℕ → A → Type 0
 At l i x = getElem? l i ≡ some x
 
--- WHOSE A CALL IS.
+-- WHOSE A CALL IS. A management call (document 01: a desk call) is the manager's.
 pub data Whose : Type 0 where
-  the-desk : Whose
+  the-manager : Whose
   connection : ℕ → Whose
   nobody : Whose
 
@@ -48,12 +48,12 @@ connectionAt (suc k) = connection (suc k)
 unfoldable pub ownerOf : Group → Call → Whose
 ownerOf began (on k q) = cond (openB (began .S) (began .table) k) (connection k) nobody
 ownerOf began (hear b) = connectionAt (hearer began (decodeOf b))
-ownerOf began (desk d) = the-desk
+ownerOf began (manage d) = the-manager
 
 -- A span is the connection calls before the first desk call, between two neighbouring ones, or after the last: a desk call ends one, and
 -- the next begins with the group that it left.
 abbrev pub beganBy : Whose → Group → Group → Group
-beganBy the-desk left began = left
+beganBy the-manager left began = left
 beganBy (connection k) left began = began
 beganBy nobody left began = began
 
@@ -82,7 +82,7 @@ pub record AnotherOrder (g : Group) (first second : List Call) : Type 0 where
   pub numbers : Renumbering (length first)
   pub as-long : length second ≡ length first
   pub same-call : (i : ℕ) (c : Call) → At first i c → At second (numbers .place i) c
-  pub desk-kept : (i j : ℕ) → i < j → j < length first → At (whose g first) i the-desk ⊎ At (whose g first) j the-desk
+  pub manage-kept : (i j : ℕ) → i < j → j < length first → At (whose g first) i the-manager ⊎ At (whose g first) j the-manager
       → numbers .place i < numbers .place j
   pub own-kept : (k i j : ℕ) → i < j → j < length first → At (whose g first) i (connection k) → At (whose g first) j (connection k)
       → numbers .place i < numbers .place j
@@ -122,7 +122,7 @@ NobodysCall =
 abbrev pub ActsOn : Group → Call → ℕ → Type 0
 ActsOn g (on s q) k = s ≡ k
 ActsOn g (hear b) k = hearer g (decodeOf b) ≡ k
-ActsOn g (desk d) k = ⊥
+ActsOn g (manage d) k = ⊥
 
 -- two groups with the same record, the same element and the same state of its link at slot k
 pub record SameSlot (g h : Group) (k : ℕ) : Type 0 where

@@ -11,7 +11,7 @@ use lib.ListN.{length, getD}
 use Rattle.element.specs.Element.{splice, freshElement}
 use Rattle.element.proofs.Others.{splice-below, splice-in, splice-above}
 use Rattle.receive.proofs.Laws.{Placeable}
-use Rattle.table.specs.Rules.{Group, place, openSlot, Call, on, desk, accepted, does, answer, next, recordOf, elementIn}
+use Rattle.table.specs.Rules.{Group, place, openSlot, Call, on, manage, accepted, does, answer, next, recordOf, elementIn}
 use Rattle.order.specs.Statement.{leaves}
 use Rattle.order.proofs.Slots.{element-long}
 use Rattle.safety.specs.Statement.{OpenAt, acceptedB, changedBy, heldAfter, Opens, Stores}
@@ -104,7 +104,7 @@ module _ (g : Group) (c : Call) (cs : List Call) (k : ℕ) where
   first-opens : Opens g (c ∷ cs) 0 k → Opening g c k (does g c)
   unfolding leaves
   first-opens o =
-      let p : c ≡ desk (openSlot k (o .own) (o .peer) (o .link) (o .size)) = let q = o .took .0 in cc in
+      let p : c ≡ manage (openSlot k (o .own) (o .peer) (o .link) (o .size)) = let q = o .took .0 in cc in
       record { own = o .own; peer = o .peer; link = o .link; size = o .size; is = p; took = rw p (o .took .1) }
 
 -- where the byte v at offset x of slot k's element came from, over the calls cs; `was` stood there before them. From number i on the slot

@@ -23,7 +23,7 @@ use Rattle.receive.specs.Receive.{placeOf, readOf, takeOf, tornOf}
 use Rattle.hear.specs.Hear.{hearOf, abortedOf, followedOf, acceptedOf}
 use Rattle.finish.specs.Finish.{shutdownOf, closeOf, abortOf}
 use Rattle.table.specs.Table.{recordAt, withRecord}
-use Rattle.table.specs.Rules.{Group, Request, send, place, read, shutdown, close, abort, openSlot, freeSlot, linkChange, linkMessage, Call, on, hear, desk, Says, refusal, accepted, sent, wasRead, torn, heard, saysOf, turnOf, placedIn, readInto, requestTurn, hearTurn, Done, refuses, recordOf, elementIn, linkOf, putTurn, outOf, onDoes, holderOf, hearAt, hearMessage, hearDoes, openRefusal, openDoes, freeRefusal, freeDoes, linkDoes, linkAnswer, linkMessageDoes, does}
+use Rattle.table.specs.Rules.{Group, Request, send, place, read, shutdown, close, abort, openSlot, freeSlot, linkChange, linkMessage, Call, on, hear, manage, Says, refusal, accepted, sent, wasRead, torn, heard, saysOf, turnOf, placedIn, readInto, requestTurn, hearTurn, Done, refuses, recordOf, elementIn, linkOf, putTurn, outOf, onDoes, holderOf, hearAt, hearMessage, hearDoes, openRefusal, openDoes, freeRefusal, freeDoes, linkDoes, linkAnswer, linkMessageDoes, does}
 use Rattle.safety.specs.Refusals.{lentOut, RefusedKeeps, listed, inB, RefusedByList}
 
 -- PUTTING BACK WHAT WAS THERE changes nothing, whatever the table and the memory
@@ -167,18 +167,18 @@ module _ (g : Group) where
   heard-by b Malformed = search gives
 
   message : (l : ℕ) (b : List ℕ) (k : Kind) (reply : List ℕ)
-      → Refuses g [] (listed (desk (linkMessage l b))) (λ d. d) (linkAnswer g k reply)
+      → Refuses g [] (listed (manage (linkMessage l b))) (λ d. d) (linkAnswer g k reply)
   message l b Kinds.Malformed reply = search gives
   message l b Kinds.Optional reply = search never
   message l b Kinds.Named reply = search gives
   message l b Kinds.TestRequest reply = search never
   message l b Kinds.TestReply reply = search never
 
-  opens : (k own peer link size : ℕ) → Number (listed (desk (openSlot k own peer link size))) (openRefusal g k own peer link size)
+  opens : (k own peer link size : ℕ) → Number (listed (manage (openSlot k own peer link size))) (openRefusal g k own peer link size)
   unfolding openRefusal
   opens k own peer link size = search or-else depth 9
 
-  frees : (k : ℕ) → Number (listed (desk (freeSlot k))) (freeRefusal g k)
+  frees : (k : ℕ) → Number (listed (manage (freeSlot k))) (freeRefusal g k)
   unfolding freeRefusal
   frees k = search or-else depth 9
 
@@ -186,10 +186,10 @@ module _ (g : Group) where
   unfolding onDoes hearDoes openDoes freeDoes linkDoes linkMessageDoes putTurn
   call (on k q) = search (by-test, gives, request, outside g k q)
   call (hear b) = search (by-test, gives, heard-by b)
-  call (desk (openSlot k own peer link size)) = search (tested, never, opens k own peer link size)
-  call (desk (freeSlot k)) = search (tested, never, frees k)
-  call (desk (linkChange l up)) = search (by-test, gives, never)
-  call (desk (linkMessage l b)) = search (by-test, gives, message l b)
+  call (manage (openSlot k own peer link size)) = search (tested, never, opens k own peer link size)
+  call (manage (freeSlot k)) = search (tested, never, frees k)
+  call (manage (linkChange l up)) = search (by-test, gives, never)
+  call (manage (linkMessage l b)) = search (by-test, gives, message l b)
 
 pub refused-keeps : RefusedKeeps
 unfolding refuses

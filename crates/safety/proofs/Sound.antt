@@ -1,5 +1,5 @@
 -- What holds of every group that calls make from a fresh one, and what each call does to it, call by call. A further call on a slot is one
--- clause more of `puts` and of `request`, a further desk call of `changes` and of `desk-does`; all else follows. Assumes nothing.
+-- clause more of `puts` and of `request`, a further desk call of `changes` and of `manage-does`; all else follows. Assumes nothing.
 use mathlib.Core.Path.{_≡_, refl, sym, ap, _∙_, subst}
 use mathlib.Core.Logic.{_⊎_, inl, inr, _≢_}
 use mathlib.Core.Bool.{Bool, true, false, false≢true, not, cond, _||_}
@@ -34,13 +34,13 @@ use Rattle.hear.specs.Hear.{hearOf}
 use Rattle.hear.proofs.Laws.{hear-coherent}
 use Rattle.finish.specs.Finish.{shutdownOf, closeOf, abortOf}
 use Rattle.finish.proofs.Laws.{shutdown-coherent, close-coherent, abort-coherent}
-use Rattle.table.specs.Rules.{Group, Request, send, place, read, shutdown, close, abort, Desk, openSlot, freeSlot, linkChange, linkMessage, Call, on, hear, desk, refusal, accepted, torn, saysOf, Turn, turnOf, requestTurn, hearTurn, placedIn, Done, does, answer, next, refuses, putTurn, recordOf, elementIn, linkOf, sizesOk, Fresh, plain, startCursor, openedRecord, openRefusal, openDoes, freeRefusal, freeDoes, linkIn, linkDoes, linkAnswer, linkMessageDoes}
+use Rattle.table.specs.Rules.{Group, Request, send, place, read, shutdown, close, abort, Management, openSlot, freeSlot, linkChange, linkMessage, Call, on, hear, manage, refusal, accepted, torn, saysOf, Turn, turnOf, requestTurn, hearTurn, placedIn, Done, does, answer, next, refuses, putTurn, recordOf, elementIn, linkOf, sizesOk, Fresh, plain, startCursor, openedRecord, openRefusal, openDoes, freeRefusal, freeDoes, linkIn, linkDoes, linkAnswer, linkMessageDoes}
 use Rattle.table.specs.Table.{slotB, recordAt, openB, activeB, withLink}
 use Rattle.order.proofs.Records.{turnBy, heardTurn}
 use Rattle.order.proofs.Slots.{slot-in, open-in, open-is, element-long, Sizes, sizes-in, Put, put}
 use Rattle.order.proofs.Acts.{Conn, target, turnAt, actAt, acts, Aims, target-open, turned}
 use Rattle.order.proofs.Near as near
-use Rattle.order.proofs.Desk.{desk-good}
+use Rattle.order.proofs.Management.{manage-good}
 use Rattle.order.specs.Statement.{leaves}
 use Rattle.safety.specs.Statement.{OpenAt, ownOf, acceptedB, placedBy, changedBy}
 use Rattle.safety.proofs.Answers.{clash, Answers, fair-3, fair-torn, none-answers, send-answers, place-answers, read-answers, hear-answers, shutdown-answers, close-answers, abort-answers}
@@ -57,15 +57,15 @@ no-slot-0 g o = omega (arith, open-in (g .S) (g .table) 0 o .low)
 
 -- WHAT AN ACCEPTED CALL CHANGES of the bytes e of slot k's element: it opens the slot, places bytes there, or leaves them.
 pub data Changes (n k : ℕ) (c : Call) (e : List ℕ) : Type 0 where
-  opens : (own peer link size : ℕ) → c ≡ desk (openSlot k own peer link size) → changedBy n k c e ≡ freshElement n → Changes n k c e
+  opens : (own peer link size : ℕ) → c ≡ manage (openSlot k own peer link size) → changedBy n k c e ≡ freshElement n → Changes n k c e
   places : (at : ℕ) (b : List ℕ) → c ≡ on k (place at b) → changedBy n k c e ≡ splice e at b → Changes n k c e
-  stays : ((own peer link size : ℕ) → c ≡ desk (openSlot k own peer link size) → ⊥) → changedBy n k c e ≡ e → Changes n k c e
+  stays : ((own peer link size : ℕ) → c ≡ manage (openSlot k own peer link size) → ⊥) → changedBy n k c e ≡ e → Changes n k c e
 
 module _ (n k : ℕ) (e : List ℕ) where
   asks : (j : ℕ) (q : Request) → Changes n k (on j q) e
   asks j q = go (eqb j k) refl
     where
-      no-open : (own peer link size : ℕ) → on j q ≡ desk (openSlot k own peer link size) → ⊥
+      no-open : (own peer link size : ℕ) → on j q ≡ manage (openSlot k own peer link size) → ⊥
       no-open own peer link size p = clash (cc)
 
       puts : (q : Request) → (placedBy q e ≡ e) ⊎ ((at : ℕ) × (b : List ℕ) × (q ≡ place at b) × (placedBy q e ≡ splice e at b))
@@ -88,23 +88,23 @@ module _ (n k : ℕ) (e : List ℕ) where
       go true h = here h (puts q)
       go false h = stays no-open (by false h)
 
-  opening : (j own peer link size : ℕ) → Changes n k (desk (openSlot j own peer link size)) e
+  opening : (j own peer link size : ℕ) → Changes n k (manage (openSlot j own peer link size)) e
   opening j own peer link size = go (eqb j k) refl
     where
-      by : (t : Bool) → eqb j k ≡ t → changedBy n k (desk (openSlot j own peer link size)) e ≡ cond t (freshElement n) e
+      by : (t : Bool) → eqb j k ≡ t → changedBy n k (manage (openSlot j own peer link size)) e ≡ cond t (freshElement n) e
       by t h = ap (λ x. cond x (freshElement n) e) h
 
-      go : (t : Bool) → eqb j k ≡ t → Changes n k (desk (openSlot j own peer link size)) e
-      go true h = opens own peer link size (ap (λ i. desk (openSlot i own peer link size)) (eqb-true j k h)) (by true h)
+      go : (t : Bool) → eqb j k ≡ t → Changes n k (manage (openSlot j own peer link size)) e
+      go true h = opens own peer link size (ap (λ i. manage (openSlot i own peer link size)) (eqb-true j k h)) (by true h)
       go false h = stays (λ a b c d p. eqb-false j k h (cc)) (by false h)
 
   pub changes : (c : Call) → Changes n k c e
   changes (on j q) = asks j q
   changes (hear b) = stays (λ own peer link size p. clash (cc)) refl
-  changes (desk (openSlot j own peer link size)) = opening j own peer link size
-  changes (desk (freeSlot j)) = stays (λ own peer link size p. clash (cc)) refl
-  changes (desk (linkChange l up)) = stays (λ own peer link size p. clash (cc)) refl
-  changes (desk (linkMessage l b)) = stays (λ own peer link size p. clash (cc)) refl
+  changes (manage (openSlot j own peer link size)) = opening j own peer link size
+  changes (manage (freeSlot j)) = stays (λ own peer link size p. clash (cc)) refl
+  changes (manage (linkChange l up)) = stays (λ own peer link size p. clash (cc)) refl
+  changes (manage (linkMessage l b)) = stays (λ own peer link size p. clash (cc)) refl
 
 -- ONE TURN of a slot with n bytes, coherent and intact: what it leaves, and what it does not say. `now` is what its element must hold.
 record Kept (n : ℕ) (now : List ℕ) (t : Turn) : Type 0 where
@@ -123,7 +123,7 @@ splice-none e (x ∷ b) at z = absurd (omega (arith, z))
 abbrev putBy : Call → List ℕ → List ℕ
 putBy (on s q) e = placedBy q e
 putBy (hear b) e = e
-putBy (desk d) e = e
+putBy (manage d) e = e
 
 same : (b : Bool) (e : List ℕ) → cond b e e ≡ e
 same true e = refl
@@ -193,7 +193,7 @@ module _ (n : ℕ) (a : Bool) (c : Record) (e : List ℕ) (long : length e ≡ n
   turn : (call : Call) → Conn call → Kept n (cond (acceptedB (turnBy n a c e call .answer .says)) (putBy call e) e) (turnBy n a c e call)
   turn (on s q) t = request q
   turn (hear b) t = heard (decodeOf b)
-  turn (desk d) t = absurd t
+  turn (manage d) t = absurd t
 
 -- WHAT A CALL DOES. It opened slot k
 pub record Opening (g : Group) (c : Call) (k : ℕ) (x : Done) : Type 0 where
@@ -201,7 +201,7 @@ pub record Opening (g : Group) (c : Call) (k : ℕ) (x : Done) : Type 0 where
   pub peer : ℕ
   pub link : ℕ
   pub size : ℕ
-  pub is : c ≡ desk (openSlot k own peer link size)
+  pub is : c ≡ manage (openSlot k own peer link size)
   pub took : x .answer .says ≡ accepted
 
 -- what slot k's element must hold after it
@@ -250,14 +250,14 @@ module _ (g : Group) (s : Sound g) where
       → cond b (putBy c e) e ≡ cond b (changedBy (g .N) (suc i) c e) e
   own-held (on k q) b i e t a = ap (λ x. cond b (cond x (placedBy q e) e) e) (sym (eq-eqb k (suc i) a))
   own-held (hear m) b i e t a = refl
-  own-held (desk x) b i e t a = absurd t
+  own-held (manage x) b i e t a = absurd t
 
   other-held : (c : Call) (b : Bool) (i j : ℕ) (e : List ℕ) → Conn c → Aims c (suc i) (ownOf g (suc i)) → j ≢ i
       → cond b (changedBy (g .N) (suc j) c e) e ≡ e
   other-held (on k q) b i j e t a d =
       ap (λ x. cond b (cond x (placedBy q e) e) e) (ne-eqb k (suc j) (λ p. d (omega (arith, p, a)))) ∙ same b e
   other-held (hear m) b i j e t a d = same b e
-  other-held (desk x) b i j e t a d = absurd t
+  other-held (manage x) b i j e t a d = absurd t
 
   conn-turns : (c : Call) (i : ℕ) → Conn c → OpenAt g (suc i) → Aims c (suc i) (ownOf g (suc i))
       → Does g c (putTurn g (suc i) (turnAt g (suc i) c))
@@ -293,7 +293,7 @@ module _ (g : Group) (s : Sound g) where
       go : (d : Decoded) → decodeOf b ≡ d → Does g (hear b) (actAt g (hear b) 0)
       go (Good m) e = rw e (refused g (hear b) 5 [] (λ e. omega (arith, e)))
       go Malformed e = rw e (refused g (hear b) 4 [] (λ e. omega (arith, e)))
-  not-meant (desk d) t = absurd t
+  not-meant (manage d) t = absurd t
 
   conn-does : (c : Call) → Conn c → Does g c (does g c)
   conn-does c t = subst (λ x. Does g c x) (sym (acts g c t (s .good .sizes))) (go (target g c) refl)
@@ -353,15 +353,15 @@ opened-coherent n own peer link size n-least own-some peer-some l size-least siz
 
 module _ (g : Group) (s : Sound g) where
   -- a turn that the desk puts back in slot i + 1
-  desk-turns : (d : Desk) (i : ℕ) (t : Turn) → i < g .S → length (t .element) ≡ g .N
+  manage-turns : (d : Management) (i : ℕ) (t : Turn) → i < g .S → length (t .element) ≡ g .N
       → (t .after ≡ zeroRecord) ⊎ (coherentB (g .N) (t .after) ≡ true) → intactB (t .element) ≡ true
       → t .answer .says ≡ accepted
-      → t .element ≡ changedBy (g .N) (suc i) (desk d) (elementIn g (suc i))
-      → ((j : ℕ) (e : List ℕ) → j ≢ i → changedBy (g .N) (suc j) (desk d) e ≡ e)
-      → OpenAt g (suc i) ⊎ Opening g (desk d) (suc i) (putTurn g (suc i) t)
-      → Does g (desk d) (putTurn g (suc i) t)
+      → t .element ≡ changedBy (g .N) (suc i) (manage d) (elementIn g (suc i))
+      → ((j : ℕ) (e : List ℕ) → j ≢ i → changedBy (g .N) (suc j) (manage d) e ≡ e)
+      → OpenAt g (suc i) ⊎ Opening g (manage d) (suc i) (putTurn g (suc i) t)
+      → Does g (manage d) (putTurn g (suc i) t)
   unfolding putTurn
-  desk-turns d i t l fits r eye a own other o =
+  manage-turns d i t l fits r eye a own other o =
       record {
         effect =
             inr (
@@ -380,27 +380,27 @@ module _ (g : Group) (s : Sound g) where
         not-torn = λ e. clash (cc);
       }
 
-  open-does : (k own peer link size : ℕ) → Does g (desk (openSlot k own peer link size)) (openDoes g k own peer link size)
+  open-does : (k own peer link size : ℕ) → Does g (manage (openSlot k own peer link size)) (openDoes g k own peer link size)
   unfolding openDoes openRefusal putTurn
   open-does k own peer link size = go (eqb (openRefusal g k own peer link size) 0) refl
     where
       by : (k : ℕ) → slotB (g .S) k ≡ true → coherentB (g .N) (openedRecord own peer link size) ≡ true
-          → Does g (desk (openSlot k own peer link size))
+          → Does g (manage (openSlot k own peer link size))
           (putTurn g k (record { answer = plain; after = openedRecord own peer link size; element = freshElement (g .N) }))
       by zero h ok = absurd (omega (arith, slot-in (g .S) 0 h))
       by (suc i) h ok =
           let four : 4 ≤ g .N = omega (arith, sizes g s .least) in
-          desk-turns (openSlot (suc i) own peer link size) i
+          manage-turns (openSlot (suc i) own peer link size) i
           (record { answer = plain; after = openedRecord own peer link size; element = freshElement (g .N) })
           (slot-in (g .S) (suc i) h .1) (fresh-length (g .N) four) (inr ok) (fresh-intact (g .N) four) refl
           (rw (eq-eqb (suc i) (suc i) refl)) (λ j e d. rw (ne-eqb (suc i) (suc j) (λ p. d (omega (arith, p)))))
           (inr (record { own = own; peer = peer; link = link; size = size; is = refl; took = refl }))
 
       go : (t : Bool) → eqb (openRefusal g k own peer link size) 0 ≡ t
-          → Does g (desk (openSlot k own peer link size))
+          → Does g (manage (openSlot k own peer link size))
           (cond t (putTurn g k (record { answer = plain; after = openedRecord own peer link size; element = freshElement (g .N) }))
           (refuses g (openRefusal g k own peer link size) []))
-      go false e = refused g (desk (openSlot k own peer link size)) (openRefusal g k own peer link size) [] (open-not3 g k own peer link size .not3)
+      go false e = refused g (manage (openSlot k own peer link size)) (openRefusal g k own peer link size) [] (open-not3 g k own peer link size .not3)
       go true e =
           let a = past (not (sizesOk g)) 0 _ (eqb-true (openRefusal g k own peer link size) 0 e) in
           let b = past (not (slotB (g .S) k)) 1 _ (a .1) in
@@ -416,7 +416,7 @@ module _ (g : Group) (s : Sound g) where
           (opened-coherent (g .N) own peer link size (sizes g s .least) (omega (arith, own-some)) (omega (arith, peer-some))
           (not-false (linkIn link) (x .0)) (ltb-false size 8 (w .0)) (ltb-false 65540 size (w .1)))
 
-  free-does : (k : ℕ) → Does g (desk (freeSlot k)) (freeDoes g k)
+  free-does : (k : ℕ) → Does g (manage (freeSlot k)) (freeDoes g k)
   unfolding freeDoes freeRefusal
   free-does k = go (eqb (freeRefusal g k) 0) refl
     where
@@ -431,18 +431,18 @@ module _ (g : Group) (s : Sound g) where
       number-3 true o = rw (not-here k o) (or-else (not (recordOf g k .marks .abort)) 7 0 (number 7 refl) (number 0 refl))
 
       by : (k : ℕ) → openB (g .S) (g .table) k ≡ true
-          → Does g (desk (freeSlot k)) (putTurn g k (record { answer = plain; after = zeroRecord; element = elementIn g k }))
+          → Does g (manage (freeSlot k)) (putTurn g k (record { answer = plain; after = zeroRecord; element = elementIn g k }))
       by zero o = absurd (no-slot-0 g o)
       by (suc i) o =
           let l = open-in (g .S) (g .table) (suc i) o .high in
-          desk-turns (freeSlot (suc i)) i (record { answer = plain; after = zeroRecord; element = elementIn g (suc i) }) l
+          manage-turns (freeSlot (suc i)) i (record { answer = plain; after = zeroRecord; element = elementIn g (suc i) }) l
           (element-long (g .N) (g .S) (g .memory) (sizes g s .whole) i l) (inl refl) (s .intact i o) refl refl (λ j e d. refl) (inl o)
 
       go : (t : Bool) → eqb (freeRefusal g k) 0 ≡ t
-          → Does g (desk (freeSlot k))
+          → Does g (manage (freeSlot k))
           (cond t (putTurn g k (record { answer = plain; after = zeroRecord; element = elementIn g k })) (refuses g (freeRefusal g k) []))
       go false e =
-          refused g (desk (freeSlot k)) (freeRefusal g k) []
+          refused g (manage (freeSlot k)) (freeRefusal g k) []
           (or-else (not (sizesOk g)) 1 _ (number 1 refl) (number-3 (openB (g .S) (g .table) k) refl) .not3)
       go true e =
           let a = past (not (sizesOk g)) 0 _ (eqb-true (freeRefusal g k) 0 e) in
@@ -450,8 +450,8 @@ module _ (g : Group) (s : Sound g) where
           by k (not-false (openB (g .S) (g .table) k) (b .0))
 
   -- a desk call that is accepted and touches no slot
-  aside : (d : Desk) (x : Done) → x .answer .says ≡ accepted → x .group .S ≡ g .S → x .group .N ≡ g .N → x .group .table ≡ g .table
-      → x .group .memory ≡ g .memory → ((k : ℕ) (e : List ℕ) → changedBy (g .N) k (desk d) e ≡ e) → Does g (desk d) x
+  aside : (d : Management) (x : Done) → x .answer .says ≡ accepted → x .group .S ≡ g .S → x .group .N ≡ g .N → x .group .table ≡ g .table
+      → x .group .memory ≡ g .memory → ((k : ℕ) (e : List ℕ) → changedBy (g .N) k (manage d) e ≡ e) → Does g (manage d) x
   aside d x a p q r m h =
       record {
         effect = inl (record { same-S = p; same-N = q; same-table = r; same-memory = m; same-held = λ k e. rw a (h k e) });
@@ -459,7 +459,7 @@ module _ (g : Group) (s : Sound g) where
         not-torn = λ e. clash (cc);
       }
 
-  link-does : (l : ℕ) (up : Bool) → Does g (desk (linkChange l up)) (linkDoes g l up)
+  link-does : (l : ℕ) (up : Bool) → Does g (manage (linkChange l up)) (linkDoes g l up)
   unfolding linkDoes
   link-does l up = go (linkIn l)
     where
@@ -470,38 +470,38 @@ module _ (g : Group) (s : Sound g) where
             group = record { S = g .S; N = g .N; table = g .table; links = withLink (g .links) l up; memory = g .memory };
           }
 
-      go : (t : Bool) → Does g (desk (linkChange l up)) (cond t done (refuses g 13 []))
+      go : (t : Bool) → Does g (manage (linkChange l up)) (cond t done (refuses g 13 []))
       go true = aside (linkChange l up) done refl refl refl refl refl (λ k e. refl)
-      go false = refused g (desk (linkChange l up)) 13 [] (λ e. omega (arith, e))
+      go false = refused g (manage (linkChange l up)) 13 [] (λ e. omega (arith, e))
 
-  message-does : (l : ℕ) (b : List ℕ) → Does g (desk (linkMessage l b)) (linkMessageDoes g l b)
+  message-does : (l : ℕ) (b : List ℕ) → Does g (manage (linkMessage l b)) (linkMessageDoes g l b)
   unfolding linkMessageDoes
   message-does l b = go (linkIn l) (activeB (g .links) l)
     where
-      by : (k : Kind) (reply : List ℕ) → Does g (desk (linkMessage l b)) (linkAnswer g k reply)
-      by Kinds.Malformed reply = refused g (desk (linkMessage l b)) 4 [] (λ e. omega (arith, e))
+      by : (k : Kind) (reply : List ℕ) → Does g (manage (linkMessage l b)) (linkAnswer g k reply)
+      by Kinds.Malformed reply = refused g (manage (linkMessage l b)) 4 [] (λ e. omega (arith, e))
       by Kinds.Optional reply = aside (linkMessage l b) _ refl refl refl refl refl (λ k e. refl)
-      by Kinds.Named reply = refused g (desk (linkMessage l b)) 14 [] (λ e. omega (arith, e))
+      by Kinds.Named reply = refused g (manage (linkMessage l b)) 14 [] (λ e. omega (arith, e))
       by Kinds.TestRequest reply = aside (linkMessage l b) _ refl refl refl refl refl (λ k e. refl)
       by Kinds.TestReply reply = aside (linkMessage l b) _ refl refl refl refl refl (λ k e. refl)
 
       go : (t u : Bool)
-          → Does g (desk (linkMessage l b))
+          → Does g (manage (linkMessage l b))
           (cond t (cond u (linkAnswer g (receivedOf b .kind) (receivedOf b .reply)) (refuses g 6 [])) (refuses g 13 []))
       go true true = by (receivedOf b .kind) (receivedOf b .reply)
-      go true false = refused g (desk (linkMessage l b)) 6 [] (λ e. omega (arith, e))
-      go false u = refused g (desk (linkMessage l b)) 13 [] (λ e. omega (arith, e))
+      go true false = refused g (manage (linkMessage l b)) 6 [] (λ e. omega (arith, e))
+      go false u = refused g (manage (linkMessage l b)) 13 [] (λ e. omega (arith, e))
 
-  desk-does : (d : Desk) → Does g (desk d) (does g (desk d))
-  desk-does (openSlot k own peer link size) = open-does k own peer link size
-  desk-does (freeSlot k) = free-does k
-  desk-does (linkChange l up) = link-does l up
-  desk-does (linkMessage l b) = message-does l b
+  manage-does : (d : Management) → Does g (manage d) (does g (manage d))
+  manage-does (openSlot k own peer link size) = open-does k own peer link size
+  manage-does (freeSlot k) = free-does k
+  manage-does (linkChange l up) = link-does l up
+  manage-does (linkMessage l b) = message-does l b
 
   pub call-does : (c : Call) → Does g c (does g c)
   call-does (on k q) = conn-does g s (on k q) tt
   call-does (hear b) = conn-does g s (hear b) tt
-  call-does (desk d) = desk-does d
+  call-does (manage d) = manage-does d
 
 -- THE INVARIANT IS KEPT.
 pub sound-fresh : (g : Group) → Fresh g → Sound g
@@ -515,7 +515,7 @@ sound-fresh g f =
 good-next : (g : Group) → near.Good g → (c : Call) → near.Good (next g c)
 good-next g h (on k q) = near.near-good g _ (near.near-next g g (near.near-start g h) (on k q) tt)
 good-next g h (hear b) = near.near-good g _ (near.near-next g g (near.near-start g h) (hear b) tt)
-good-next g h (desk d) = desk-good g d h
+good-next g h (manage d) = manage-good g d h
 
 module _ (g : Group) (s : Sound g) (c : Call) where
   abbrev pub h : Group

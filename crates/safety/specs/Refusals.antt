@@ -6,13 +6,13 @@ use mathlib.Core.Bool.{Bool, true, false, _||_}
 use mathlib.Core.List.{List, [], _∷_}
 use lib.Dec.{eqb}
 use Rattle.connection.specs.Connection.{noMessage}
-use Rattle.table.specs.Rules.{Group, send, place, read, shutdown, close, abort, openSlot, freeSlot, linkChange, linkMessage, Call, on, hear, desk, refusal, answer, next, outOf}
+use Rattle.table.specs.Rules.{Group, send, place, read, shutdown, close, abort, openSlot, freeSlot, linkChange, linkMessage, Call, on, hear, manage, refusal, answer, next, outOf}
 
 -- what is lent to a call to write into, beside the group: a read's out buffer
 abbrev pub lentOut : Call → List ℕ
 lentOut (on k q) = outOf q
 lentOut (hear b) = []
-lentOut (desk d) = []
+lentOut (manage d) = []
 
 -- A REFUSED CALL ALTERS NOTHING IT WAS LENT. The group stays as it was, in every table and byte; the answer is the number only, with no
 -- message, and out holds what it held.
@@ -30,10 +30,10 @@ listed (on k shutdown) = 1 ∷ 2 ∷ 3 ∷ 6 ∷ 7 ∷ []
 listed (on k close) = 1 ∷ 2 ∷ 3 ∷ 6 ∷ 7 ∷ []
 listed (on k abort) = 1 ∷ 2 ∷ 3 ∷ 6 ∷ 7 ∷ []
 listed (hear b) = 1 ∷ 4 ∷ 5 ∷ 3 ∷ 6 ∷ 8 ∷ []
-listed (desk (openSlot k own peer link size)) = 1 ∷ 2 ∷ 10 ∷ 12 ∷ 13 ∷ 6 ∷ 11 ∷ []
-listed (desk (freeSlot k)) = 1 ∷ 2 ∷ 3 ∷ 7 ∷ []
-listed (desk (linkChange l up)) = 13 ∷ []
-listed (desk (linkMessage l b)) = 13 ∷ 6 ∷ 4 ∷ 14 ∷ []
+listed (manage (openSlot k own peer link size)) = 1 ∷ 2 ∷ 10 ∷ 12 ∷ 13 ∷ 6 ∷ 11 ∷ []
+listed (manage (freeSlot k)) = 1 ∷ 2 ∷ 3 ∷ 7 ∷ []
+listed (manage (linkChange l up)) = 13 ∷ []
+listed (manage (linkMessage l b)) = 13 ∷ 6 ∷ 4 ∷ 14 ∷ []
 
 -- k stands in the list
 abbrev pub inB : ℕ → List ℕ → Bool

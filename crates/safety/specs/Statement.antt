@@ -14,7 +14,7 @@ use Rattle.element.specs.Element.{baseOf, splice, intactB, freshElement, ringFr
 use Rattle.connection.specs.Connection.{coherentB}
 use Rattle.transmit.specs.Transmit.{sendForbids}
 use Rattle.table.specs.Table.{slotB, openB}
-use Rattle.table.specs.Rules.{Group, Request, send, place, read, shutdown, close, abort, openSlot, freeSlot, linkChange, linkMessage, Call, on, hear, desk, Says, refusal, accepted, sent, wasRead, torn, heard, answer, next, sizesOk, recordOf, elementIn, linkOf, holderOf, Fresh}
+use Rattle.table.specs.Rules.{Group, Request, send, place, read, shutdown, close, abort, openSlot, freeSlot, linkChange, linkMessage, Call, on, hear, manage, Says, refusal, accepted, sent, wasRead, torn, heard, answer, next, sizesOk, recordOf, elementIn, linkOf, holderOf, Fresh}
 use Rattle.order.specs.Statement.{leaves, At}
 
 -- whatever calls are made of a fresh group, this holds of the group that they leave
@@ -76,10 +76,10 @@ placedBy abort e = e
 abbrev pub changedBy : ℕ → ℕ → Call → List ℕ → List ℕ
 changedBy N k (on j q) e = cond (eqb j k) (placedBy q e) e
 changedBy N k (hear b) e = e
-changedBy N k (desk (openSlot j own peer link size)) e = cond (eqb j k) (freshElement N) e
-changedBy N k (desk (freeSlot j)) e = e
-changedBy N k (desk (linkChange l up)) e = e
-changedBy N k (desk (linkMessage l b)) e = e
+changedBy N k (manage (openSlot j own peer link size)) e = cond (eqb j k) (freshElement N) e
+changedBy N k (manage (freeSlot j)) e = e
+changedBy N k (manage (linkChange l up)) e = e
+changedBy N k (manage (linkMessage l b)) e = e
 
 -- one call on, from the bytes e
 unfoldable pub heldAfter : Group → Call → ℕ → List ℕ → List ℕ
@@ -103,7 +103,7 @@ pub record Opens (g : Group) (cs : List Call) (i k : ℕ) : Type 0 where
   pub peer : ℕ
   pub link : ℕ
   pub size : ℕ
-  pub took : AcceptedAt g cs i (desk (openSlot k own peer link size))
+  pub took : AcceptedAt g cs i (manage (openSlot k own peer link size))
 
 -- it stored the byte v at offset x of slot k's element
 pub record Stores (g : Group) (cs : List Call) (i k x v : ℕ) : Type 0 where

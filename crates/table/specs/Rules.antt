@@ -55,18 +55,18 @@ pub data Request : Type 0 where
   close : Request
   abort : Request
 
--- of the desk (document 01's word): open takes slot, own token, peer token, link and N'; link change a link and whether it is active;
+-- of management, document 01's desk calls: open takes slot, own token, peer token, link and N'; link change a link and whether it is active;
 -- link message a link and bytes
-pub data Desk : Type 0 where
-  openSlot : ℕ → ℕ → ℕ → ℕ → ℕ → Desk
-  freeSlot : ℕ → Desk
-  linkChange : ℕ → Bool → Desk
-  linkMessage : ℕ → List ℕ → Desk
+pub data Management : Type 0 where
+  openSlot : ℕ → ℕ → ℕ → ℕ → ℕ → Management
+  freeSlot : ℕ → Management
+  linkChange : ℕ → Bool → Management
+  linkMessage : ℕ → List ℕ → Management
 
 pub data Call : Type 0 where
   on : ℕ → Request → Call
   hear : List ℕ → Call
-  desk : Desk → Call
+  manage : Management → Call
 
 -- THE ANSWERS: the refusal's number, or all that the call's line names, with every byte of a message made, and the out buffer's bytes
 -- as the call leaves them.
@@ -297,16 +297,16 @@ linkMessageDoes g l b =
     (cond (activeB (g .links) l) (linkAnswer g (receivedOf b .kind) (receivedOf b .reply)) (refuses g 6 []))
     (refuses g 13 [])
 
-abbrev pub deskDoes : Group → Desk → Done
-deskDoes g (openSlot k own peer link size) = openDoes g k own peer link size
-deskDoes g (freeSlot k) = freeDoes g k
-deskDoes g (linkChange l up) = linkDoes g l up
-deskDoes g (linkMessage l b) = linkMessageDoes g l b
+abbrev pub manageDoes : Group → Management → Done
+manageDoes g (openSlot k own peer link size) = openDoes g k own peer link size
+manageDoes g (freeSlot k) = freeDoes g k
+manageDoes g (linkChange l up) = linkDoes g l up
+manageDoes g (linkMessage l b) = linkMessageDoes g l b
 
 abbrev pub does : Group → Call → Done
 does g (on k q) = onDoes g k q
 does g (hear b) = hearDoes g b
-does g (desk d) = deskDoes g d
+does g (manage d) = manageDoes g d
 
 -- ONE RULE FOR ALL CALLS.
 abbrev pub answer : Group → Call → Answer

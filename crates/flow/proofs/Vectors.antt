@@ -3,8 +3,8 @@ use mathlib.Core.Path.{_≡_, refl}
 use mathlib.Core.Bool.{true}
 use Rattle.cursor.specs.Cursor.{inRange, sameB, movedOf, stepOf, turnsOf, distanceOf, goodB, gapOf}
 use Rattle.flow.specs.Flow.{roomOf, takenOf, firstOf, placingsOf, windowOf, updateDue}
-use Rattle.flow.specs.Soundings.{right, soundings, allRight}
+use Rattle.flow.specs.Vectors.{right, vectors, allRight}
 
-pub soundings-right : allRight soundings ≡ true
-unfolding inRange sameB movedOf stepOf turnsOf distanceOf goodB gapOf roomOf takenOf firstOf placingsOf windowOf updateDue right soundings
-soundings-right = refl
+pub vectors-right : allRight vectors ≡ true
+unfolding inRange sameB movedOf stepOf turnsOf distanceOf goodB gapOf roomOf takenOf firstOf placingsOf windowOf updateDue right vectors
+vectors-right = refl

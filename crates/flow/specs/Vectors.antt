@@ -1,5 +1,5 @@
 -- Document 01, "Soundings already checked": those marked *, as rows of a single table. `right` computes each row with the definitions
--- that the contracts cite; proofs/Soundings has the one theorem. N is 10,000 unless said.
+-- that the contracts cite; proofs/Vectors has the one theorem. N is 10,000 unless said.
 -- Assumes nothing.
 use Prim.Native.Nat.{ℕ}
 use mathlib.Core.Bool.{Bool, true, false, _&&_, not}
@@ -17,17 +17,17 @@ abbrev pub cur : ℕ → ℕ → Cursor
 cur c w = record { offset = c; wrap = w }
 
 -- what a row says
-pub data Sounding : Type 0 where
+pub data Vector : Type 0 where
   -- N, a cursor plus k is a cursor
-  steps : ℕ → Cursor → ℕ → Cursor → Sounding
+  steps : ℕ → Cursor → ℕ → Cursor → Vector
   -- N', R and Q: the room left
-  leaves : ℕ → Cursor → Cursor → ℕ → Sounding
+  leaves : ℕ → Cursor → Cursor → ℕ → Vector
   -- N', R, Q and a length: n; two placings, each an offset and a length; the new Q; whether B is on
-  sends : ℕ → Cursor → Cursor → ℕ → ℕ → ℕ → ℕ → ℕ → ℕ → Cursor → Bool → Sounding
+  sends : ℕ → Cursor → Cursor → ℕ → ℕ → ℕ → ℕ → ℕ → ℕ → Cursor → Bool → Vector
   -- N, from one cursor to another: the distance, and whether it is good
-  apart : ℕ → Cursor → Cursor → ℤ → Bool → Sounding
+  apart : ℕ → Cursor → Cursor → ℤ → Bool → Vector
   -- N, T and P, the new C: the peer's window, and whether there is an update
-  updates : ℕ → Cursor → Cursor → Cursor → ℕ → Bool → Sounding
+  updates : ℕ → Cursor → Cursor → Cursor → ℕ → Bool → Vector
 
 abbrev pub sameBool : Bool → Bool → Bool
 sameBool true b = b
@@ -46,7 +46,7 @@ twoAre (One p) a k b l = false
 twoAre (Two p q) a k b l =
     eqb (p .offset) a && (eqb (p .start) 0 && (eqb (p .len) k && (eqb (q .offset) b && (eqb (q .start) k && eqb (q .len) l))))
 
-unfoldable pub right : Sounding → Bool
+unfoldable pub right : Vector → Bool
 right (steps n c k e) = sameB (stepOf n c k) e
 right (leaves n r q room) = eqb (roomOf n r q) room
 right (sends n r q len taken a k b l e blocked) =
@@ -55,8 +55,8 @@ right (sends n r q len taken a k b l e blocked) =
 right (apart n a b z good) = sameℤ (distanceOf (dataOf n) a b) z && sameBool (goodB (dataOf n) a b) good
 right (updates n t p c window due) = eqb (windowOf n t p) window && sameBool (updateDue n t p c) due
 
-unfoldable pub soundings : List Sounding
-soundings =
+unfoldable pub vectors : List Vector
+vectors =
     -- (4,0) plus 1,000 is (1004,0); room left 8,996
     steps 10000 (cur 4 0) 1000 (cur 1004 0)
     ∷ leaves 10000 (cur 4 0) (cur 1004 0) 8996
@@ -82,6 +82,6 @@ soundings =
     ∷ sends 8 (cur 7 0) (cur 7 0) 6 4 7 1 4 3 (cur 7 1) true
     ∷ []
 
-abbrev pub allRight : List Sounding → Bool
+abbrev pub allRight : List Vector → Bool
 allRight [] = true
 allRight (s ∷ l) = right s && allRight l

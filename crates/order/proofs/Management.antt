@@ -17,7 +17,7 @@ use Rattle.element.specs.Element.{freshElement}
 use Rattle.element.proofs.Others.{fresh-length}
 use Rattle.connection.specs.Connection.{zeroRecord}
 use Rattle.table.specs.Table.{slotB, openB, activeB, findFrom, withLink}
-use Rattle.table.specs.Rules.{Group, desk, Desk, openSlot, freeSlot, linkChange, linkMessage, Turn, next, plain, refuses, sizesOk, recordOf, elementIn, putTurn, openRefusal, openedRecord, openDoes, freeRefusal, freeDoes, linkIn, linkDoes, linkAnswer, linkMessageDoes}
+use Rattle.table.specs.Rules.{Group, manage, Management, openSlot, freeSlot, linkChange, linkMessage, Turn, next, plain, refuses, sizesOk, recordOf, elementIn, putTurn, openRefusal, openedRecord, openDoes, freeRefusal, freeDoes, linkIn, linkDoes, linkAnswer, linkMessageDoes}
 use Rattle.order.proofs.Slots.{slot-in, open-in, open-is, open-found, element-long, Sizes, sizes-in, Put, put}
 use Rattle.order.proofs.Acts.{OpenAt, ownOf}
 use Rattle.order.proofs.Near.{Good}
@@ -148,8 +148,8 @@ message-good g l b good = go (linkIn l) (activeB (g .links) l)
     go true false = good
     go false u = good
 
-pub desk-good : (g : Group) (d : Desk) → Good g → Good (next g (desk d))
-desk-good g (openSlot k own peer link size) good = open-good g k own peer link size good
-desk-good g (freeSlot k) good = free-good g k good
-desk-good g (linkChange l up) good = link-good g l up good
-desk-good g (linkMessage l b) good = message-good g l b good
+pub manage-good : (g : Group) (d : Management) → Good g → Good (next g (manage d))
+manage-good g (openSlot k own peer link size) good = open-good g k own peer link size good
+manage-good g (freeSlot k) good = free-good g k good
+manage-good g (linkChange l up) good = link-good g l up good
+manage-good g (linkMessage l b) good = message-good g l b good
