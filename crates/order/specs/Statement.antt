@@ -44,7 +44,7 @@ connectionAt (suc k) = connection (suc k)
 
 -- By the group as it was when the call's span began: a call on a slot belongs to that slot's connection; one on a slot outside 1 to S,
 -- or closed then, belongs to nobody. A heard message belongs to the connection that held its token then; one with a token nobody held,
--- or malformed, belongs to nobody. A desk call, a refused one too, is the desk's.
+-- or malformed, belongs to nobody. A desk call, a refused one too, is the manager's.
 unfoldable pub ownerOf : Group → Call → Whose
 ownerOf began (on k q) = cond (openB (began .S) (began .table) k) (connection k) nobody
 ownerOf began (hear b) = connectionAt (hearer began (decodeOf b))
