@@ -1,0 +1,207 @@
+//! The marks of an SVG.
+
+/// The width of a letter at size 1, about right for the fonts named below.
+const LETTER: f64 = 0.6;
+const FONTS: &str = "DejaVu Sans, Verdana, sans-serif";
+const FIXED: &str = "DejaVu Sans Mono, Consolas, monospace";
+
+pub struct Svg {
+    text: String,
+}
+
+/// Where a piece of text is anchored.
+#[derive(Clone, Copy, PartialEq)]
+pub enum Anchor {
+    Start,
+    Middle,
+    End,
+}
+
+/// How a piece of text is written.
+#[derive(Clone, Copy)]
+pub struct Pen {
+    pub size: f64,
+    pub colour: &'static str,
+    pub anchor: Anchor,
+    pub bold: bool,
+    pub fixed: bool,
+}
+
+impl Pen {
+    pub fn new(size: f64, colour: &'static str, anchor: Anchor) -> Pen {
+        Pen {
+            size,
+            colour,
+            anchor,
+            bold: false,
+            fixed: false,
+        }
+    }
+
+    pub fn bold(self) -> Pen {
+        Pen { bold: true, ..self }
+    }
+
+    pub fn fixed(self) -> Pen {
+        Pen {
+            fixed: true,
+            ..self
+        }
+    }
+
+    /// About how wide a text comes out.
+    pub fn width(&self, text: &str) -> f64 {
+        text.chars().count() as f64 * self.size * LETTER
+    }
+
+    /// Cuts a text that would be wider than there is room for.
+    pub fn fitted(&self, text: &str, room: f64) -> String {
+        if self.width(text) <= room {
+            return text.to_string();
+        }
+        let most = (room / (self.size * LETTER)) as usize;
+        let kept: String = text.chars().take(most.saturating_sub(1)).collect();
+        format!("{}\u{2026}", kept.trim_end())
+    }
+}
+
+impl Svg {
+    pub fn new(width: f64, height: f64, paper: &str) -> Svg {
+        let mut svg = Svg {
+            text: String::new(),
+        };
+        svg.add(&format!(
+            "<svg xmlns=\"http://www.w3.org/2000/svg\" width=\"{width:.0}\" height=\"{height:.0}\" \
+             viewBox=\"0 0 {width:.0} {height:.0}\" font-family=\"{FONTS}\">"
+        ));
+        svg.rectangle(0.0, 0.0, width, height, paper);
+        svg
+    }
+
+    pub fn finish(mut self) -> String {
+        self.add("</svg>");
+        self.text
+    }
+
+    fn add(&mut self, element: &str) {
+        self.text.push_str(element);
+        self.text.push('\n');
+    }
+
+    /// What is drawn inside is paler.
+    pub fn faded(&mut self, opacity: f64, inside: impl FnOnce(&mut Svg)) {
+        self.add(&format!("<g opacity=\"{opacity}\">"));
+        inside(self);
+        self.add("</g>");
+    }
+
+    pub fn write(&mut self, x: f64, y: f64, pen: Pen, text: &str) {
+        if text.is_empty() {
+            return;
+        }
+        let anchor = match pen.anchor {
+            Anchor::Start => "",
+            Anchor::Middle => " text-anchor=\"middle\"",
+            Anchor::End => " text-anchor=\"end\"",
+        };
+        let bold = if pen.bold {
+            " font-weight=\"bold\""
+        } else {
+            ""
+        };
+        let family = if pen.fixed {
+            format!(" font-family=\"{FIXED}\" xml:space=\"preserve\"")
+        } else {
+            String::new()
+        };
+        self.add(&format!(
+            "<text x=\"{x:.1}\" y=\"{y:.1}\" font-size=\"{}\" fill=\"{}\"{anchor}{bold}{family}>{}</text>",
+            pen.size,
+            pen.colour,
+            escaped(text)
+        ));
+    }
+
+    pub fn rectangle(&mut self, x: f64, y: f64, width: f64, height: f64, fill: &str) {
+        self.add(&format!(
+            "<rect x=\"{x:.1}\" y=\"{y:.1}\" width=\"{width:.1}\" height=\"{height:.1}\" \
+             fill=\"{fill}\"/>"
+        ));
+    }
+
+    /// A rectangle's edge, dashed or not.
+    pub fn frame(&mut self, x: f64, y: f64, width: f64, height: f64, colour: &str, dashed: bool) {
+        let dash = if dashed {
+            " stroke-dasharray=\"4 3\""
+        } else {
+            ""
+        };
+        self.add(&format!(
+            "<rect x=\"{x:.1}\" y=\"{y:.1}\" width=\"{width:.1}\" height=\"{height:.1}\" \
+             fill=\"none\" stroke=\"{colour}\"{dash}/>"
+        ));
+    }
+
+    pub fn line(&mut self, from: (f64, f64), to: (f64, f64), colour: &str, style: &str) {
+        self.add(&format!(
+            "<line x1=\"{:.1}\" y1=\"{:.1}\" x2=\"{:.1}\" y2=\"{:.1}\" stroke=\"{colour}\"{style}/>",
+            from.0, from.1, to.0, to.1
+        ));
+    }
+
+    /// Upright lines of one height, thin.
+    pub fn rules(&mut self, xs: &[f64], top: f64, bottom: f64, colour: &str) {
+        let path: String = xs
+            .iter()
+            .map(|x| format!("M{x:.1} {top:.1}V{bottom:.1}"))
+            .collect();
+        if !path.is_empty() {
+            self.add(&format!(
+                "<path d=\"{path}\" stroke=\"{colour}\" stroke-width=\"0.6\"/>"
+            ));
+        }
+    }
+
+    pub fn disc(&mut self, x: f64, y: f64, radius: f64, colour: &str) {
+        self.add(&format!(
+            "<circle cx=\"{x:.1}\" cy=\"{y:.1}\" r=\"{radius:.1}\" fill=\"{colour}\"/>"
+        ));
+    }
+
+    /// An arrow's head whose tip is at (x, y); it points along x.
+    pub fn head(&mut self, x: f64, y: f64, towards: f64, colour: &str) {
+        let back = x - towards * 8.0;
+        self.add(&format!(
+            "<path d=\"M{x:.1} {y:.1}L{back:.1} {:.1}V{:.1}Z\" fill=\"{colour}\"/>",
+            y - 4.5,
+            y + 4.5
+        ));
+    }
+
+    /// Signs of one size and colour, each at its own middle.
+    pub fn signs(&mut self, signs: &[(f64, String)], y: f64, size: f64, colour: &str) {
+        if signs.is_empty() {
+            return;
+        }
+        let inside: String = signs
+            .iter()
+            .map(|(x, sign)| format!("<text x=\"{x:.1}\" y=\"{y:.1}\">{}</text>", escaped(sign)))
+            .collect();
+        self.add(&format!(
+            "<g font-size=\"{size}\" text-anchor=\"middle\" fill=\"{colour}\">{inside}</g>"
+        ));
+    }
+}
+
+fn escaped(text: &str) -> String {
+    text.chars()
+        .map(|letter| match letter {
+            '&' => "&amp;".to_string(),
+            '<' => "&lt;".to_string(),
+            '>' => "&gt;".to_string(),
+            '"' => "&quot;".to_string(),
+            other if other.is_control() => " ".to_string(),
+            other => other.to_string(),
+        })
+        .collect()
+}
