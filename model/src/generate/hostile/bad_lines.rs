@@ -1,0 +1,209 @@
+//! Lines that do not parse, and the longest that do.
+
+use super::Bench;
+
+impl Bench {
+    pub(super) fn bad_lines(&mut self) {
+        self.list.group(2, 16);
+        self.list.link(1, true);
+        self.list.open(1, 5, 6, 1, 16);
+        for form in FORMS {
+            self.bad_line(form);
+        }
+        for line in [
+            &b" "[..],
+            b"  ",
+            b"\t",
+            b"\r",
+            b"\x00",
+            b"table\r",
+            b" table",
+            b"table ",
+            b"table 1",
+            b"TABLE",
+            b"Table",
+            b"tables",
+            b" # no comment",
+            b"#a comment",
+            b"#",
+            b"",
+            b"close1",
+            b"close 1\r",
+            b"-",
+            b"1",
+            b"\xC3\xA9",
+            b"send 1 \xC3\xA9",
+            b"hear",
+            b"hear ",
+            b"hear - -",
+            b"poke 32 -",
+            b"poke 33 -",
+            b"poke 31 00",
+            b"poke 32 00",
+            b"poke 31 0000",
+            b"poke 0 -",
+            b"memory 32 0",
+            b"memory 33 0",
+            b"memory 31 1",
+            b"memory 32 1",
+            b"memory 0 32",
+            b"memory 0 33",
+            b"memory 1 32",
+            b"memory 0 0",
+            b"memory 18446744073709551615 2",
+            b"memory 1048704 0",
+            b"poke 18446744073709551615 0000",
+            b"read 1 65601",
+            b"group 1 8 1048705",
+            b"group 1 8",
+            b"group 1 8 8 8",
+            b"record 0 0 0 0 0 0 0 0 0 0 0 0 0 0 0 0 0 0 0",
+            b"record 17 0 0 0 0 0 0 0 0 0 0 0 0 0 0 0 0 0 0",
+            b"record 1 0 0 0 0 0 0 0 0 0 0 0 0 0 0 0 0 0",
+            b"record 1 0 0 0 0 0 0 0 0 0 0 0 0 0 0 0 0 0 0 0",
+            b"record 1 0 0 0 0 0 0 0 0 0 0 0 0 0 0 0 0 0 512",
+            b"record 1 2 0 0 0 0 0 0 0 0 0 0 0 0 0 0 0 0 0",
+        ] {
+            self.list.raw(line);
+        }
+        self.list.table();
+    }
+
+    /// Every word of a good line spoiled in every way, and the line itself.
+    fn bad_line(&mut self, form: &str) {
+        let words: Vec<&str> = form.split(' ').collect();
+        let restore = words[0] == "group" || words[0] == "record";
+        let line = |words: &[String]| words.join(" ").into_bytes();
+        let plain: Vec<String> = words.iter().map(|word| value(word)).collect();
+        let mut lines: Vec<Vec<u8>> = Vec::new();
+        let good = line(&plain);
+        lines.push(good.clone());
+        lines.push([&good[..], b" "].concat());
+        lines.push([b" ", &good[..]].concat());
+        lines.push([&good[..], b"\r"].concat());
+        lines.push([&good[..], b"\t"].concat());
+        lines.push([&good[..], b" 0"].concat());
+        lines.push(line(&plain[..plain.len() - 1]));
+        lines.push(good.to_ascii_uppercase());
+        if let Some(at) = good.iter().position(|&byte| byte == b' ') {
+            let mut tabbed = good.clone();
+            tabbed[at] = b'\t';
+            lines.push(tabbed);
+            let mut doubled = good.clone();
+            doubled.insert(at, b' ');
+            lines.push(doubled);
+        }
+        for at in 1..words.len() {
+            for spoiled in self.spoiled_words(words[at]) {
+                let mut changed = plain.clone();
+                changed[at] = spoiled;
+                lines.push(line(&changed));
+            }
+        }
+        for line in lines {
+            self.list.raw(&line);
+            if restore && self.random.chance(1, 3) {
+                self.list.raw(b"group 2 16 32");
+                self.list.raw(b"link 1 1");
+                self.list.raw(b"open 1 5 6 1 16");
+            }
+        }
+    }
+
+    /// Some ways to write a word wrongly, and some odd ways to write it rightly.
+    fn spoiled_words(&mut self, word: &str) -> Vec<String> {
+        let mut all: Vec<String> = if word == "HEX" {
+            [
+                "", "0", "abcd", "aB", "0G", "0x00", "000", "--", "-0", "A5", "00FF", "+1", "_0",
+            ]
+            .iter()
+            .map(|text| text.to_string())
+            .collect()
+        } else {
+            let (most, given) = number_word(word);
+            // The largest out buffer is kept for the long lines.
+            let largest = if most == 65_600 { 70 } else { most };
+            vec![
+                String::new(),
+                "-".to_string(),
+                "-1".to_string(),
+                "+1".to_string(),
+                "1.0".to_string(),
+                "0x1".to_string(),
+                "A".to_string(),
+                "1_0".to_string(),
+                "1,0".to_string(),
+                format!("{}", most + 1),
+                format!("{largest}"),
+                format!("0000000000000000000000000000000{given}"),
+                "99999999999999999999999999999999".to_string(),
+                "18446744073709551616".to_string(),
+                "4294967296".to_string(),
+            ]
+        };
+        self.random.shuffle(&mut all);
+        let keep = if all.len() > 6 && word != "HEX" { 6 } else { 8 };
+        all.truncate(keep);
+        all
+    }
+
+    /// Hex of 70,000 bytes and one more, the largest out buffer and `memory`.
+    pub(super) fn long_lines(&mut self) {
+        if !self.long_lines {
+            return;
+        }
+        self.list.group(2, 65_540);
+        self.list.link(1, true);
+        self.list.open(1, 5, 6, 1, 65_540);
+        let fill = self.random.draw() as u8;
+        self.list.send(1, vec![fill; 70_000]);
+        let too_long = [&b"send 1 "[..], &vec![b'0'; 140_002][..]].concat();
+        self.list.raw(&too_long);
+        self.list.read(1, 65_600);
+        self.list.raw(b"read 1 65601");
+        self.list.memory(131_080 - 65_600, 65_600);
+        self.list.raw(b"memory 0 65601");
+        self.list.raw(b"memory 65481 65600");
+        let very_long = [&b"table "[..], &vec![b' '; 300_000][..]].concat();
+        self.list.raw(&very_long[..1_000]);
+        let zeros = [&b"close "[..], &vec![b'0'; 2_000][..], &b"1"[..]].concat();
+        self.list.raw(&zeros);
+    }
+}
+
+/// A good line of each kind: words with their largest value and a value that is
+/// good here, or HEX.
+const FORMS: [&str; 16] = [
+    "group 4294967295=2 4294967295=16 1048704=32",
+    "open 4294967295=2 4294967295=7 4294967295=8 255=1 4294967295=16",
+    "free 4294967295=1",
+    "link 255=1 1=1",
+    "linkmsg 255=1 HEX",
+    "send 4294967295=1 HEX",
+    "place 4294967295=1 4294967295=4 HEX",
+    "read 4294967295=1 65600=3",
+    "hear HEX",
+    "shutdown 4294967295=2",
+    "close 4294967295=2",
+    "abort 4294967295=2",
+    "record 16=2 1=0 4294967295=1 4294967295=2 255=3 4294967295=16 4294967295=4 65535=0 \
+     4294967295=4 65535=0 4294967295=4 65535=0 4294967295=4 65535=0 4294967295=4 65535=0 65535=1 \
+     65535=0 511=0",
+    "poke 32=5 HEX",
+    "table",
+    "memory 32=6 26=9",
+];
+
+/// The largest value and the good value of a number's word.
+fn number_word(word: &str) -> (u64, u64) {
+    let (most, given) = word.split_once('=').expect("a number's word");
+    (most.parse().unwrap_or(0), given.parse().unwrap_or(0))
+}
+
+fn value(word: &str) -> String {
+    match word.split_once('=') {
+        Some((_, given)) => given.to_string(),
+        None if word == "HEX" => "C0FFEE".to_string(),
+        None => word.to_string(),
+    }
+}

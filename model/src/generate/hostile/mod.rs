@@ -1,0 +1,146 @@
+//! Calls that reach every refusal of every call, every pair of refusals that
+//! can hold at once, records that are not coherent, damaged eye catchers,
+//! malformed messages, boundaries, and lines that do not parse.
+//!
+//! `records` makes what is laid and heard, `calls` the calls on a slot; the rest
+//! are the sections of a list.
+
+mod bad_lines;
+mod boundaries;
+mod calls;
+mod messages;
+mod pairs;
+mod records;
+mod tables;
+
+use super::List;
+use crate::random::Random;
+use crate::smcr::*;
+
+/// A list under construction and its random numbers.
+struct Bench {
+    list: List,
+    random: Random,
+    /// Lines of more than a hundred thousand characters are wanted too.
+    long_lines: bool,
+}
+
+/// A hostile list: every section once, in an order of its own, or again and
+/// again until it has `count` lines.
+pub fn list(seed: u64, count: Option<usize>) -> Vec<u8> {
+    let mut bench = Bench {
+        list: List::new(),
+        random: Random::new(seed.wrapping_mul(4).wrapping_add(3)),
+        long_lines: seed % 8 == 0,
+    };
+    let mut sections: Vec<fn(&mut Bench)> = vec![
+        Bench::pairs_of_slot_calls,
+        Bench::pairs_of_hear,
+        Bench::pairs_of_open,
+        Bench::pairs_of_free,
+        Bench::pairs_of_link_message,
+        Bench::wrong_sizes,
+        Bench::strange_slots,
+        Bench::incoherent_records,
+        Bench::damaged_eye_catchers,
+        Bench::malformed_messages,
+        Bench::flags,
+        Bench::shared_tokens,
+        Bench::hear_boundaries,
+        Bench::place_boundaries,
+        Bench::send_boundaries,
+        Bench::read_boundaries,
+        Bench::full_turns,
+        Bench::random_marks,
+        Bench::bad_lines,
+        Bench::long_lines,
+    ];
+    loop {
+        bench.random.shuffle(&mut sections);
+        for section in &sections {
+            section(&mut bench);
+            if count.is_some_and(|count| bench.list.count >= count) {
+                return bench.list.text;
+            }
+        }
+        if count.is_none() {
+            return bench.list.text;
+        }
+    }
+}
+
+// The groups that the sections start from.
+
+impl Bench {
+    /// Sizes of a small group.
+    fn small_sizes(&mut self) -> (u32, u32) {
+        (
+            self.random.between(2, 5) as u32,
+            self.random.between(8, 24) as u32,
+        )
+    }
+
+    /// A group whose sizes are wrong, though slots 1 to `elements` could be
+    /// named and N is close to `size`.
+    fn nearly_right_group(&mut self, elements: u32, size: u32) {
+        let right = elements as usize * size as usize;
+        match self.random.below(6) {
+            0 => self.list.group_of(elements, size, right - 1),
+            1 => self.list.group_of(elements, size, right + 1),
+            2 => self.list.group_of(elements, size, right - size as usize),
+            3 => self.list.group_of(elements, 7, elements as usize * 7),
+            4 => self.list.group_of(17, size, 17 * size as usize),
+            _ => self.list.group_of(elements, size, 0),
+        }
+    }
+
+    /// A small group, right or nearly so; its elements and their size.
+    fn small_group(&mut self, right: bool) -> (u32, u32) {
+        let (elements, size) = self.small_sizes();
+        if right {
+            self.list.group(elements, size);
+        } else {
+            self.nearly_right_group(elements, size);
+        }
+        (elements, size)
+    }
+
+    /// Sets the link of a call as asked and each other one up once in `of` times.
+    fn links_around(&mut self, own: u8, up: bool, of: u64) {
+        for link in 1..=4 {
+            let up = if link == own {
+                up
+            } else {
+                self.random.chance(1, of)
+            };
+            if up {
+                self.list.link(link, true);
+            }
+        }
+    }
+
+    fn any_slot(&mut self, elements: u32) -> u32 {
+        self.random.between(1, i64::from(elements)) as u32
+    }
+
+    fn hear(&mut self, message: &Message) {
+        self.list.hear(message.write().to_vec());
+    }
+
+    /// Looks at what may have changed, now and then.
+    fn look(&mut self) {
+        if self.random.chance(1, 12) {
+            self.list.table();
+        }
+        if self.random.chance(1, 24) && self.list.group.memory.len() <= 400 {
+            self.list.whole_memory();
+        }
+    }
+
+    fn right_eye_catcher(&mut self, slot: u32, size: u32) {
+        let at = (slot as usize - 1) * size as usize;
+        if at + 4 <= self.list.group.memory.len() {
+            self.list.poke(at, EYE_CATCHER.to_vec());
+        }
+    }
+}

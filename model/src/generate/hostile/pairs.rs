@@ -1,0 +1,336 @@
+//! Every refusal of every call alone, and every pair and triple that can hold
+//! at once.
+
+use super::calls::{allowing_marks, forbidding_marks, SlotCall, SLOT_CALLS};
+use super::records::with_marks;
+use super::Bench;
+use crate::smcr::*;
+
+impl Bench {
+    /// Every one, every pair and some triples of 1, 2, 3, 6, 7 and 9.
+    pub(super) fn pairs_of_slot_calls(&mut self) {
+        for call in SLOT_CALLS {
+            let mut numbers = vec![1, 2, 3, 6, 7];
+            if call == SlotCall::Place {
+                numbers.push(9);
+            }
+            for spoiled in subsets(&numbers) {
+                let times = if spoiled.len() > 2 { 1 } else { 3 };
+                for _ in 0..times {
+                    self.spoiled_slot_call(call, &spoiled);
+                }
+            }
+        }
+    }
+
+    fn spoiled_slot_call(&mut self, call: SlotCall, spoiled: &[u8]) {
+        let has = |number: u8| spoiled.contains(&number);
+        let (elements, size) = self.small_group(!has(1));
+        let n = i64::from(size);
+        let mut slot = self.any_slot(elements);
+        let base = self.coherent_record(n);
+        let mut c = if has(3) {
+            self.broken_record(&base, n, has(6))
+        } else {
+            base
+        };
+        let own_bits = (self.random.below(8) * 64) as u16;
+        let close_marks = if has(7) {
+            *self.random.pick(forbidding_marks(call))
+        } else {
+            *self.random.pick(allowing_marks(call))
+        };
+        let both_closed = c.closed_sent && c.closed_heard;
+        c = with_marks(c, close_marks + own_bits);
+        if both_closed {
+            c.closed_sent = true;
+            c.closed_heard = true;
+        }
+        self.links_around(c.link, !has(6), if has(6) { 2 } else { 3 });
+        if has(2) && self.random.chance(1, 2) {
+            c.open = false;
+        }
+        if self.random.chance(9, 10) {
+            self.right_eye_catcher(slot, size);
+        }
+        self.list.record(slot as usize, c);
+        if has(2) && c.open {
+            slot = *self.random.pick(&[
+                0,
+                elements + 1,
+                16,
+                17,
+                18,
+                u32::MAX,
+                0x8000_0001,
+                65_536 + 1,
+            ]);
+            if slot == elements + 1 || slot == 16 {
+                self.list.record(slot as usize, c);
+            }
+        }
+        self.slot_call(call, slot, &c, n, has(9));
+        self.look();
+    }
+
+    /// Pairs among 1, 4, 5, 3, 6 and 8.
+    pub(super) fn pairs_of_hear(&mut self) {
+        for spoiled in subsets(&[1, 4, 5, 3, 6, 8]) {
+            let times = if spoiled.len() > 2 { 2 } else { 6 };
+            for _ in 0..times {
+                self.spoiled_hear(&spoiled);
+            }
+        }
+    }
+
+    fn spoiled_hear(&mut self, spoiled: &[u8]) {
+        let has = |number: u8| spoiled.contains(&number);
+        let (elements, size) = self.small_group(!has(1));
+        let n = i64::from(size);
+        let slot = self.any_slot(elements);
+        let base = self.coherent_record(n);
+        let mut c = if has(3) {
+            self.broken_record(&base, n, has(6))
+        } else {
+            base
+        };
+        if !has(3) {
+            let marks = *self
+                .random
+                .pick(&[0, 1, 2, 4, 5, 8, 12, 17, 18, 20, 21, 29]);
+            c = with_marks(c, marks + (self.random.below(8) * 64) as u16);
+        }
+        self.links_around(c.link, !has(6), 2);
+        if has(5) && (has(3) || has(6) || has(8)) {
+            // The token 0, held by an open slot.
+            c.own_token = 0;
+        }
+        self.list.record(slot as usize, c);
+        let mut message = self.fitting_message(&base, n);
+        message.token = c.own_token;
+        if has(5) && c.own_token != 0 {
+            message.token = match self.random.below(4) {
+                0 => 0,
+                1 => c.own_token ^ 1,
+                2 => c.own_token.swap_bytes() ^ 0x0100_0001,
+                _ => c.peer_token ^ 0x8000_0000,
+            };
+        }
+        if has(8) {
+            match self.random.below(4) {
+                0 => message.producer.offset = 3,
+                1 => message.consumer.offset = c.peer_size,
+                2 => message.producer.offset = size,
+                _ => message.consumer.offset = 0,
+            }
+        }
+        let mut bytes = message.write().to_vec();
+        if has(4) {
+            match self.random.below(4) {
+                0 => bytes[0] = *self.random.pick(&[0x00, 0x07, 0xFF, 0xFC, 0xEE, 0x7E]),
+                1 => bytes[1] = *self.random.pick(&[0x00, 0x2B, 0x2D, 0x6C, 0xAC]),
+                2 => {
+                    bytes.pop();
+                }
+                _ => bytes.push(0),
+            }
+        }
+        self.list.hear(bytes);
+        self.look();
+    }
+
+    /// Pairs among 1, 2, 10, 12, 13, 6 and 11.
+    pub(super) fn pairs_of_open(&mut self) {
+        for spoiled in subsets(&[1, 2, 10, 12, 13, 6, 11]) {
+            let times = if spoiled.len() > 2 { 1 } else { 6 };
+            for _ in 0..times {
+                self.spoiled_open(&spoiled);
+            }
+        }
+    }
+
+    fn spoiled_open(&mut self, spoiled: &[u8]) {
+        let has = |number: u8| spoiled.contains(&number);
+        let (elements, size) = self.small_group(!has(1));
+        let n = i64::from(size);
+        let mut slot = self.any_slot(elements);
+        let mut own = self.random.between(1, 0xFFFF_FFFF) as u32;
+        let mut peer = self.random.between(1, 0xFFFF_FFFF) as u32;
+        let mut peer_size = *self.random.pick(&[8, 9, 16, 65_540, size]);
+        let mut link = self.random.between(1, 4) as u8;
+        self.links_around(link, !has(6), 2);
+        if has(10) {
+            let mut held = self.coherent_record(n);
+            if self.random.chance(1, 3) {
+                held = self.broken_record(&held, n, false);
+            }
+            if self.random.chance(1, 3) {
+                held.own_token = own;
+            }
+            self.list.record(slot as usize, held);
+        } else if self.random.chance(1, 2) {
+            let junk = self.junk_record(own);
+            self.list.record(slot as usize, junk);
+        }
+        if has(12) {
+            match self.random.below(6) {
+                0 => own = 0,
+                1 => peer = 0,
+                2 => peer_size = 7,
+                3 => peer_size = 65_541,
+                4 => peer_size = 0,
+                _ => peer_size = u32::MAX,
+            }
+        }
+        if has(11) {
+            let other = if slot == elements { 1 } else { slot + 1 };
+            let mut held = self.coherent_record(n);
+            if self.random.chance(1, 3) {
+                held = self.broken_record(&held, n, false);
+            }
+            held.own_token = own;
+            self.list.record(other as usize, held);
+        }
+        if has(13) {
+            link = *self.random.pick(&[0, 5, 6, 255, 128]);
+        }
+        if has(2) {
+            let before = slot;
+            slot = *self
+                .random
+                .pick(&[0, elements + 1, 16, 17, u32::MAX, 0x8000_0000 | slot]);
+            if has(10) && (slot == 16 || slot == elements + 1) {
+                let held = self.list.group.table[before as usize - 1];
+                self.list.record(slot as usize, held);
+            }
+        }
+        // An element that held something before, to see it zeroed or left.
+        let length = self.list.group.memory.len();
+        let bytes = self.random.bytes(length.min(200));
+        self.list.poke(0, bytes);
+        self.list.open(slot, own, peer, link, peer_size);
+        if self.random.chance(1, 6) {
+            self.list.whole_memory();
+        }
+        self.look();
+    }
+
+    /// Pairs among 1, 2, 3 and 7.
+    pub(super) fn pairs_of_free(&mut self) {
+        for spoiled in subsets(&[1, 2, 3, 7]) {
+            for _ in 0..4 {
+                self.spoiled_free(&spoiled);
+            }
+        }
+    }
+
+    fn spoiled_free(&mut self, spoiled: &[u8]) {
+        let has = |number: u8| spoiled.contains(&number);
+        let (elements, size) = self.small_group(!has(1));
+        let n = i64::from(size);
+        let mut slot = self.any_slot(elements);
+        let base = self.coherent_record(n);
+        let mut c = if has(3) {
+            self.broken_record(&base, n, false)
+        } else {
+            base
+        };
+        c.abort_sent = !has(7);
+        if self.random.chance(1, 2) {
+            c.done_heard = true;
+        }
+        // Free asks for no link.
+        if self.random.chance(1, 2) {
+            self.list.link(1, true);
+        }
+        if has(2) && self.random.chance(1, 2) {
+            c.open = false;
+        }
+        self.list.record(slot as usize, c);
+        if has(2) && c.open {
+            slot = *self.random.pick(&[0, elements + 1, 16, 17, u32::MAX]);
+            if slot == elements + 1 || slot == 16 {
+                self.list.record(slot as usize, c);
+            }
+        }
+        self.list.free(slot);
+        self.look();
+    }
+
+    /// Pairs among 13, 6, 4 and 14, in groups whose sizes may be wrong: link
+    /// change and link message do not look at them.
+    pub(super) fn pairs_of_link_message(&mut self) {
+        for spoiled in subsets(&[13, 6, 4, 14]) {
+            for _ in 0..5 {
+                self.spoiled_link_message(&spoiled);
+            }
+        }
+        // Optional messages: their length counts, their byte 1 does not.
+        self.list.group(1, 8);
+        self.list.all_links_up();
+        for length in [0, 1, 43, 44, 45] {
+            for first in [0x7F, 0x80, 0x9C, 0xBF, 0xC0] {
+                let mut bytes = self.random.bytes(length);
+                if length > 0 {
+                    bytes[0] = first;
+                }
+                self.list.link_message(2, bytes);
+            }
+        }
+    }
+
+    fn spoiled_link_message(&mut self, spoiled: &[u8]) {
+        let has = |number: u8| spoiled.contains(&number);
+        let (elements, size) = self.small_sizes();
+        match self.random.below(4) {
+            0 => self.nearly_right_group(elements, size),
+            1 => self.list.group_of(0, 0, 0),
+            _ => self.list.group(elements, size),
+        }
+        let mut link = self.random.between(1, 4) as u8;
+        self.links_around(link, !has(6), 2);
+        if has(13) {
+            link = *self.random.pick(&[0, 5, 255]);
+            let up = self.random.chance(1, 2);
+            self.list.link(link, up);
+        }
+        let mut bytes = self.random.bytes(MESSAGE_BYTES);
+        bytes[0] = TEST_LINK;
+        bytes[1] = LENGTH_BYTE;
+        if has(14) {
+            bytes[0] = *self.random.pick(&[1, 2, 3, 4, 6, 8, 9]);
+        }
+        if has(4) {
+            match self.random.below(5) {
+                0 => bytes[1] = *self.random.pick(&[0x00, 0x2B, 0x2D, 0xFF]),
+                1 => {
+                    bytes.pop();
+                }
+                2 => bytes.push(0),
+                3 if !has(14) => {
+                    bytes[0] = *self
+                        .random
+                        .pick(&[0x00, 0x05, 0x0A, 0x7F, 0xC0, 0xFE, 0xFF])
+                }
+                _ => bytes.truncate(1),
+            }
+        }
+        self.list.link_message(link, bytes);
+        self.look();
+    }
+}
+
+/// The empty list, every one, every pair, and all triples.
+fn subsets(numbers: &[u8]) -> Vec<Vec<u8>> {
+    let mut all = vec![Vec::new()];
+    for (at, &first) in numbers.iter().enumerate() {
+        all.push(vec![first]);
+        for (next, &second) in numbers.iter().enumerate().skip(at + 1) {
+            all.push(vec![first, second]);
+            for &third in &numbers[next + 1..] {
+                all.push(vec![first, second, third]);
+            }
+        }
+    }
+    all
+}
