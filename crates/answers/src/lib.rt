@@ -1,21 +1,17 @@
 // What is printed of a call's answer and of the memory.
 ghost use Prim.Native.Nat.{_≤_};
+use calls::Request;
 use closing::State;
 use connection::Reply;
 use flow::Placing;
 use flow::Placings;
 use group::Command;
+use management::Management;
 use stream::output;
-
-// What a call names and the message that it made, beside the tables.
-pub struct Said {
-    pub reply: Reply,
-    pub made: bool,
-    pub message: [u8; 44],
-}
+use table::Answered;
 
 // The message's bytes, or `-`, and the line's end.
-fn message(o: &mut [u8; 65536], at: usize, said: Said) -> usize
+fn message(o: &mut [u8; 65536], at: usize, said: Answered) -> usize
     ensures { λ r. ⌜ r ≤ 65536 ⌝ }
 {
     let bytes = said.message;
@@ -28,7 +24,7 @@ fn message(o: &mut [u8; 65536], at: usize, said: Said) -> usize
 }
 
 // Words that lead up to the message.
-fn with_message(o: &mut [u8; 65536], at: usize, words: &[u8], said: Said) -> usize
+fn with_message(o: &mut [u8; 65536], at: usize, words: &[u8], said: Answered) -> usize
     ensures { λ r. ⌜ r ≤ 65536 ⌝ }
 {
     let to = output::text(o, at, words);
@@ -55,7 +51,7 @@ fn placings(o: &mut [u8; 65536], at: usize, list: Placings) -> usize {
     }
 }
 
-fn sent(o: &mut [u8; 65536], at: usize, n: u32, list: Placings, said: Said) -> usize
+fn sent(o: &mut [u8; 65536], at: usize, n: u32, list: Placings, said: Answered) -> usize
     ensures { λ r. ⌜ r ≤ 65536 ⌝ }
 {
     let a = output::text(o, at, b"send ");
@@ -65,7 +61,7 @@ fn sent(o: &mut [u8; 65536], at: usize, n: u32, list: Placings, said: Said) -> u
     with_message(o, d, b" message ", said)
 }
 
-fn was_read(o: &mut [u8; 65536], at: usize, n: u32, said: Said, out: &[u8]) -> usize
+fn was_read(o: &mut [u8; 65536], at: usize, n: u32, said: Answered, out: &[u8]) -> usize
     ensures { λ r. ⌜ r ≤ 65536 ⌝ }
 {
     let a = output::text(o, at, b"read ");
@@ -75,7 +71,7 @@ fn was_read(o: &mut [u8; 65536], at: usize, n: u32, said: Said, out: &[u8]) -> u
     with_message(o, d, b" message ", said)
 }
 
-fn torn(o: &mut [u8; 65536], at: usize, said: Said, out: &[u8]) -> usize
+fn torn(o: &mut [u8; 65536], at: usize, said: Answered, out: &[u8]) -> usize
     ensures { λ r. ⌜ r ≤ 65536 ⌝ }
 {
     let a = output::text(o, at, b"torn out ");
@@ -95,7 +91,7 @@ fn state(o: &mut [u8; 65536], at: usize, s: State) -> usize {
     }
 }
 
-fn heard(o: &mut [u8; 65536], at: usize, moved: u64, s: State, said: Said) -> usize
+fn heard(o: &mut [u8; 65536], at: usize, moved: u64, s: State, said: Answered) -> usize
     ensures { λ r. ⌜ r ≤ 65536 ⌝ }
 {
     let a = output::text(o, at, b"hear ");
@@ -105,51 +101,69 @@ fn heard(o: &mut [u8; 65536], at: usize, moved: u64, s: State, said: Said) -> us
     with_message(o, d, b" message ", said)
 }
 
-// A refusal: its number, and of a read the whole out buffer.
+// Of a refused read the whole out buffer is printed too.
+fn with_out(o: &mut [u8; 65536], at: usize, request: Request, out: &[u8]) -> usize
+    ensures { λ r. ⌜ r ≤ 65536 ⌝ }
+{
+    match request {
+        Request::Read => {
+            let a = output::text(o, at, b" out ");
+            let b = output::hex(o, a, out);
+            output::byte(o, b, b'\n')
+        }
+        _ => output::byte(o, at, b'\n'),
+    }
+}
+
 fn refused(o: &mut [u8; 65536], at: usize, command: Command, k: u8, out: &[u8]) -> usize
     ensures { λ r. ⌜ r ≤ 65536 ⌝ }
 {
     let a = output::text(o, at, b"refused ");
     let b = output::decimal(o, a, k as u64);
     match command {
-        Command::Read(_) => {
-            let c = output::text(o, b, b" out ");
-            let d = output::hex(o, c, out);
-            output::byte(o, d, b'\n')
-        }
+        Command::On(_, request) => with_out(o, b, request, out),
         _ => output::byte(o, b, b'\n'),
     }
 }
 
-// The answer of `place` and of the desk calls, which make no message, but for the link message's reply.
-fn management_accepted(o: &mut [u8; 65536], at: usize, command: Command, said: Said) -> usize
+// A call on a slot that names nothing beside the message; a place makes none.
+fn on_accepted(o: &mut [u8; 65536], at: usize, request: Request, said: Answered) -> usize
     ensures { λ r. ⌜ r ≤ 65536 ⌝ }
 {
-    match command {
-        Command::Open(_, _, _, _, _) => output::text(o, at, b"open\n"),
-        Command::Free(_) => output::text(o, at, b"free\n"),
-        Command::LinkChange(_, _) => output::text(o, at, b"link\n"),
-        Command::LinkMessage(_) => with_message(o, at, b"linkmsg reply ", said),
-        _ => output::text(o, at, b"place\n"),
+    match request {
+        Request::Send => with_message(o, at, b"send message ", said),
+        Request::Place(_) => output::text(o, at, b"place\n"),
+        Request::Read => with_message(o, at, b"read message ", said),
+        Request::Shutdown => with_message(o, at, b"shutdown message ", said),
+        Request::Close => with_message(o, at, b"close message ", said),
+        Request::Abort => with_message(o, at, b"abort message ", said),
+    }
+}
+
+// A call of management, which makes no message, but for the link message's reply.
+fn management_accepted(o: &mut [u8; 65536], at: usize, call: Management, said: Answered) -> usize
+    ensures { λ r. ⌜ r ≤ 65536 ⌝ }
+{
+    match call {
+        Management::Open(_, _) => output::text(o, at, b"open\n"),
+        Management::Free(_) => output::text(o, at, b"free\n"),
+        Management::LinkChange(_, _) => output::text(o, at, b"link\n"),
+        Management::LinkMessage(_) => with_message(o, at, b"linkmsg reply ", said),
     }
 }
 
 // The answer of a call that names nothing beside the message.
-fn accepted(o: &mut [u8; 65536], at: usize, command: Command, said: Said) -> usize
+fn accepted(o: &mut [u8; 65536], at: usize, command: Command, said: Answered) -> usize
     ensures { λ r. ⌜ r ≤ 65536 ⌝ }
 {
     match command {
-        Command::Send(_) => with_message(o, at, b"send message ", said),
-        Command::Read(_) => with_message(o, at, b"read message ", said),
+        Command::On(_, request) => on_accepted(o, at, request, said),
         Command::Hear => with_message(o, at, b"hear message ", said),
-        Command::Shutdown(_) => with_message(o, at, b"shutdown message ", said),
-        Command::Close(_) => with_message(o, at, b"close message ", said),
-        Command::Abort(_) => with_message(o, at, b"abort message ", said),
-        _ => management_accepted(o, at, command, said),
+        Command::Manage(call) => management_accepted(o, at, call, said),
     }
 }
 
-pub fn answer(o: &mut [u8; 65536], at: usize, command: Command, said: Said, out: &[u8]) -> usize
+pub fn answer(o: &mut [u8; 65536], at: usize, command: Command, said: Answered, out: &[u8]) -> usize
     ensures { λ r. ⌜ r ≤ 65536 ⌝ }
 {
     let reply = said.reply;

@@ -14,11 +14,12 @@ use Rattle.cursor.specs.Cursor.{inRange, goodB, gapOf}
 use Rattle.cursor.proofs.Laws.{gap-self, gap-adds, good-most}
 use Rattle.cdc.specs.Cdc.{encodeOf}
 use Rattle.closing.specs.declared.Marks.{Marks}
+use Rattle.connection.specs.declared.Opening.{Opening}
 use Rattle.connection.specs.declared.Record.{Record}
 use Rattle.connection.specs.declared.Reply.{Reply}
 use Rattle.connection.specs.declared.Reply.the-variants.{Refused}
 use Rattle.connection.specs.declared.Outcome.{Outcome}
-use Rattle.connection.specs.Connection.{every, numbersOk, offsetsOk, distancesOk, coherentB, refusalOf, messageOf, noMessage, sequenceAfter, toldIn, usedIn, toldOf, outcomeOf, refusedOf, closedIf, zeroRecord, marksTo}
+use Rattle.connection.specs.Connection.{leastSize, mostSize, mostLink, startCursor, openedRecord, every, numbersOk, offsetsOk, distancesOk, coherentB, refusalOf, messageOf, noMessage, sequenceAfter, toldIn, usedIn, toldOf, outcomeOf, refusedOf, closedIf, zeroRecord, marksTo}
 
 pub and-left : (a b : Bool) → a && b ≡ true → a ≡ true
 and-left true b e = refl
@@ -43,72 +44,72 @@ every-all (b ∷ []) h = h 0
 every-all (b ∷ c ∷ l) h = simp (h 0, every-all (c ∷ l) (λ k. h (suc k)))
 
 -- the facts of a coherent record
-pub record Coherent (n : ℕ) (c : Record) : Type 0 where
-  pub own-nonzero : 0 < c .id .own
-  pub peer-nonzero : 0 < c .id .peer
-  pub link-least : 1 ≤ c .id .link
-  pub link-most : c .id .link ≤ 4
-  pub size-least : 8 ≤ c .outbound .size
-  pub size-most : c .outbound .size ≤ 65540
-  pub not-both : c .marks .sent .closed && c .marks .heard .closed ≡ false
-  pub p-range : inRange n (c .inbound .producer) ≡ true
-  pub c-range : inRange n (c .inbound .consumer) ≡ true
-  pub t-range : inRange n (c .inbound .told) ≡ true
-  pub q-range : inRange (c .outbound .size) (c .outbound .producer) ≡ true
-  pub r-range : inRange (c .outbound .size) (c .outbound .consumer) ≡ true
-  pub tc-good : goodB (n - 4) (c .inbound .told) (c .inbound .consumer) ≡ true
-  pub cp-good : goodB (n - 4) (c .inbound .consumer) (c .inbound .producer) ≡ true
+pub record Coherent (n : ℕ) (rec : Record) : Type 0 where
+  pub own-nonzero : 0 < rec .id .own
+  pub peer-nonzero : 0 < rec .id .peer
+  pub link-least : 1 ≤ rec .id .link
+  pub link-most : rec .id .link ≤ mostLink
+  pub size-least : leastSize ≤ rec .remote .size
+  pub size-most : rec .remote .size ≤ mostSize
+  pub not-both : rec .marks .sent .closed && rec .marks .heard .closed ≡ false
+  pub p-range : inRange n (rec .inbound .producer) ≡ true
+  pub c-range : inRange n (rec .inbound .consumer) ≡ true
+  pub t-range : inRange n (rec .inbound .told) ≡ true
+  pub q-range : inRange (rec .remote .size) (rec .outbound .producer) ≡ true
+  pub r-range : inRange (rec .remote .size) (rec .outbound .consumer) ≡ true
+  pub tc-good : goodB (n - 4) (rec .inbound .told) (rec .inbound .consumer) ≡ true
+  pub cp-good : goodB (n - 4) (rec .inbound .consumer) (rec .inbound .producer) ≡ true
   pub sum :
-      gapOf (n - 4) (c .inbound .told) (c .inbound .consumer) + gapOf (n - 4) (c .inbound .consumer) (c .inbound .producer) ≤ n - 4
-  pub rq-good : goodB (c .outbound .size - 4) (c .outbound .consumer) (c .outbound .producer) ≡ true
+      gapOf (n - 4) (rec .inbound .told) (rec .inbound .consumer) + gapOf (n - 4) (rec .inbound .consumer) (rec .inbound .producer) ≤ n - 4
+  pub rq-good : goodB (rec .remote .size - 4) (rec .outbound .consumer) (rec .outbound .producer) ≡ true
 
 -- the tests of each part, as the list that the part is
 abbrev numberTests : Record → List Bool
-numberTests c =
-    ltb 0 (c .id .own)
-    ∷ ltb 0 (c .id .peer)
-    ∷ leb 1 (c .id .link)
-    ∷ leb (c .id .link) 4
-    ∷ leb 8 (c .outbound .size)
-    ∷ leb (c .outbound .size) 65540
-    ∷ not (c .marks .sent .closed && c .marks .heard .closed)
+numberTests rec =
+    ltb 0 (rec .id .own)
+    ∷ ltb 0 (rec .id .peer)
+    ∷ leb 1 (rec .id .link)
+    ∷ leb (rec .id .link) mostLink
+    ∷ leb leastSize (rec .remote .size)
+    ∷ leb (rec .remote .size) mostSize
+    ∷ not (rec .marks .sent .closed && rec .marks .heard .closed)
     ∷ []
 
 abbrev offsetTests : ℕ → Record → List Bool
-offsetTests n c =
-    inRange n (c .inbound .producer)
-    ∷ inRange n (c .inbound .consumer)
-    ∷ inRange n (c .inbound .told)
-    ∷ inRange (c .outbound .size) (c .outbound .producer)
-    ∷ inRange (c .outbound .size) (c .outbound .consumer)
+offsetTests n rec =
+    inRange n (rec .inbound .producer)
+    ∷ inRange n (rec .inbound .consumer)
+    ∷ inRange n (rec .inbound .told)
+    ∷ inRange (rec .remote .size) (rec .outbound .producer)
+    ∷ inRange (rec .remote .size) (rec .outbound .consumer)
     ∷ []
 
 abbrev distanceTests : ℕ → Record → List Bool
-distanceTests n c =
-    goodB (n - 4) (c .inbound .told) (c .inbound .consumer)
-    ∷ goodB (n - 4) (c .inbound .consumer) (c .inbound .producer)
+distanceTests n rec =
+    goodB (n - 4) (rec .inbound .told) (rec .inbound .consumer)
+    ∷ goodB (n - 4) (rec .inbound .consumer) (rec .inbound .producer)
     ∷ leb
-    (gapOf (n - 4) (c .inbound .told) (c .inbound .consumer) + gapOf (n - 4) (c .inbound .consumer) (c .inbound .producer))
+    (gapOf (n - 4) (rec .inbound .told) (rec .inbound .consumer) + gapOf (n - 4) (rec .inbound .consumer) (rec .inbound .producer))
     (n - 4)
-    ∷ goodB (c .outbound .size - 4) (c .outbound .consumer) (c .outbound .producer)
+    ∷ goodB (rec .remote .size - 4) (rec .outbound .consumer) (rec .outbound .producer)
     ∷ []
 
-module _ (n : ℕ) (c : Record) where
-  pub coherent-facts : coherentB n c ≡ true → Coherent n c
+module _ (n : ℕ) (rec : Record) where
+  pub coherent-facts : coherentB n rec ≡ true → Coherent n rec
   unfolding coherentB numbersOk offsetsOk distancesOk
   coherent-facts e =
-      let part = holds (numbersOk c ∷ offsetsOk n c ∷ distancesOk n c ∷ []) e in
-      let number = holds (numberTests c) (part 0) in
-      let offset = holds (offsetTests n c) (part 1) in
-      let distance = holds (distanceTests n c) (part 2) in
+      let part = holds (numbersOk rec ∷ offsetsOk n rec ∷ distancesOk n rec ∷ []) e in
+      let number = holds (numberTests rec) (part 0) in
+      let offset = holds (offsetTests n rec) (part 1) in
+      let distance = holds (distanceTests n rec) (part 2) in
       record {
-        own-nonzero = ltb-true 0 (c .id .own) (number 0);
-        peer-nonzero = ltb-true 0 (c .id .peer) (number 1);
-        link-least = leb-true 1 (c .id .link) (number 2);
-        link-most = leb-true (c .id .link) 4 (number 3);
-        size-least = leb-true 8 (c .outbound .size) (number 4);
-        size-most = leb-true (c .outbound .size) 65540 (number 5);
-        not-both = not-true (c .marks .sent .closed && c .marks .heard .closed) (number 6);
+        own-nonzero = ltb-true 0 (rec .id .own) (number 0);
+        peer-nonzero = ltb-true 0 (rec .id .peer) (number 1);
+        link-least = leb-true 1 (rec .id .link) (number 2);
+        link-most = leb-true (rec .id .link) mostLink (number 3);
+        size-least = leb-true leastSize (rec .remote .size) (number 4);
+        size-most = leb-true (rec .remote .size) mostSize (number 5);
+        not-both = not-true (rec .marks .sent .closed && rec .marks .heard .closed) (number 6);
         p-range = offset 0;
         c-range = offset 1;
         t-range = offset 2;
@@ -120,49 +121,49 @@ module _ (n : ℕ) (c : Record) where
         rq-good = distance 3;
       }
 
-  numbers-from : Coherent n c → numbersOk c ≡ true
+  numbers-from : Coherent n rec → numbersOk rec ≡ true
   unfolding numbersOk
   numbers-from f =
       simp (
-        lt-ltb 0 (c .id .own) (f .own-nonzero),
-        lt-ltb 0 (c .id .peer) (f .peer-nonzero),
-        le-leb 1 (c .id .link) (f .link-least),
-        le-leb (c .id .link) 4 (f .link-most),
-        le-leb 8 (c .outbound .size) (f .size-least),
-        le-leb (c .outbound .size) 65540 (f .size-most),
+        lt-ltb 0 (rec .id .own) (f .own-nonzero),
+        lt-ltb 0 (rec .id .peer) (f .peer-nonzero),
+        le-leb 1 (rec .id .link) (f .link-least),
+        le-leb (rec .id .link) mostLink (f .link-most),
+        le-leb leastSize (rec .remote .size) (f .size-least),
+        le-leb (rec .remote .size) mostSize (f .size-most),
         f .not-both,
       )
 
-  offsets-from : Coherent n c → offsetsOk n c ≡ true
+  offsets-from : Coherent n rec → offsetsOk n rec ≡ true
   unfolding offsetsOk
   offsets-from f = simp (f .p-range, f .c-range, f .t-range, f .q-range, f .r-range)
 
-  distances-from : Coherent n c → distancesOk n c ≡ true
+  distances-from : Coherent n rec → distancesOk n rec ≡ true
   unfolding distancesOk
   distances-from f = simp (f .tc-good, f .cp-good, le-leb _ (n - 4) (f .sum), f .rq-good)
 
-  pub coherent-from : Coherent n c → coherentB n c ≡ true
+  pub coherent-from : Coherent n rec → coherentB n rec ≡ true
   unfolding coherentB
   coherent-from f = simp (numbers-from f, offsets-from f, distances-from f)
 
   -- the distance T to P, of which the peer's window is what is left
   pub tp-good :
-      Coherent n c
-      → (goodB (n - 4) (c .inbound .told) (c .inbound .producer) ≡ true)
-      × (gapOf (n - 4) (c .inbound .told) (c .inbound .producer)
-      ≡ gapOf (n - 4) (c .inbound .told) (c .inbound .consumer) + gapOf (n - 4) (c .inbound .consumer) (c .inbound .producer))
+      Coherent n rec
+      → (goodB (n - 4) (rec .inbound .told) (rec .inbound .producer) ≡ true)
+      × (gapOf (n - 4) (rec .inbound .told) (rec .inbound .producer)
+      ≡ gapOf (n - 4) (rec .inbound .told) (rec .inbound .consumer) + gapOf (n - 4) (rec .inbound .consumer) (rec .inbound .producer))
   tp-good f =
-      gap-adds n (c .inbound .told) (c .inbound .consumer) (c .inbound .producer) (f .t-range) (f .c-range) (f .p-range)
+      gap-adds n (rec .inbound .told) (rec .inbound .consumer) (rec .inbound .producer) (f .t-range) (f .c-range) (f .p-range)
       (f .tc-good) (f .cp-good) (f .sum)
 
 -- what a refusal tells
 abbrev refusalAt : Bool → Bool → Bool → ℕ
 refusalAt k a f = cond k (cond a (cond f 7 0) 6) 3
 
-module _ (n : ℕ) (active : Bool) (c : Record) (forbids : Bool) where
-  pub refusal-none : refusalOf n active c forbids ≡ 0 → (coherentB n c ≡ true) × (active ≡ true) × (forbids ≡ false)
+module _ (n : ℕ) (active : Bool) (rec : Record) (forbids : Bool) where
+  pub refusal-none : refusalOf n active rec forbids ≡ 0 → (coherentB n rec ≡ true) × (active ≡ true) × (forbids ≡ false)
   unfolding refusalOf
-  refusal-none e = go (coherentB n c) active forbids e
+  refusal-none e = go (coherentB n rec) active forbids e
     where
       go : (k a f : Bool) → refusalAt k a f ≡ 0 → (k ≡ true) × (a ≡ true) × (f ≡ false)
       go true true true e = absurd (omega arith)
@@ -171,10 +172,10 @@ module _ (n : ℕ) (active : Bool) (c : Record) (forbids : Bool) where
       go false a f e = absurd (omega arith)
 
   pub refusal-some :
-      (refusalOf n active c forbids ≡ 0)
-      ⊎ ((refusalOf n active c forbids ≡ 3) ⊎ ((refusalOf n active c forbids ≡ 6) ⊎ (refusalOf n active c forbids ≡ 7)))
+      (refusalOf n active rec forbids ≡ 0)
+      ⊎ ((refusalOf n active rec forbids ≡ 3) ⊎ ((refusalOf n active rec forbids ≡ 6) ⊎ (refusalOf n active rec forbids ≡ 7)))
   unfolding refusalOf
-  refusal-some = go (coherentB n c) active forbids
+  refusal-some = go (coherentB n rec) active forbids
     where
       go : (k a f : Bool) → let r = refusalAt k a f in (r ≡ 0) ⊎ ((r ≡ 3) ⊎ ((r ≡ 6) ⊎ (r ≡ 7)))
       go true true true = inr (inr (inr refl))
@@ -182,92 +183,92 @@ module _ (n : ℕ) (active : Bool) (c : Record) (forbids : Bool) where
       go true false f = inr (inr (inl refl))
       go false a f = inr (inl refl)
 
-  pub refusal-3 : coherentB n c ≡ false → refusalOf n active c forbids ≡ 3
+  pub refusal-3 : coherentB n rec ≡ false → refusalOf n active rec forbids ≡ 3
   unfolding refusalOf
   refusal-3 e = simp e
 
-  pub refusal-6 : coherentB n c ≡ true → active ≡ false → refusalOf n active c forbids ≡ 6
+  pub refusal-6 : coherentB n rec ≡ true → active ≡ false → refusalOf n active rec forbids ≡ 6
   unfolding refusalOf
   refusal-6 e a = simp (e, a)
 
-  pub refusal-7 : coherentB n c ≡ true → active ≡ true → forbids ≡ true → refusalOf n active c forbids ≡ 7
+  pub refusal-7 : coherentB n rec ≡ true → active ≡ true → forbids ≡ true → refusalOf n active rec forbids ≡ 7
   unfolding refusalOf
   refusal-7 e a f = simp (e, a, f)
 
-  pub refusal-0 : coherentB n c ≡ true → active ≡ true → forbids ≡ false → refusalOf n active c forbids ≡ 0
+  pub refusal-0 : coherentB n rec ≡ true → active ≡ true → forbids ≡ false → refusalOf n active rec forbids ≡ 0
   unfolding refusalOf
   refusal-0 e a f = simp (e, a, f)
 
 -- after a message is made T is C
-module _ (reply : Reply) (c : Record) where
-  pub told-is : outcomeOf reply true c .after .inbound .told ≡ outcomeOf reply true c .after .inbound .consumer
+module _ (reply : Reply) (rec : Record) where
+  pub told-is : outcomeOf reply true rec .after .inbound .told ≡ outcomeOf reply true rec .after .inbound .consumer
   unfolding outcomeOf toldOf toldIn
   told-is = refl
 
-module _ (reply : Reply) (tells : Bool) (c : Record) where
-  pub outcome-reply : outcomeOf reply tells c .reply ≡ reply
+module _ (reply : Reply) (tells : Bool) (rec : Record) where
+  pub outcome-reply : outcomeOf reply tells rec .reply ≡ reply
   unfolding outcomeOf
   outcome-reply = elim tells [ true ↦ refl | false ↦ refl ]
 
-  pub outcome-made : outcomeOf reply tells c .made ≡ tells
+  pub outcome-made : outcomeOf reply tells rec .made ≡ tells
   unfolding outcomeOf
   outcome-made = elim tells [ true ↦ refl | false ↦ refl ]
 
-  pub outcome-after : outcomeOf reply tells c .after ≡ cond tells (toldOf c) c
+  pub outcome-after : outcomeOf reply tells rec .after ≡ cond tells (toldOf rec) rec
   unfolding outcomeOf
   outcome-after = elim tells [ true ↦ refl | false ↦ refl ]
 
-  pub outcome-message : outcomeOf reply tells c .message ≡ cond tells (encodeOf (messageOf c)) noMessage
+  pub outcome-message : outcomeOf reply tells rec .message ≡ cond tells (encodeOf (messageOf rec)) noMessage
   unfolding outcomeOf
   outcome-message = elim tells [ true ↦ refl | false ↦ refl ]
 
   -- making a message keeps the record but for T and the next sequence number
-  pub outcome-id : outcomeOf reply tells c .after .id ≡ c .id
+  pub outcome-id : outcomeOf reply tells rec .after .id ≡ rec .id
   unfolding outcomeOf toldOf
   outcome-id = elim tells [ true ↦ refl | false ↦ refl ]
 
-  pub outcome-marks : outcomeOf reply tells c .after .marks ≡ c .marks
+  pub outcome-marks : outcomeOf reply tells rec .after .marks ≡ rec .marks
   unfolding outcomeOf toldOf
   outcome-marks = elim tells [ true ↦ refl | false ↦ refl ]
 
-  pub outcome-p : outcomeOf reply tells c .after .inbound .producer ≡ c .inbound .producer
+  pub outcome-p : outcomeOf reply tells rec .after .inbound .producer ≡ rec .inbound .producer
   unfolding outcomeOf toldOf toldIn
   outcome-p = elim tells [ true ↦ refl | false ↦ refl ]
 
-  pub outcome-c : outcomeOf reply tells c .after .inbound .consumer ≡ c .inbound .consumer
+  pub outcome-c : outcomeOf reply tells rec .after .inbound .consumer ≡ rec .inbound .consumer
   unfolding outcomeOf toldOf toldIn
   outcome-c = elim tells [ true ↦ refl | false ↦ refl ]
 
-  pub outcome-size : outcomeOf reply tells c .after .outbound .size ≡ c .outbound .size
-  unfolding outcomeOf toldOf usedIn
-  outcome-size = elim tells [ true ↦ refl | false ↦ refl ]
+  pub outcome-remote : outcomeOf reply tells rec .after .remote ≡ rec .remote
+  unfolding outcomeOf toldOf
+  outcome-remote = elim tells [ true ↦ refl | false ↦ refl ]
 
-  pub outcome-q : outcomeOf reply tells c .after .outbound .producer ≡ c .outbound .producer
+  pub outcome-q : outcomeOf reply tells rec .after .outbound .producer ≡ rec .outbound .producer
   unfolding outcomeOf toldOf usedIn
   outcome-q = elim tells [ true ↦ refl | false ↦ refl ]
 
-  pub outcome-r : outcomeOf reply tells c .after .outbound .consumer ≡ c .outbound .consumer
+  pub outcome-r : outcomeOf reply tells rec .after .outbound .consumer ≡ rec .outbound .consumer
   unfolding outcomeOf toldOf usedIn
   outcome-r = elim tells [ true ↦ refl | false ↦ refl ]
 
-  pub outcome-t : outcomeOf reply tells c .after .inbound .told ≡ cond tells (c .inbound .consumer) (c .inbound .told)
+  pub outcome-t : outcomeOf reply tells rec .after .inbound .told ≡ cond tells (rec .inbound .consumer) (rec .inbound .told)
   unfolding outcomeOf toldOf toldIn
   outcome-t = elim tells [ true ↦ refl | false ↦ refl ]
 
-  pub outcome-next : outcomeOf reply tells c .after .outbound .next ≡ cond tells (sequenceAfter (c .outbound .next)) (c .outbound .next)
+  pub outcome-next : outcomeOf reply tells rec .after .outbound .next ≡ cond tells (sequenceAfter (rec .outbound .next)) (rec .outbound .next)
   unfolding outcomeOf toldOf usedIn
   outcome-next = elim tells [ true ↦ refl | false ↦ refl ]
 
-module _ (k : ℕ) (c : Record) where
-  pub refused-reply : refusedOf k c .reply ≡ Refused k
+module _ (k : ℕ) (rec : Record) where
+  pub refused-reply : refusedOf k rec .reply ≡ Refused k
   unfolding refusedOf
   refused-reply = refl
 
-  pub refused-made : refusedOf k c .made ≡ false
+  pub refused-made : refusedOf k rec .made ≡ false
   unfolding refusedOf
   refused-made = refl
 
-  pub refused-after : refusedOf k c .after ≡ c
+  pub refused-after : refusedOf k rec .after ≡ rec
   unfolding refusedOf
   refused-after = refl
 
@@ -299,24 +300,53 @@ module _ (o : Outcome) where
   closed-not = refl
 
 -- coherence is kept
-module _ (n : ℕ) (c : Record) where
-  pub told-facts : Coherent n c → Coherent n (toldOf c)
+module _ (n : ℕ) (rec : Record) where
+  pub told-facts : Coherent n rec → Coherent n (toldOf rec)
   unfolding toldOf toldIn usedIn
   told-facts f =
-      let g = gap-self (n - 4) (c .inbound .consumer) in
-      let up = good-most (n - 4) (c .inbound .consumer) (c .inbound .producer) (f .cp-good) in
+      let g = gap-self (n - 4) (rec .inbound .consumer) in
+      let up = good-most (n - 4) (rec .inbound .consumer) (rec .inbound .producer) (f .cp-good) in
       search needs
 
-  pub told-coherent : coherentB n c ≡ true → coherentB n (toldOf c) ≡ true
-  told-coherent e = coherent-from n (toldOf c) (told-facts (coherent-facts n c e))
+  pub told-coherent : coherentB n rec ≡ true → coherentB n (toldOf rec) ≡ true
+  told-coherent e = coherent-from n (toldOf rec) (told-facts (coherent-facts n rec e))
 
-  pub outcome-coherent : (reply : Reply) (tells : Bool) → coherentB n c ≡ true → coherentB n (outcomeOf reply tells c .after) ≡ true
+  pub outcome-coherent : (reply : Reply) (tells : Bool) → coherentB n rec ≡ true → coherentB n (outcomeOf reply tells rec .after) ≡ true
   outcome-coherent reply tells e =
-      rw (outcome-after reply tells c) (elim tells [ true ↦ told-coherent e | false ↦ e ])
+      rw (outcome-after reply tells rec) (elim tells [ true ↦ told-coherent e | false ↦ e ])
 
-  pub marks-facts : (m : Marks) → Coherent n c → m .sent .closed && m .heard .closed ≡ false → Coherent n (marksTo c m)
+  pub marks-facts : (m : Marks) → Coherent n rec → m .sent .closed && m .heard .closed ≡ false → Coherent n (marksTo rec m)
   unfolding marksTo
   marks-facts m f b = search needs
 
-  pub marks-coherent : (m : Marks) → coherentB n c ≡ true → m .sent .closed && m .heard .closed ≡ false → coherentB n (marksTo c m) ≡ true
-  marks-coherent m e b = coherent-from n (marksTo c m) (marks-facts m (coherent-facts n c e) b)
+  pub marks-coherent : (m : Marks) → coherentB n rec ≡ true → m .sent .closed && m .heard .closed ≡ false → coherentB n (marksTo rec m) ≡ true
+  marks-coherent m e b = coherent-from n (marksTo rec m) (marks-facts m (coherent-facts n rec e) b)
+
+-- the record that open lays down is coherent
+pub opened-coherent : (n : ℕ) (given : Opening) → leastSize ≤ n → 0 < given .own → 0 < given .peer → 1 ≤ given .link
+    → given .link ≤ mostLink → leastSize ≤ given .remote .size → given .remote .size ≤ mostSize → coherentB n (openedRecord given) ≡ true
+unfolding openedRecord inRange
+opened-coherent n given n-least own-some peer-some link-least link-most size-least size-most =
+    let own-range = lt-ltb 4 n (omega arith) in
+    let remote-range = lt-ltb 4 (given .remote .size) (omega arith) in
+    let own-gap = gap-self (n - 4) startCursor in
+    let remote-gap = gap-self (given .remote .size - 4) startCursor in
+    coherent-from n (openedRecord given)
+    (record {
+      own-nonzero = own-some;
+      peer-nonzero = peer-some;
+      link-least = link-least;
+      link-most = link-most;
+      size-least = size-least;
+      size-most = size-most;
+      not-both = refl;
+      p-range = own-range;
+      c-range = own-range;
+      t-range = own-range;
+      q-range = remote-range;
+      r-range = remote-range;
+      tc-good = own-gap .0;
+      cp-good = own-gap .0;
+      sum = omega (arith, own-gap .1);
+      rq-good = remote-gap .0;
+    })

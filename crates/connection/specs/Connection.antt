@@ -1,5 +1,5 @@
 -- Document 01, "The memory and the tables" and "The 44-byte message": a connection's record, coherence, and making a message.
--- P, C, T are the inbound producer, consumer and told; Q, R the outbound producer and consumer; N' is the outbound size. Inbound `last` is
+-- P, C, T are the inbound producer, consumer and told; Q, R the outbound producer and consumer; N' is the remote size. Inbound `last` is
 -- the last sequence number heard, `blocked` and `request` are B and R of the last message heard; outbound `next` is the next sequence
 -- number, `blocked` our present B. Of the marks, `abort` is A sent and `first` ours first.
 -- Assumes nothing.
@@ -14,29 +14,101 @@ use Rattle.cdc.specs.declared.Message.{Message}
 use Rattle.cdc.specs.Cdc.{encodeOf}
 use Rattle.closing.specs.declared.Side.{Side}
 use Rattle.closing.specs.declared.Marks.{Marks}
+use Rattle.connection.specs.declared.Identity.{Identity}
+use Rattle.connection.specs.declared.Remote.{Remote}
 use Rattle.connection.specs.declared.Inbound.{Inbound}
 use Rattle.connection.specs.declared.Outbound.{Outbound}
 use Rattle.connection.specs.declared.Record.{Record}
+use Rattle.connection.specs.declared.Opening.{Opening}
 use Rattle.connection.specs.declared.Reply.{Reply}
-use Rattle.connection.specs.declared.Reply.the-variants.{Refused}
+use Rattle.connection.specs.declared.Reply.the-variants.{Refused, Accepted, Sent, Read, Torn, Heard}
+use Rattle.connection.specs.declared.Effect.{Effect}
+use Rattle.connection.specs.declared.Effect.the-variants.{Nothing, Stores, Copies}
 use Rattle.connection.specs.declared.Outcome.{Outcome}
+
+-- N and N' are from 8 to 65,540; a link is 1 to 4
+abbrev pub leastSize : ℕ
+leastSize = 8
+
+abbrev pub mostSize : ℕ
+mostSize = 65540
+
+abbrev pub mostLink : ℕ
+mostLink = 4
+
+-- A record before anything is sent or heard: all cursors at one place, the next sequence number `next`, last heard 0, marks off
+abbrev pub noMarks : Side
+noMarks = record { done = false; closed = false }
+
+abbrev pub restingRecord : Identity → Remote → Cursor → ℕ → Record
+restingRecord id remote at next =
+    record {
+      id = id;
+      remote = remote;
+      inbound = record { producer = at; consumer = at; told = at; last = 0; blocked = false; request = false };
+      outbound = record { producer = at; consumer = at; next = next; blocked = false };
+      marks = record { sent = noMarks; heard = noMarks; first = false; abort = false };
+    }
 
 -- closing writes all zeros
 abbrev pub zeroCursor : Cursor
 zeroCursor = record { offset = 0; wrap = 0 }
 
-abbrev pub noMarks : Side
-noMarks = record { done = false; closed = false }
-
 unfoldable pub zeroRecord : Record
-zeroRecord =
-    record {
-      id = record { opened = false; own = 0; peer = 0; link = 0 };
-      inbound =
-          record { producer = zeroCursor; consumer = zeroCursor; told = zeroCursor; last = 0; blocked = false; request = false };
-      outbound = record { size = 0; producer = zeroCursor; consumer = zeroCursor; next = 0; blocked = false };
-      marks = record { sent = noMarks; heard = noMarks; first = false; abort = false };
-    }
+zeroRecord = restingRecord (record { opened = false; own = 0; peer = 0; link = 0 }) (record { size = 0 }) zeroCursor 0
+
+-- open sets all cursors to offset 4, wrap 0, next sequence 1, last heard 0, marks off
+abbrev pub startCursor : Cursor
+startCursor = record { offset = 4; wrap = 0 }
+
+unfoldable pub openedRecord : Opening → Record
+openedRecord given =
+    restingRecord (record { opened = true; own = given .own; peer = given .peer; link = given .link }) (given .remote) startCursor 1
+
+-- One setter for each field that a call changes. No definition but these and `restingRecord` spells the fields of a record: a rule that
+-- sets several is these, one after the other.
+-- P, C and T; the last sequence number heard; B and R of the last message heard
+abbrev pub pTo : Inbound → Cursor → Inbound
+pTo i p =
+    record { producer = p; consumer = i .consumer; told = i .told; last = i .last; blocked = i .blocked; request = i .request }
+
+abbrev pub cTo : Inbound → Cursor → Inbound
+cTo i c =
+    record { producer = i .producer; consumer = c; told = i .told; last = i .last; blocked = i .blocked; request = i .request }
+
+abbrev pub tTo : Inbound → Cursor → Inbound
+tTo i t =
+    record { producer = i .producer; consumer = i .consumer; told = t; last = i .last; blocked = i .blocked; request = i .request }
+
+abbrev pub lastTo : Inbound → ℕ → Inbound
+lastTo i s =
+    record { producer = i .producer; consumer = i .consumer; told = i .told; last = s; blocked = i .blocked; request = i .request }
+
+abbrev pub flagsTo : Inbound → Bool → Bool → Inbound
+flagsTo i b r = record { producer = i .producer; consumer = i .consumer; told = i .told; last = i .last; blocked = b; request = r }
+
+-- Q and R; the next sequence number; our present B
+abbrev pub qTo : Outbound → Cursor → Outbound
+qTo o q = record { producer = q; consumer = o .consumer; next = o .next; blocked = o .blocked }
+
+abbrev pub rTo : Outbound → Cursor → Outbound
+rTo o r = record { producer = o .producer; consumer = r; next = o .next; blocked = o .blocked }
+
+abbrev pub nextTo : Outbound → ℕ → Outbound
+nextTo o s = record { producer = o .producer; consumer = o .consumer; next = s; blocked = o .blocked }
+
+abbrev pub blockedTo : Outbound → Bool → Outbound
+blockedTo o b = record { producer = o .producer; consumer = o .consumer; next = o .next; blocked = b }
+
+-- what came in, what goes out, the marks. Who the connection is and what its peer said of itself at open stay
+abbrev pub inboundTo : Record → Inbound → Record
+inboundTo rec i = record { id = rec .id; remote = rec .remote; inbound = i; outbound = rec .outbound; marks = rec .marks }
+
+abbrev pub outboundTo : Record → Outbound → Record
+outboundTo rec o = record { id = rec .id; remote = rec .remote; inbound = rec .inbound; outbound = o; marks = rec .marks }
+
+unfoldable pub marksTo : Record → Marks → Record
+marksTo rec m = record { id = rec .id; remote = rec .remote; inbound = rec .inbound; outbound = rec .outbound; marks = m }
 
 -- all tests of a list hold
 abbrev pub every : List Bool → Bool
@@ -46,66 +118,67 @@ every (b ∷ c ∷ l) = b && every (c ∷ l)
 
 -- both tokens are nonzero, link and N' are in range; the close marks sent and heard are not both C
 unfoldable pub numbersOk : Record → Bool
-numbersOk c =
+numbersOk rec =
     every
-    (ltb 0 (c .id .own)
-    ∷ ltb 0 (c .id .peer)
-    ∷ leb 1 (c .id .link)
-    ∷ leb (c .id .link) 4
-    ∷ leb 8 (c .outbound .size)
-    ∷ leb (c .outbound .size) 65540
-    ∷ not (c .marks .sent .closed && c .marks .heard .closed)
+    (ltb 0 (rec .id .own)
+    ∷ ltb 0 (rec .id .peer)
+    ∷ leb 1 (rec .id .link)
+    ∷ leb (rec .id .link) mostLink
+    ∷ leb leastSize (rec .remote .size)
+    ∷ leb (rec .remote .size) mostSize
+    ∷ not (rec .marks .sent .closed && rec .marks .heard .closed)
     ∷ [])
 
 -- all offsets are in range: P, C, T by N; Q, R by N'
 unfoldable pub offsetsOk : ℕ → Record → Bool
-offsetsOk N c =
-    every
-    (inRange N (c .inbound .producer)
-    ∷ inRange N (c .inbound .consumer)
-    ∷ inRange N (c .inbound .told)
-    ∷ inRange (c .outbound .size) (c .outbound .producer)
-    ∷ inRange (c .outbound .size) (c .outbound .consumer)
-    ∷ [])
+offsetsOk N rec =
+    let p = rec .inbound .producer in
+    let c = rec .inbound .consumer in
+    let t = rec .inbound .told in
+    let q = rec .outbound .producer in
+    let r = rec .outbound .consumer in
+    let N' = rec .remote .size in
+    every (inRange N p ∷ inRange N c ∷ inRange N t ∷ inRange N' q ∷ inRange N' r ∷ [])
 
 -- the distances T to C and C to P are good and sum to at most D, the distance R to Q is good by D'
 unfoldable pub distancesOk : ℕ → Record → Bool
-distancesOk N c =
-    let d = dataOf N in
-    every
-    (goodB d (c .inbound .told) (c .inbound .consumer)
-    ∷ goodB d (c .inbound .consumer) (c .inbound .producer)
-    ∷ leb (gapOf d (c .inbound .told) (c .inbound .consumer) + gapOf d (c .inbound .consumer) (c .inbound .producer)) d
-    ∷ goodB (dataOf (c .outbound .size)) (c .outbound .consumer) (c .outbound .producer)
-    ∷ [])
+distancesOk N rec =
+    let p = rec .inbound .producer in
+    let c = rec .inbound .consumer in
+    let t = rec .inbound .told in
+    let q = rec .outbound .producer in
+    let r = rec .outbound .consumer in
+    let D = dataOf N in
+    let D' = dataOf (rec .remote .size) in
+    every (goodB D t c ∷ goodB D c p ∷ leb (gapOf D t c + gapOf D c p) D ∷ goodB D' r q ∷ [])
 
 -- an open record is coherent
 unfoldable pub coherentB : ℕ → Record → Bool
-coherentB N c = every (numbersOk c ∷ offsetsOk N c ∷ distancesOk N c ∷ [])
+coherentB N rec = every (numbersOk rec ∷ offsetsOk N rec ∷ distancesOk N rec ∷ [])
 
 -- what every call on a connection tests, in this order: 3, the record is not coherent; 6, its link is down; 7, the state forbids.
 -- 0: not refused
 unfoldable pub refusalOf : ℕ → Bool → Record → Bool → ℕ
-refusalOf N active c forbids = cond (coherentB N c) (cond active (cond forbids 7 0) 6) 3
+refusalOf N active rec forbids = cond (coherentB N rec) (cond active (cond forbids 7 0) 6) 3
 
 -- each message carries the peer token, Q, C, our present B, and D, C or A for the marks we have sent; P, U, R and F stay zero
 unfoldable pub messageOf : Record → Message
-messageOf c =
+messageOf rec =
     record {
-      sequence = c .outbound .next;
-      token = c .id .peer;
-      producer = c .outbound .producer;
-      consumer = c .inbound .consumer;
+      sequence = rec .outbound .next;
+      token = rec .id .peer;
+      producer = rec .outbound .producer;
+      consumer = rec .inbound .consumer;
       flags =
           record {
-            blocked = c .outbound .blocked;
+            blocked = rec .outbound .blocked;
             pending = false;
             urgent = false;
             request = false;
             failover = false;
-            done = c .marks .sent .done;
-            closed = c .marks .sent .closed;
-            abort = c .marks .abort;
+            done = rec .marks .sent .done;
+            closed = rec .marks .sent .closed;
+            abort = rec .marks .abort;
           };
     }
 
@@ -115,42 +188,44 @@ sequenceAfter s = (s + 1) % 65536
 
 -- making one sets T to C
 unfoldable pub toldIn : Inbound → Inbound
-toldIn i =
-    record {
-      producer = i .producer;
-      consumer = i .consumer;
-      told = i .consumer;
-      last = i .last;
-      blocked = i .blocked;
-      request = i .request;
-    }
+toldIn i = tTo i (i .consumer)
 
 -- and uses the next sequence number
 unfoldable pub usedIn : Outbound → Outbound
-usedIn o =
-    record { size = o .size; producer = o .producer; consumer = o .consumer; next = sequenceAfter (o .next); blocked = o .blocked }
+usedIn o = nextTo o (sequenceAfter (o .next))
 
 unfoldable pub toldOf : Record → Record
-toldOf c = record { id = c .id; inbound = toldIn (c .inbound); outbound = usedIn (c .outbound); marks = c .marks }
+toldOf rec = outboundTo (inboundTo rec (toldIn (rec .inbound))) (usedIn (rec .outbound))
 
 abbrev pub noMessage : List ℕ
 noMessage = replicate 44 0
 
--- a call that is accepted and left the record c: a message is made where `tells`
+-- an answer without a message
+abbrev pub silentOf : Reply → Record → Outcome
+silentOf reply rec = record { reply = reply; made = false; message = noMessage; after = rec }
+
+-- a call that is accepted and left the record rec: a message is made where `tells`
 unfoldable pub outcomeOf : Reply → Bool → Record → Outcome
-outcomeOf reply tells c =
+outcomeOf reply tells rec =
     cond tells
-    (record { reply = reply; made = true; message = encodeOf (messageOf c); after = toldOf c })
-    (record { reply = reply; made = false; message = noMessage; after = c })
+    (record { reply = reply; made = true; message = encodeOf (messageOf rec); after = toldOf rec })
+    (silentOf reply rec)
 
 -- a refusal returns its number only, and changes nothing
 unfoldable pub refusedOf : ℕ → Record → Outcome
-refusedOf k c = record { reply = Refused k; made = false; message = noMessage; after = c }
+refusedOf k rec = silentOf (Refused k) rec
 
 -- the slot is closed, where `shut`
 unfoldable pub closedIf : Bool → Outcome → Outcome
 closedIf shut o =
     cond shut (record { reply = o .reply; made = o .made; message = o .message; after = zeroRecord }) o
 
-unfoldable pub marksTo : Record → Marks → Record
-marksTo c m = record { id = c .id; inbound = c .inbound; outbound = c .outbound; marks = m }
+-- What a reply does with the bytes that the call was lent: a place that is accepted stores its bytes, a read of n copies n bytes to the
+-- out buffer, every other reply touches none. (Calls that are lent no bytes to store answer `Accepted` too: only a place looks at it.)
+abbrev pub effectOf : Reply → Effect
+effectOf (Refused k) = Nothing
+effectOf Accepted = Stores
+effectOf (Sent n p) = Nothing
+effectOf (Read n) = Copies n
+effectOf Torn = Nothing
+effectOf (Heard moved state) = Nothing

@@ -2,7 +2,9 @@
 // "The 44-byte message").
 ghost use mathlib.Core.Path.{_≡_};
 ghost use mathlib.Core.Bool.{Bool};
-ghost use Rattle.connection.specs.Connection.{zeroRecord, numbersOk, offsetsOk, distancesOk, coherentB, messageOf, sequenceAfter, toldIn, usedIn, toldOf, noMessage, refusalOf, outcomeOf, refusedOf, closedIf, marksTo};
+ghost use Rattle.connection.specs.Connection.{restingRecord, zeroRecord, openedRecord, numbersOk, offsetsOk, distancesOk, coherentB};
+ghost use Rattle.connection.specs.Connection.{refusalOf, messageOf, toldIn, usedIn, toldOf, silentOf, outcomeOf, refusedOf, closedIf};
+ghost use Rattle.connection.specs.Connection.{marksTo, effectOf};
 use cdc::Flags;
 use cdc::Message;
 use closing::Marks;
@@ -11,12 +13,25 @@ use closing::State;
 use cursor::Cursor;
 use flow::Placings;
 
+// The bytes of an element, ours or the peer's: at least and at most.
+pub const LEAST_SIZE: u32 = 8;
+
+pub const MOST_SIZE: u32 = 65540;
+
+// Links are numbered from 1.
+pub const MOST_LINK: u8 = 4;
+
 // Who the connection is: closed or open by its mark, both alert tokens, its link from 1 to 4.
 pub struct Identity {
     pub opened: bool,
     pub own: u32,
     pub peer: u32,
     pub link: u8,
+}
+
+// What is fixed at open about the peer: its element has `size` bytes (N').
+pub struct Remote {
+    pub size: u32,
 }
 
 // What comes in, in our own element: P the peer's producer as last heard, C our consumer, T the consumer last told; the last sequence
@@ -30,10 +45,8 @@ pub struct Inbound {
     pub request: bool,
 }
 
-// What goes out, in the peer's element of `size` bytes (N'): Q our producer, R the peer's consumer as last heard; the next sequence
-// number; our present B.
+// What goes out, in the peer's element: Q our producer, R the peer's consumer as last heard; the next sequence number; our present B.
 pub struct Outbound {
-    pub size: u32,
     pub producer: Cursor,
     pub consumer: Cursor,
     pub next: u16,
@@ -42,9 +55,18 @@ pub struct Outbound {
 
 pub struct Record {
     pub id: Identity,
+    pub remote: Remote,
     pub inbound: Inbound,
     pub outbound: Outbound,
     pub marks: Marks,
+}
+
+// What open is given for a connection: both alert tokens, its link, and what is fixed about the peer.
+pub struct Opening {
+    pub own: u32,
+    pub peer: u32,
+    pub link: u8,
+    pub remote: Remote,
 }
 
 // What a call's line names, beside the message.
@@ -59,6 +81,15 @@ pub enum Reply {
     Heard(u64, State),
 }
 
+// What a reply does with the bytes that the call was lent.
+pub enum Effect {
+    Nothing,
+    // a place's bytes are stored in the element
+    Stores,
+    // so many bytes are copied to a read's out buffer
+    Copies(u32),
+}
+
 // What a call on one record answers and leaves: the message's bytes where one was made, else zeros.
 pub struct Outcome {
     pub reply: Reply,
@@ -67,30 +98,22 @@ pub struct Outcome {
     pub after: Record,
 }
 
-// What closing writes.
-pub fn zero_record() -> Record
-    ensures { λ r. ⌜ r ≡ zeroRecord ⌝ }
+// A record before anything is sent or heard, all its cursors at one place.
+fn resting_record(id: Identity, remote: Remote, at: Cursor, next: u16) -> Record
+    ensures { λ r. ⌜ r ≡ restingRecord id remote at next ⌝ }
 {
-    let z = Cursor { offset: 0, wrap: 0 };
-    let id = Identity {
-        opened: false,
-        own: 0,
-        peer: 0,
-        link: 0,
-    };
     let inbound = Inbound {
-        producer: z,
-        consumer: z,
-        told: z,
+        producer: at,
+        consumer: at,
+        told: at,
         last: 0,
         blocked: false,
         request: false,
     };
     let outbound = Outbound {
-        size: 0,
-        producer: z,
-        consumer: z,
-        next: 0,
+        producer: at,
+        consumer: at,
+        next: next,
         blocked: false,
     };
     let side = Side {
@@ -105,71 +128,103 @@ pub fn zero_record() -> Record
     };
     Record {
         id: id,
+        remote: remote,
         inbound: inbound,
         outbound: outbound,
         marks: marks,
     }
 }
 
-fn numbers_ok(c: Record) -> bool
-    ensures { λ r. ⌜ r ≡ numbersOk c ⌝ }
+// What closing writes.
+pub fn zero_record() -> Record
+    ensures { λ r. ⌜ r ≡ zeroRecord ⌝ }
 {
-    let id = c.id;
-    let size = c.outbound.size;
+    let id = Identity {
+        opened: false,
+        own: 0,
+        peer: 0,
+        link: 0,
+    };
+    let remote = Remote { size: 0 };
+    let at = Cursor { offset: 0, wrap: 0 };
+    resting_record(id, remote, at, 0)
+}
+
+// The record that open lays down.
+pub fn opened_record(given: Opening) -> Record
+    ensures { λ r. ⌜ r ≡ openedRecord given ⌝ }
+{
+    let id = Identity {
+        opened: true,
+        own: given.own,
+        peer: given.peer,
+        link: given.link,
+    };
+    let remote = given.remote;
+    let at = Cursor { offset: 4, wrap: 0 };
+    resting_record(id, remote, at, 1)
+}
+
+fn numbers_ok(rec: Record) -> bool
+    ensures { λ r. ⌜ r ≡ numbersOk rec ⌝ }
+{
+    let id = rec.id;
+    let size = rec.remote.size;
     (0 < id.own)
         & ((0 < id.peer)
             & ((1 <= id.link)
-                & ((id.link <= 4)
-                    & ((8 <= size)
-                        & ((size <= 65540) & !(c.marks.sent.closed & c.marks.heard.closed))))))
+                & ((id.link <= MOST_LINK)
+                    & ((LEAST_SIZE <= size)
+                        & ((size <= MOST_SIZE)
+                            & !(rec.marks.sent.closed & rec.marks.heard.closed))))))
 }
 
-fn offsets_ok(n: u32, c: Record) -> bool
-    ensures { λ r. ⌜ r ≡ offsetsOk n c ⌝ }
+fn offsets_ok(n: u32, rec: Record) -> bool
+    ensures { λ r. ⌜ r ≡ offsetsOk n rec ⌝ }
 {
-    let i = c.inbound;
-    let o = c.outbound;
-    let size = o.size;
+    let i = rec.inbound;
+    let o = rec.outbound;
+    let size = rec.remote.size;
     let p = i.producer;
-    let k = i.consumer;
+    let c = i.consumer;
     let t = i.told;
     let q = o.producer;
-    let a = o.consumer;
+    let r = o.consumer;
     cursor::in_range(n, p)
-        & (cursor::in_range(n, k)
-            & (cursor::in_range(n, t) & (cursor::in_range(size, q) & cursor::in_range(size, a))))
+        & (cursor::in_range(n, c)
+            & (cursor::in_range(n, t) & (cursor::in_range(size, q) & cursor::in_range(size, r))))
 }
 
-fn distances_ok(n: u32, c: Record) -> bool
-    ensures { λ r. ⌜ r ≡ distancesOk n c ⌝ }
+fn distances_ok(n: u32, rec: Record) -> bool
+    ensures { λ r. ⌜ r ≡ distancesOk n rec ⌝ }
 {
-    let i = c.inbound;
-    let o = c.outbound;
-    let size = o.size;
+    let i = rec.inbound;
+    let o = rec.outbound;
+    let size = rec.remote.size;
     let p = i.producer;
-    let k = i.consumer;
+    let c = i.consumer;
     let t = i.told;
     let q = o.producer;
-    let a = o.consumer;
+    let r = o.consumer;
     let d = cursor::data_size(n);
     let e = cursor::data_size(size);
-    cursor::good(d, t, k)
-        & (cursor::good(d, k, p)
-            & ((cursor::gap(d, t, k) + cursor::gap(d, k, p) <= (d as u64)) & cursor::good(e, a, q)))
+    cursor::good(d, t, c)
+        & (cursor::good(d, c, p)
+            & ((cursor::gap(d, t, c) + cursor::gap(d, c, p) <= (d as u64)) & cursor::good(e, r, q)))
 }
 
 // Whether an open record is coherent, in a memory whose elements have n bytes.
-pub fn coherent(n: u32, c: Record) -> bool
-    ensures { λ r. ⌜ r ≡ coherentB n c ⌝ }
+pub fn coherent(n: u32, rec: Record) -> bool
+    ensures { λ r. ⌜ r ≡ coherentB n rec ⌝ }
 {
-    numbers_ok(c) & (offsets_ok(n, c) & distances_ok(n, c))
+    numbers_ok(rec) & (offsets_ok(n, rec) & distances_ok(n, rec))
 }
 
 // The refusal that every call on a connection tests: 3, then 6, then 7 where `forbids`; 0 for none.
-pub fn refusal(n: u32, active: bool, c: Record, forbids: bool) -> u8
-    ensures { λ r. ⌜ r ≡ refusalOf n active c forbids ⌝ }
+pub fn refusal(n: u32, active: bool, rec: Record, forbids: bool) -> u8
+    ensures { λ r. ⌜ r ≡ refusalOf n active rec forbids ⌝ }
 {
-    let ok = coherent(n, c);
+    let ok = coherent(n, rec);
     if ok {
         if active {
             if forbids { 7 } else { 0 }
@@ -182,26 +237,26 @@ pub fn refusal(n: u32, active: bool, c: Record, forbids: bool) -> u8
 }
 
 // The message that tells the record's present state.
-fn message_of(c: Record) -> Message
-    ensures { λ r. ⌜ r ≡ messageOf c ⌝ }
+fn message_of(rec: Record) -> Message
+    ensures { λ r. ⌜ r ≡ messageOf rec ⌝ }
 {
-    let producer = c.outbound.producer;
-    let consumer = c.inbound.consumer;
+    let q = rec.outbound.producer;
+    let c = rec.inbound.consumer;
     let flags = Flags {
-        blocked: c.outbound.blocked,
+        blocked: rec.outbound.blocked,
         pending: false,
         urgent: false,
         request: false,
         failover: false,
-        done: c.marks.sent.done,
-        closed: c.marks.sent.closed,
-        abort: c.marks.abort,
+        done: rec.marks.sent.done,
+        closed: rec.marks.sent.closed,
+        abort: rec.marks.abort,
     };
     Message {
-        sequence: c.outbound.next,
-        token: c.id.peer,
-        producer: producer,
-        consumer: consumer,
+        sequence: rec.outbound.next,
+        token: rec.id.peer,
+        producer: q,
+        consumer: c,
         flags: flags,
     }
 }
@@ -209,9 +264,9 @@ fn message_of(c: Record) -> Message
 fn told_in(i: Inbound) -> Inbound
     ensures { λ r. ⌜ r ≡ toldIn i ⌝ }
 {
-    let k = i.consumer;
+    let c = i.consumer;
     let mut next = i;
-    next.told = k;
+    next.told = c;
     next
 }
 
@@ -225,28 +280,36 @@ fn used_in(o: Outbound) -> Outbound
 }
 
 // The record once a message is made: T is C, and the next sequence number is used.
-fn told(c: Record) -> Record
-    ensures { λ r. ⌜ r ≡ toldOf c ⌝ }
+fn told(rec: Record) -> Record
+    ensures { λ r. ⌜ r ≡ toldOf rec ⌝ }
 {
-    let id = c.id;
-    let marks = c.marks;
-    let inbound = told_in(c.inbound);
-    let outbound = used_in(c.outbound);
-    Record {
-        id: id,
-        inbound: inbound,
-        outbound: outbound,
-        marks: marks,
+    let i = told_in(rec.inbound);
+    let o = used_in(rec.outbound);
+    let mut next = rec;
+    next.inbound = i;
+    next.outbound = o;
+    next
+}
+
+// An outcome without a message.
+fn silent(reply: Reply, rec: Record) -> Outcome
+    ensures { λ r. ⌜ r ≡ silentOf reply rec ⌝ }
+{
+    Outcome {
+        reply: reply,
+        made: false,
+        message: [0u8; 44],
+        after: rec,
     }
 }
 
-// The outcome of an accepted call that left the record c: with a message where `tells`.
-pub fn outcome_of(reply: Reply, tells: bool, c: Record) -> Outcome
-    ensures { λ r. ⌜ r ≡ outcomeOf reply tells c ⌝ }
+// The outcome of an accepted call that left the record rec: with a message where `tells`.
+pub fn outcome_of(reply: Reply, tells: bool, rec: Record) -> Outcome
+    ensures { λ r. ⌜ r ≡ outcomeOf reply tells rec ⌝ }
 {
     if tells {
-        let bytes = cdc::encode(message_of(c));
-        let next = told(c);
+        let bytes = cdc::encode(message_of(rec));
+        let next = told(rec);
         return Outcome {
             reply: reply,
             made: true,
@@ -254,24 +317,14 @@ pub fn outcome_of(reply: Reply, tells: bool, c: Record) -> Outcome
             after: next,
         };
     }
-    Outcome {
-        reply: reply,
-        made: false,
-        message: [0u8; 44],
-        after: c,
-    }
+    silent(reply, rec)
 }
 
 // A refusal: its number, and the record as it was.
-pub fn refused(k: u8, c: Record) -> Outcome
-    ensures { λ r. ⌜ r ≡ refusedOf k c ⌝ }
+pub fn refused(k: u8, rec: Record) -> Outcome
+    ensures { λ r. ⌜ r ≡ refusedOf k rec ⌝ }
 {
-    Outcome {
-        reply: Reply::Refused(k),
-        made: false,
-        message: [0u8; 44],
-        after: c,
-    }
+    silent(Reply::Refused(k), rec)
 }
 
 // The outcome with its slot closed where `shut`.
@@ -289,10 +342,24 @@ pub fn closed_if(shut: bool, o: Outcome) -> Outcome
 }
 
 // The record with other marks.
-pub fn marks_to(c: Record, marks: Marks) -> Record
-    ensures { λ r. ⌜ r ≡ marksTo c marks ⌝ }
+pub fn marks_to(rec: Record, marks: Marks) -> Record
+    ensures { λ r. ⌜ r ≡ marksTo rec marks ⌝ }
 {
-    let mut next = c;
+    let mut next = rec;
     next.marks = marks;
     next
+}
+
+// What the reply does with the bytes that the call was lent.
+pub fn effect_of(reply: Reply) -> Effect
+    ensures { λ r. ⌜ r ≡ effectOf reply ⌝ }
+{
+    match reply {
+        Reply::Refused(_) => Effect::Nothing,
+        Reply::Accepted => Effect::Stores,
+        Reply::Sent(_, _) => Effect::Nothing,
+        Reply::Read(n) => Effect::Copies(n),
+        Reply::Torn => Effect::Nothing,
+        Reply::Heard(_, _) => Effect::Nothing,
+    }
 }

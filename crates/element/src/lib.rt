@@ -4,7 +4,17 @@ ghost use mathlib.Core.Bool.{cond};
 ghost use mathlib.Core.List.{_∷_, _++_};
 ghost use Prim.Native.Nat.{_+_, _-_, _*_, _≤_, _<_};
 ghost use lib.ListN.{length, take, drop, replicate};
-ghost use Rattle.element.specs.Element.{splice, part, freshElement, clears, clearedOf, intactB, intactAt, freeFrom, allFree, stores, storedOf, reads, ringFrom, unread, readOf};
+ghost use Rattle.element.specs.Element.{baseOf, splice, part, freshElement, clears, clearedOf, intactB, intactAt, freeFrom, allFree, stores, storedOf, reads, ringFrom, unread, readOf};
+
+// Where the element of a slot from 1 on begins in the memory, each having n bytes; 0 for slot 0.
+pub fn base_of(n: u32, slot: u32) -> usize
+    ensures { λ r. ⌜ r ≡ baseOf n slot ⌝ }
+{
+    if slot == 0 {
+        return 0;
+    }
+    (slot as usize - 1) * (n as usize)
+}
 
 // Copies src over the whole of dst, which is as long. By way of a local array, which the compiler knows to be apart from both: it makes
 // the two loops one memmove, and the array goes.

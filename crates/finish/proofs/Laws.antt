@@ -16,103 +16,103 @@ use Rattle.finish.specs.Finish.{shutdownForbids, shutdownOf, closeForbid
 
 -- the outcome of a call that only sets marks
 abbrev markedOf : Record → Marks → Outcome
-markedOf c m = outcomeOf Accepted true (marksTo c m)
+markedOf rec m = outcomeOf Accepted true (marksTo rec m)
 
-module _ (c : Record) (m : Marks) where
-  marked-coherent : (n : ℕ) → coherentB n c ≡ true → m .sent .closed && m .heard .closed ≡ false
-      → coherentB n (markedOf c m .after) ≡ true
-  marked-coherent n e b = outcome-coherent n (marksTo c m) Accepted true (marks-coherent n c m e b)
+module _ (rec : Record) (m : Marks) where
+  marked-coherent : (n : ℕ) → coherentB n rec ≡ true → m .sent .closed && m .heard .closed ≡ false
+      → coherentB n (markedOf rec m .after) ≡ true
+  marked-coherent n e b = outcome-coherent n (marksTo rec m) Accepted true (marks-coherent n rec m e b)
 
-  marked-id : markedOf c m .after .id ≡ c .id
+  marked-id : markedOf rec m .after .id ≡ rec .id
   unfolding marksTo
-  marked-id = outcome-id Accepted true (marksTo c m)
+  marked-id = outcome-id Accepted true (marksTo rec m)
 
-  marked-marks : markedOf c m .after .marks ≡ m
+  marked-marks : markedOf rec m .after .marks ≡ m
   unfolding marksTo
-  marked-marks = outcome-marks Accepted true (marksTo c m)
+  marked-marks = outcome-marks Accepted true (marksTo rec m)
 
 -- a refusal, or the outcome of an accepted call: what holds of both holds of the call's
-pick : (P : Outcome → Type 0) (r : ℕ) (c : Record) (o : Outcome) → ((k : ℕ) → P (refusedOf k c)) → P o
-    → P (cond (eqb r 0) o (refusedOf r c))
-pick P r c o refused accepted = go (eqb r 0)
+pick : (P : Outcome → Type 0) (r : ℕ) (rec : Record) (o : Outcome) → ((k : ℕ) → P (refusedOf k rec)) → P o
+    → P (cond (eqb r 0) o (refusedOf r rec))
+pick P r rec o refused accepted = go (eqb r 0)
   where
-    go : (b : Bool) → P (cond b o (refusedOf r c))
+    go : (b : Bool) → P (cond b o (refusedOf r rec))
     go true = accepted
     go false = refused r
 
-refused-coherent : (n : ℕ) (c : Record) → coherentB n c ≡ true → (k : ℕ) → coherentB n (refusedOf k c .after) ≡ true
-refused-coherent n c e k = rw (refused-after k c) e
+refused-coherent : (n : ℕ) (rec : Record) → coherentB n rec ≡ true → (k : ℕ) → coherentB n (refusedOf k rec .after) ≡ true
+refused-coherent n rec e k = rw (refused-after k rec) e
 
-refused-id : (c : Record) (k : ℕ) → refusedOf k c .after .id ≡ c .id
-refused-id c k = ap (λ (w : Record). w .id) (refused-after k c)
+refused-id : (rec : Record) (k : ℕ) → refusedOf k rec .after .id ≡ rec .id
+refused-id rec k = ap (λ (w : Record). w .id) (refused-after k rec)
 
-module _ (n : ℕ) (active : Bool) (c : Record) where
+module _ (n : ℕ) (active : Bool) (rec : Record) where
   -- shutdown leaves the record coherent, with its identity
-  pub shutdown-coherent : coherentB n c ≡ true → coherentB n (shutdownOf n active c .after) ≡ true
+  pub shutdown-coherent : coherentB n rec ≡ true → coherentB n (shutdownOf n active rec .after) ≡ true
   unfolding shutdownOf doneSent
   shutdown-coherent e =
-      pick (λ o. coherentB n (o .after) ≡ true) (refusalOf n active c (shutdownForbids (c .marks))) c
-      (markedOf c (doneSent (c .marks))) (refused-coherent n c e)
-      (marked-coherent c (doneSent (c .marks)) n e (coherent-facts n c e .not-both))
+      pick (λ o. coherentB n (o .after) ≡ true) (refusalOf n active rec (shutdownForbids (rec .marks))) rec
+      (markedOf rec (doneSent (rec .marks))) (refused-coherent n rec e)
+      (marked-coherent rec (doneSent (rec .marks)) n e (coherent-facts n rec e .not-both))
 
-  pub shutdown-keeps-id : shutdownOf n active c .after .id ≡ c .id
+  pub shutdown-keeps-id : shutdownOf n active rec .after .id ≡ rec .id
   unfolding shutdownOf
   shutdown-keeps-id =
-      pick (λ o. o .after .id ≡ c .id) (refusalOf n active c (shutdownForbids (c .marks))) c
-      (markedOf c (doneSent (c .marks))) (refused-id c) (marked-id c (doneSent (c .marks)))
+      pick (λ o. o .after .id ≡ rec .id) (refusalOf n active rec (shutdownForbids (rec .marks))) rec
+      (markedOf rec (doneSent (rec .marks))) (refused-id rec) (marked-id rec (doneSent (rec .marks)))
 
   -- and so does abort
-  pub abort-coherent : coherentB n c ≡ true → coherentB n (abortOf n active c .after) ≡ true
+  pub abort-coherent : coherentB n rec ≡ true → coherentB n (abortOf n active rec .after) ≡ true
   unfolding abortOf abortSent
   abort-coherent e =
-      pick (λ o. coherentB n (o .after) ≡ true) (refusalOf n active c (c .marks .abort)) c
-      (markedOf c (abortSent (c .marks))) (refused-coherent n c e)
-      (marked-coherent c (abortSent (c .marks)) n e (coherent-facts n c e .not-both))
+      pick (λ o. coherentB n (o .after) ≡ true) (refusalOf n active rec (rec .marks .abort)) rec
+      (markedOf rec (abortSent (rec .marks))) (refused-coherent n rec e)
+      (marked-coherent rec (abortSent (rec .marks)) n e (coherent-facts n rec e .not-both))
 
-  pub abort-keeps-id : abortOf n active c .after .id ≡ c .id
+  pub abort-keeps-id : abortOf n active rec .after .id ≡ rec .id
   unfolding abortOf
   abort-keeps-id =
-      pick (λ o. o .after .id ≡ c .id) (refusalOf n active c (c .marks .abort)) c (markedOf c (abortSent (c .marks)))
-      (refused-id c) (marked-id c (abortSent (c .marks)))
+      pick (λ o. o .after .id ≡ rec .id) (refusalOf n active rec (rec .marks .abort)) rec (markedOf rec (abortSent (rec .marks)))
+      (refused-id rec) (marked-id rec (abortSent (rec .marks)))
 
   -- close leaves the slot closed, or what holds of the record as it was and with C sent and not heard
-  close-cases : (P : Record → Type 0) → P c → (c .marks .heard .closed ≡ false → P (markedOf c (closedSent (c .marks)) .after))
-      → (closeOf n active c .after ≡ zeroRecord) ⊎ P (closeOf n active c .after)
+  close-cases : (P : Record → Type 0) → P rec → (rec .marks .heard .closed ≡ false → P (markedOf rec (closedSent (rec .marks)) .after))
+      → (closeOf n active rec .after ≡ zeroRecord) ⊎ P (closeOf n active rec .after)
   unfolding closeOf
   close-cases P kept sent =
-      let o = markedOf c (closedSent (c .marks)) in
-      let h = c .marks .heard .closed in
-      pick (λ x. (x .after ≡ zeroRecord) ⊎ P (x .after)) (refusalOf n active c (closeForbids (c .marks))) c (closedIf h o)
-      (λ k. inr (rw (refused-after k c) kept)) (rw (closed-after h o) (go (o .after) h sent))
+      let o = markedOf rec (closedSent (rec .marks)) in
+      let h = rec .marks .heard .closed in
+      pick (λ x. (x .after ≡ zeroRecord) ⊎ P (x .after)) (refusalOf n active rec (closeForbids (rec .marks))) rec (closedIf h o)
+      (λ k. inr (rw (refused-after k rec) kept)) (rw (closed-after h o) (go (o .after) h sent))
     where
       go : (w : Record) (h : Bool) → (h ≡ false → P w) → (cond h zeroRecord w ≡ zeroRecord) ⊎ P (cond h zeroRecord w)
       go w true s = inl refl
       go w false s = inr (s refl)
 
-  pub close-coherent : coherentB n c ≡ true
-      → (closeOf n active c .after ≡ zeroRecord) ⊎ (coherentB n (closeOf n active c .after) ≡ true)
+  pub close-coherent : coherentB n rec ≡ true
+      → (closeOf n active rec .after ≡ zeroRecord) ⊎ (coherentB n (closeOf n active rec .after) ≡ true)
   unfolding closedSent
   close-coherent e =
-      close-cases (λ w. coherentB n w ≡ true) e (marked-coherent c (closedSent (c .marks)) n e)
+      close-cases (λ w. coherentB n w ≡ true) e (marked-coherent rec (closedSent (rec .marks)) n e)
 
-  pub close-keeps-id : (closeOf n active c .after ≡ zeroRecord) ⊎ (closeOf n active c .after .id ≡ c .id)
-  close-keeps-id = close-cases (λ w. w .id ≡ c .id) refl (λ h. marked-id c (closedSent (c .marks)))
+  pub close-keeps-id : (closeOf n active rec .after ≡ zeroRecord) ⊎ (closeOf n active rec .after .id ≡ rec .id)
+  close-keeps-id = close-cases (λ w. w .id ≡ rec .id) refl (λ h. marked-id rec (closedSent (rec .marks)))
 
   -- where nothing forbids it, each sets its mark; a close closes the slot where C was heard
-  module _ (k : coherentB n c ≡ true) (up : active ≡ true) where
-    pub shutdown-sends : shutdownForbids (c .marks) ≡ false → shutdownOf n active c .after .marks ≡ doneSent (c .marks)
+  module _ (k : coherentB n rec ≡ true) (up : active ≡ true) where
+    pub shutdown-sends : shutdownForbids (rec .marks) ≡ false → shutdownOf n active rec .after .marks ≡ doneSent (rec .marks)
     unfolding shutdownOf
-    shutdown-sends may = simp (refusal-0 n active c _ k up may, marked-marks c (doneSent (c .marks)))
+    shutdown-sends may = simp (refusal-0 n active rec _ k up may, marked-marks rec (doneSent (rec .marks)))
 
-    pub abort-sends : c .marks .abort ≡ false → abortOf n active c .after .marks ≡ abortSent (c .marks)
+    pub abort-sends : rec .marks .abort ≡ false → abortOf n active rec .after .marks ≡ abortSent (rec .marks)
     unfolding abortOf
-    abort-sends may = simp (refusal-0 n active c _ k up may, marked-marks c (abortSent (c .marks)))
+    abort-sends may = simp (refusal-0 n active rec _ k up may, marked-marks rec (abortSent (rec .marks)))
 
-    pub close-sends : closeForbids (c .marks) ≡ false → c .marks .heard .closed ≡ false
-        → closeOf n active c .after .marks ≡ closedSent (c .marks)
+    pub close-sends : closeForbids (rec .marks) ≡ false → rec .marks .heard .closed ≡ false
+        → closeOf n active rec .after .marks ≡ closedSent (rec .marks)
     unfolding closeOf closedIf
-    close-sends may h = simp (refusal-0 n active c _ k up may, h, marked-marks c (closedSent (c .marks)))
+    close-sends may h = simp (refusal-0 n active rec _ k up may, h, marked-marks rec (closedSent (rec .marks)))
 
-    pub close-shuts : closeForbids (c .marks) ≡ false → c .marks .heard .closed ≡ true → closeOf n active c .after ≡ zeroRecord
+    pub close-shuts : closeForbids (rec .marks) ≡ false → rec .marks .heard .closed ≡ true → closeOf n active rec .after ≡ zeroRecord
     unfolding closeOf closedIf
-    close-shuts may h = simp (refusal-0 n active c _ k up may, h)
+    close-shuts may h = simp (refusal-0 n active rec _ k up may, h)

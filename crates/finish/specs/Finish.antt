@@ -16,9 +16,9 @@ shutdownForbids m = m .sent .done || (m .sent .closed || m .abort)
 
 -- shutdown sends D
 unfoldable pub shutdownOf : ℕ → Bool → Record → Outcome
-shutdownOf N active c =
-    let no = refusalOf N active c (shutdownForbids (c .marks)) in
-    cond (eqb no 0) (outcomeOf Accepted true (marksTo c (doneSent (c .marks)))) (refusedOf no c)
+shutdownOf N active rec =
+    let no = refusalOf N active rec (shutdownForbids (rec .marks)) in
+    cond (eqb no 0) (outcomeOf Accepted true (marksTo rec (doneSent (rec .marks)))) (refusedOf no rec)
 
 -- 7: close after C or A sent
 unfoldable pub closeForbids : Marks → Bool
@@ -26,14 +26,14 @@ closeForbids m = m .sent .closed || m .abort
 
 -- close sends C, and the slot is closed if C was heard; unread bytes are dropped
 unfoldable pub closeOf : ℕ → Bool → Record → Outcome
-closeOf N active c =
-    let no = refusalOf N active c (closeForbids (c .marks)) in
+closeOf N active rec =
+    let no = refusalOf N active rec (closeForbids (rec .marks)) in
     cond (eqb no 0)
-    (closedIf (c .marks .heard .closed) (outcomeOf Accepted true (marksTo c (closedSent (c .marks)))))
-    (refusedOf no c)
+    (closedIf (rec .marks .heard .closed) (outcomeOf Accepted true (marksTo rec (closedSent (rec .marks)))))
+    (refusedOf no rec)
 
 -- abort sends A; 7: abort after A sent
 unfoldable pub abortOf : ℕ → Bool → Record → Outcome
-abortOf N active c =
-    let no = refusalOf N active c (c .marks .abort) in
-    cond (eqb no 0) (outcomeOf Accepted true (marksTo c (abortSent (c .marks)))) (refusedOf no c)
+abortOf N active rec =
+    let no = refusalOf N active rec (rec .marks .abort) in
+    cond (eqb no 0) (outcomeOf Accepted true (marksTo rec (abortSent (rec .marks)))) (refusedOf no rec)

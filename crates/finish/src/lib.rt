@@ -19,38 +19,38 @@ fn close_forbids(m: Marks) -> bool
 }
 
 // Shutdown sends D.
-pub fn shutdown(n: u32, active: bool, c: Record) -> Outcome
-    ensures { λ r. ⌜ r ≡ shutdownOf n active c ⌝ }
+pub fn shutdown(n: u32, active: bool, rec: Record) -> Outcome
+    ensures { λ r. ⌜ r ≡ shutdownOf n active rec ⌝ }
 {
-    let no = connection::refusal(n, active, c, shutdown_forbids(c.marks));
+    let no = connection::refusal(n, active, rec, shutdown_forbids(rec.marks));
     if no != 0 {
-        return connection::refused(no, c);
+        return connection::refused(no, rec);
     }
-    let done = connection::marks_to(c, closing::done_sent(c.marks));
+    let done = connection::marks_to(rec, closing::done_sent(rec.marks));
     connection::outcome_of(Reply::Accepted, true, done)
 }
 
 // Close sends C, and the slot is closed if C was heard.
-pub fn close(n: u32, active: bool, c: Record) -> Outcome
-    ensures { λ r. ⌜ r ≡ closeOf n active c ⌝ }
+pub fn close(n: u32, active: bool, rec: Record) -> Outcome
+    ensures { λ r. ⌜ r ≡ closeOf n active rec ⌝ }
 {
-    let no = connection::refusal(n, active, c, close_forbids(c.marks));
+    let no = connection::refusal(n, active, rec, close_forbids(rec.marks));
     if no != 0 {
-        return connection::refused(no, c);
+        return connection::refused(no, rec);
     }
-    let closed = connection::marks_to(c, closing::closed_sent(c.marks));
+    let closed = connection::marks_to(rec, closing::closed_sent(rec.marks));
     let o = connection::outcome_of(Reply::Accepted, true, closed);
-    connection::closed_if(c.marks.heard.closed, o)
+    connection::closed_if(rec.marks.heard.closed, o)
 }
 
 // Abort sends A.
-pub fn abort(n: u32, active: bool, c: Record) -> Outcome
-    ensures { λ r. ⌜ r ≡ abortOf n active c ⌝ }
+pub fn abort(n: u32, active: bool, rec: Record) -> Outcome
+    ensures { λ r. ⌜ r ≡ abortOf n active rec ⌝ }
 {
-    let no = connection::refusal(n, active, c, c.marks.abort);
+    let no = connection::refusal(n, active, rec, rec.marks.abort);
     if no != 0 {
-        return connection::refused(no, c);
+        return connection::refused(no, rec);
     }
-    let aborted = connection::marks_to(c, closing::abort_sent(c.marks));
+    let aborted = connection::marks_to(rec, closing::abort_sent(rec.marks));
     connection::outcome_of(Reply::Accepted, true, aborted)
 }

@@ -19,12 +19,12 @@ pub enum Placings {
     Two(Placing, Placing),
 }
 
-// Room in an element of `size` bytes, written at `producer` and read up to `consumer`.
-pub fn room(size: u32, consumer: Cursor, producer: Cursor) -> u32
-    ensures { λ r. ⌜ (r ≡ roomOf size consumer producer) × (r ≤ size - 4) ⌝ }
+// Room in an element of `size` bytes, written at q and read up to r.
+pub fn room(size: u32, r: Cursor, q: Cursor) -> u32
+    ensures { λ k. ⌜ (k ≡ roomOf size r q) × (k ≤ size - 4) ⌝ }
 {
     let d = cursor::data_size(size);
-    let g = cursor::gap(d, consumer, producer);
+    let g = cursor::gap(d, r, q);
     if (d as u64) < g { 0 } else { d - (g as u32) }
 }
 
@@ -40,26 +40,26 @@ pub fn taken(room: u32, len: usize) -> u32
 }
 
 // The length of the first placing: up to the element's end at most.
-fn first_part(size: u32, producer: Cursor, n: u32) -> u32
-    ensures { λ r. ⌜ (r ≡ firstOf size producer n) × (r ≤ n) ⌝ }
+fn first_part(size: u32, q: Cursor, n: u32) -> u32
+    ensures { λ r. ⌜ (r ≡ firstOf size q n) × (r ≤ n) ⌝ }
 {
-    let at = producer.offset;
+    let at = q.offset;
     if size < at {
         return 0;
     }
     if n <= size - at { n } else { size - at }
 }
 
-// Where n bytes go, from `producer` on.
-pub fn placings_of(size: u32, producer: Cursor, n: u32) -> Placings
-    ensures { λ r. ⌜ r ≡ placingsOf size producer n ⌝ }
+// Where n bytes go, from q on.
+pub fn placings_of(size: u32, q: Cursor, n: u32) -> Placings
+    ensures { λ r. ⌜ r ≡ placingsOf size q n ⌝ }
 {
-    let f = first_part(size, producer, n);
+    let f = first_part(size, q, n);
     if n == 0 {
         return Placings::Nowhere;
     }
     let one = Placing {
-        offset: producer.offset,
+        offset: q.offset,
         start: 0,
         len: f,
     };
@@ -75,10 +75,10 @@ pub fn placings_of(size: u32, producer: Cursor, n: u32) -> Placings
 }
 
 // The peer's window: what it may still write, by what it was told.
-pub fn window(n: u32, told: Cursor, producer: Cursor) -> u32
-    ensures { λ r. ⌜ (r ≡ windowOf n told producer) × (r ≤ n - 4) ⌝ }
+pub fn window(n: u32, t: Cursor, p: Cursor) -> u32
+    ensures { λ r. ⌜ (r ≡ windowOf n t p) × (r ≤ n - 4) ⌝ }
 {
-    room(n, told, producer)
+    room(n, t, p)
 }
 
 // Whether a window is small: twice it is below d.
@@ -96,12 +96,12 @@ fn large(d: u32, g: u64) -> bool
     (d as u64) <= 10 * g
 }
 
-// Whether the window is small and the gain, the distance from `told` to `consumer`, is large.
-pub fn update_due(n: u32, told: Cursor, producer: Cursor, consumer: Cursor) -> bool
-    ensures { λ r. ⌜ r ≡ updateDue n told producer consumer ⌝ }
+// Whether the window is small and the gain, the distance from t to the new c, is large.
+pub fn update_due(n: u32, t: Cursor, p: Cursor, c: Cursor) -> bool
+    ensures { λ r. ⌜ r ≡ updateDue n t p c ⌝ }
 {
     let d = cursor::data_size(n);
-    let w = window(n, told, producer);
-    let g = cursor::gap(d, told, consumer);
+    let w = window(n, t, p);
+    let g = cursor::gap(d, t, c);
     small(d, w) & large(d, g)
 }

@@ -13,9 +13,9 @@ use Rattle.connection.specs.declared.Outcome.{Outcome}
 use Rattle.connection.specs.Connection.{outcomeOf, closedIf}
 use Rattle.hear.specs.Hear.{heardRecord, answersB, acceptedOf}
 
-pub accepted-parts : (n : ℕ) (c : Record) (m : Message) (d g : ℕ) (w : Record) (s : State) (t : Bool) (o z : Outcome)
-    → d ≡ dataOf n → g ≡ gapOf d (c .inbound .producer) (m .producer) → w ≡ heardRecord c m → s ≡ stateOf (w .marks)
-    → t ≡ answersB (c .inbound) m → o ≡ outcomeOf (Heard g s) t w
-    → z ≡ closedIf (w .marks .heard .closed && w .marks .sent .closed) o → z ≡ acceptedOf n c m
+pub accepted-parts : (n : ℕ) (rec : Record) (m : Message) (d g : ℕ) (w : Record) (s : State) (t : Bool) (o z : Outcome)
+    → d ≡ dataOf n → g ≡ gapOf d (rec .inbound .producer) (m .producer) → w ≡ heardRecord rec m → s ≡ stateOf (w .marks)
+    → t ≡ answersB (rec .inbound) m → o ≡ outcomeOf (Heard g s) t w
+    → z ≡ closedIf (w .marks .heard .closed && w .marks .sent .closed) o → z ≡ acceptedOf n rec m
 unfolding acceptedOf
-accepted-parts n c m d g w s t o z hd hg hw hs ht ho hz = simp (hz, ho, ht, hs, hw, hg, hd)
+accepted-parts n rec m d g w s t o z hd hg hw hs ht ho hz = simp (hz, ho, ht, hs, hw, hg, hd)

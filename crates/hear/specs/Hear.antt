@@ -15,79 +15,74 @@ use Rattle.connection.specs.declared.Outbound.{Outbound}
 use Rattle.connection.specs.declared.Record.{Record}
 use Rattle.connection.specs.declared.Reply.the-variants.{Heard}
 use Rattle.connection.specs.declared.Outcome.{Outcome}
-use Rattle.connection.specs.Connection.{every, refusalOf, refusedOf, outcomeOf, closedIf, marksTo}
+use Rattle.connection.specs.Connection.{pTo, lastTo, flagsTo, rTo, inboundTo, outboundTo, marksTo}
+use Rattle.connection.specs.Connection.{every, refusalOf, refusedOf, outcomeOf, closedIf}
 
 -- With A: if we had not sent A, one abort message is made; the slot is then closed, cursors not looked at. P isn't replaced: 0.
 -- The state named is the slot's after the call: Closed
 unfoldable pub abortedOf : Record → Outcome
-abortedOf c = closedIf true (outcomeOf (Heard 0 Closed) (not (c .marks .abort)) (marksTo c (abortSent (c .marks))))
+abortedOf rec = closedIf true (outcomeOf (Heard 0 Closed) (not (rec .marks .abort)) (marksTo rec (abortSent (rec .marks))))
 
 -- the new P must be in range by N, have a good distance from T and none less than before; P may not move once D or C was heard
 unfoldable pub producerB : ℕ → Record → Cursor → Bool
-producerB N c p =
-    let d = dataOf N in
-    let t = c .inbound .told in
-    let old = c .inbound .producer in
+producerB N rec p =
+    let D = dataOf N in
+    let t = rec .inbound .told in
+    let old = rec .inbound .producer in
     every
     (inRange N p
-    ∷ goodB d t p
-    ∷ leb (gapOf d t old) (gapOf d t p)
-    ∷ (not (marked (c .marks .heard)) || sameB old p)
+    ∷ goodB D t p
+    ∷ leb (gapOf D t old) (gapOf D t p)
+    ∷ (not (marked (rec .marks .heard)) || sameB old p)
     ∷ [])
 
 -- the new R must be in range by N', at a good distance before Q and none greater than before
 unfoldable pub consumerB : Record → Cursor → Bool
-consumerB c r =
-    let d = dataOf (c .outbound .size) in
-    let q = c .outbound .producer in
-    every (inRange (c .outbound .size) r ∷ goodB d r q ∷ leb (gapOf d r q) (gapOf d (c .outbound .consumer) q) ∷ [])
+consumerB rec r =
+    let N' = rec .remote .size in
+    let D' = dataOf N' in
+    let q = rec .outbound .producer in
+    let old = rec .outbound .consumer in
+    every (inRange N' r ∷ goodB D' r q ∷ leb (gapOf D' r q) (gapOf D' old q) ∷ [])
 
 -- then P, R, sequence, B and R flag are replaced; a D or C mark once heard stays; flags P, U and F are not looked at. The sequence
 -- number is stored, not tested
 unfoldable pub heardIn : Inbound → Message → Inbound
-heardIn i m =
-    record {
-      producer = m .producer;
-      consumer = i .consumer;
-      told = i .told;
-      last = m .sequence;
-      blocked = m .flags .blocked;
-      request = m .flags .request;
-    }
+heardIn i m = flagsTo (lastTo (pTo i (m .producer)) (m .sequence)) (m .flags .blocked) (m .flags .request)
 
 unfoldable pub heardOut : Outbound → Message → Outbound
-heardOut o m = record { size = o .size; producer = o .producer; consumer = m .consumer; next = o .next; blocked = o .blocked }
+heardOut o m = rTo o (m .consumer)
 
 unfoldable pub heardRecord : Record → Message → Record
-heardRecord c m =
-    record {
-      id = c .id;
-      inbound = heardIn (c .inbound) m;
-      outbound = heardOut (c .outbound) m;
-      marks = marksHeard (c .marks) (m .flags .done) (m .flags .closed);
-    }
+heardRecord rec m =
+    marksTo
+    (outboundTo (inboundTo rec (heardIn (rec .inbound) m)) (heardOut (rec .outbound) m))
+    (marksHeard (rec .marks) (m .flags .done) (m .flags .closed))
 
 -- if the R flag is on and T differs from C, a message is made
 unfoldable pub answersB : Inbound → Message → Bool
-answersB i m = m .flags .request && not (sameB (i .told) (i .consumer))
+answersB i m =
+    let c = i .consumer in
+    let t = i .told in
+    m .flags .request && not (sameB t c)
 
 -- after that, C heard and C sent: closed. The answer names how far P moved and the state (that distance is good: the new P is no nearer
 -- to T than the old one, and both are within D of it)
 unfoldable pub acceptedOf : ℕ → Record → Message → Outcome
-acceptedOf N c m =
-    let next = heardRecord c m in
-    let moved = gapOf (dataOf N) (c .inbound .producer) (m .producer) in
+acceptedOf N rec m =
+    let next = heardRecord rec m in
+    let moved = gapOf (dataOf N) (rec .inbound .producer) (m .producer) in
     closedIf (next .marks .heard .closed && next .marks .sent .closed)
-    (outcomeOf (Heard moved (stateOf (next .marks))) (answersB (c .inbound) m) next)
+    (outcomeOf (Heard moved (stateOf (next .marks))) (answersB (rec .inbound) m) next)
 
 -- if we had sent A and this has none: accepted, no change; otherwise the cursors' rules, or 8
 unfoldable pub followedOf : ℕ → Record → Message → Outcome
-followedOf N c m =
-    cond (c .marks .abort) (outcomeOf (Heard 0 PeerAbortWait) false c)
-    (cond (producerB N c (m .producer) && consumerB c (m .consumer)) (acceptedOf N c m) (refusedOf 8 c))
+followedOf N rec m =
+    cond (rec .marks .abort) (outcomeOf (Heard 0 PeerAbortWait) false rec)
+    (cond (producerB N rec (m .producer) && consumerB rec (m .consumer)) (acceptedOf N rec m) (refusedOf 8 rec))
 
 -- hear gives no 7
 unfoldable pub hearOf : ℕ → Bool → Record → Message → Outcome
-hearOf N active c m =
-    let no = refusalOf N active c false in
-    cond (eqb no 0) (cond (m .flags .abort) (abortedOf c) (followedOf N c m)) (refusedOf no c)
+hearOf N active rec m =
+    let no = refusalOf N active rec false in
+    cond (eqb no 0) (cond (m .flags .abort) (abortedOf rec) (followedOf N rec m)) (refusedOf no rec)

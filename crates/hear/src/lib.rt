@@ -1,6 +1,7 @@
 // Hear, as a step of one record (document 01, "Calls of a connection").
 ghost use mathlib.Core.Path.{_≡_};
-ghost use Rattle.hear.specs.Hear.{producerB, consumerB, heardIn, heardOut, heardRecord, answersB, abortedOf, acceptedOf, followedOf, hearOf};
+ghost use Rattle.hear.specs.Hear.{producerB, consumerB, heardIn, heardOut, heardRecord};
+ghost use Rattle.hear.specs.Hear.{answersB, abortedOf, acceptedOf, followedOf, hearOf};
 use cdc::Message;
 use closing::State;
 use connection::Inbound;
@@ -11,30 +12,30 @@ use connection::Reply;
 use cursor::Cursor;
 
 // Whether the heard producer may replace P.
-fn producer_ok(n: u32, c: Record, p: Cursor) -> bool
-    ensures { λ r. ⌜ r ≡ producerB n c p ⌝ }
+fn producer_ok(n: u32, rec: Record, p: Cursor) -> bool
+    ensures { λ r. ⌜ r ≡ producerB n rec p ⌝ }
 {
-    let i = c.inbound;
-    let t = i.told;
+    let i = rec.inbound;
+    let t = i.told; // what the peer was told, not C
     let old = i.producer;
     let d = cursor::data_size(n);
     cursor::in_range(n, p)
         & (cursor::good(d, t, p)
             & ((cursor::gap(d, t, old) <= cursor::gap(d, t, p))
-                & (!(c.marks.heard.done | c.marks.heard.closed) | cursor::same(old, p))))
+                & (!(rec.marks.heard.done | rec.marks.heard.closed) | cursor::same(old, p))))
 }
 
 // Whether the heard consumer may replace R.
-fn consumer_ok(c: Record, a: Cursor) -> bool
-    ensures { λ r. ⌜ r ≡ consumerB c a ⌝ }
+fn consumer_ok(rec: Record, r: Cursor) -> bool
+    ensures { λ ok. ⌜ ok ≡ consumerB rec r ⌝ }
 {
-    let o = c.outbound;
-    let size = o.size;
+    let size = rec.remote.size;
+    let o = rec.outbound;
     let q = o.producer;
     let old = o.consumer;
     let e = cursor::data_size(size);
-    cursor::in_range(size, a)
-        & (cursor::good(e, a, q) & (cursor::gap(e, a, q) <= cursor::gap(e, old, q)))
+    cursor::in_range(size, r)
+        & (cursor::good(e, r, q) & (cursor::gap(e, r, q) <= cursor::gap(e, old, q)))
 }
 
 fn heard_in(i: Inbound, m: Message) -> Inbound
@@ -52,90 +53,92 @@ fn heard_in(i: Inbound, m: Message) -> Inbound
 fn heard_out(o: Outbound, m: Message) -> Outbound
     ensures { λ r. ⌜ r ≡ heardOut o m ⌝ }
 {
-    let a = m.consumer;
+    let r = m.consumer;
     let mut next = o;
-    next.consumer = a;
+    next.consumer = r;
     next
 }
 
 // The record with what the message says.
-fn heard(c: Record, m: Message) -> Record
-    ensures { λ r. ⌜ r ≡ heardRecord c m ⌝ }
+fn heard(rec: Record, m: Message) -> Record
+    ensures { λ r. ⌜ r ≡ heardRecord rec m ⌝ }
 {
-    let id = c.id;
-    let inbound = heard_in(c.inbound, m);
-    let outbound = heard_out(c.outbound, m);
-    let marks = closing::marks_heard(c.marks, m.flags.done, m.flags.closed);
-    Record {
-        id: id,
-        inbound: inbound,
-        outbound: outbound,
-        marks: marks,
-    }
+    let i = heard_in(rec.inbound, m);
+    let o = heard_out(rec.outbound, m);
+    let marks = closing::marks_heard(rec.marks, m.flags.done, m.flags.closed);
+    let mut next = rec;
+    next.inbound = i;
+    next.outbound = o;
+    next.marks = marks;
+    next
 }
 
 // Whether a message is made in answer: the R flag is on and T differs from C.
 fn answers(i: Inbound, m: Message) -> bool
     ensures { λ r. ⌜ r ≡ answersB i m ⌝ }
 {
-    let told = i.told;
+    let t = i.told;
     let c = i.consumer;
-    m.flags.request & !cursor::same(told, c)
+    m.flags.request & !cursor::same(t, c)
 }
 
 // A message with A: one abort message is made if we had not sent A, and the slot is closed.
-fn aborted(c: Record) -> Outcome
-    ensures { λ r. ⌜ r ≡ abortedOf c ⌝ }
+fn aborted(rec: Record) -> Outcome
+    ensures { λ r. ⌜ r ≡ abortedOf rec ⌝ }
 {
-    let tells = !c.marks.abort;
-    let marks = closing::abort_sent(c.marks);
-    let next = connection::marks_to(c, marks);
+    let tells = !rec.marks.abort;
+    let marks = closing::abort_sent(rec.marks);
+    let next = connection::marks_to(rec, marks);
     let o = connection::outcome_of(Reply::Heard(0, State::Closed), tells, next);
     connection::closed_if(true, o)
 }
 
 // A message whose cursors keep the rules.
-fn accepted(n: u32, c: Record, m: Message) -> Outcome
-    ensures { λ r. ⌜ r ≡ acceptedOf n c m ⌝ }
+fn accepted(n: u32, rec: Record, m: Message) -> Outcome
+    ensures { λ r. ⌜ r ≡ acceptedOf n rec m ⌝ }
 {
-    let old = c.inbound.producer;
+    let old = rec.inbound.producer;
     let p = m.producer;
     let d = cursor::data_size(n);
     let moved = cursor::gap(d, old, p);
-    let next = heard(c, m);
+    let next = heard(rec, m);
     let marks = next.marks;
     let state = closing::state_of(marks);
-    let tells = answers(c.inbound, m);
+    let tells = answers(rec.inbound, m);
     let o = connection::outcome_of(Reply::Heard(moved, state), tells, next);
     let shut = marks.heard.closed & marks.sent.closed;
     connection::closed_if(shut, o)
 }
 
 // A message without A.
-fn followed(n: u32, c: Record, m: Message) -> Outcome
-    ensures { λ r. ⌜ r ≡ followedOf n c m ⌝ }
+fn followed(n: u32, rec: Record, m: Message) -> Outcome
+    ensures { λ r. ⌜ r ≡ followedOf n rec m ⌝ }
 {
-    if c.marks.abort {
-        return connection::outcome_of(Reply::Heard(0, State::PeerAbortWait), false, c);
+    if rec.marks.abort {
+        return connection::outcome_of(Reply::Heard(0, State::PeerAbortWait), false, rec);
     }
     let p = m.producer;
-    let a = m.consumer;
-    let ok = producer_ok(n, c, p) & consumer_ok(c, a);
+    let r = m.consumer;
+    let ok = producer_ok(n, rec, p) & consumer_ok(rec, r);
     if ok {
-        accepted(n, c, m)
+        accepted(n, rec, m)
     } else {
-        connection::refused(8, c)
+        connection::refused(8, rec)
     }
 }
 
 // Hear of a message for this connection.
-pub fn hear(n: u32, active: bool, c: Record, m: Message) -> Outcome
-    ensures { λ r. ⌜ r ≡ hearOf n active c m ⌝ }
+pub fn hear(n: u32, active: bool, rec: Record, m: Message) -> Outcome
+    ensures { λ r. ⌜ r ≡ hearOf n active rec m ⌝ }
 {
-    let no = connection::refusal(n, active, c, false);
+    let no = connection::refusal(n, active, rec, false);
     if no != 0 {
-        return connection::refused(no, c);
+        return connection::refused(no, rec);
     }
     let abort = m.flags.abort;
-    if abort { aborted(c) } else { followed(n, c, m) }
+    if abort {
+        aborted(rec)
+    } else {
+        followed(n, rec, m)
+    }
 }

@@ -1,7 +1,11 @@
 // A line of the input: a call with its numbers, or one of the five lines that are no calls.
 ghost use Prim.Native.Nat.{_-_, _≤_};
+use calls::Request;
+use connection::Opening;
 use connection::Record;
+use connection::Remote;
 use group::Command;
+use management::Management;
 use records::read;
 use stream::input;
 use stream::input::Scan;
@@ -175,13 +179,14 @@ fn open_line(buf: &mut [u8; 65536], c: Scan) -> Parsed
     let peer = input::number(buf, own.scan, MOST);
     let link = input::number(buf, peer.scan, 255);
     let size = input::number(buf, link.scan, MOST);
-    let command = Command::Open(
-        slot.value,
-        own.value,
-        peer.value,
-        link.value as u8,
-        size.value,
-    );
+    let remote = Remote { size: size.value };
+    let given = Opening {
+        own: own.value,
+        peer: peer.value,
+        link: link.value as u8,
+        remote: remote,
+    };
+    let command = Command::Manage(Management::Open(slot.value, given));
     ended(buf, size.scan, Line::Call(command, 0, 0))
 }
 
@@ -190,7 +195,7 @@ fn link_line(buf: &mut [u8; 65536], c: Scan) -> Parsed
 {
     let link = input::number(buf, c, 255);
     let up = input::number(buf, link.scan, 1);
-    let command = Command::LinkChange(link.value as u8, up.value == 1);
+    let command = Command::Manage(Management::LinkChange(link.value as u8, up.value == 1));
     ended(buf, up.scan, Line::Call(command, 0, 0))
 }
 
@@ -199,7 +204,7 @@ fn linkmsg_line(buf: &mut [u8; 65536], given: &mut [u8], c: Scan) -> Parsed
 {
     let link = input::number(buf, c, 255);
     let b = input::bytes(buf, given, link.scan);
-    let command = Command::LinkMessage(link.value as u8);
+    let command = Command::Manage(Management::LinkMessage(link.value as u8));
     ended(buf, b.scan, Line::Call(command, b.count, 0))
 }
 
@@ -208,11 +213,8 @@ fn send_line(buf: &mut [u8; 65536], given: &mut [u8], c: Scan) -> Parsed
 {
     let slot = input::number(buf, c, MOST);
     let b = input::bytes(buf, given, slot.scan);
-    ended(
-        buf,
-        b.scan,
-        Line::Call(Command::Send(slot.value), b.count, 0),
-    )
+    let command = Command::On(slot.value, Request::Send);
+    ended(buf, b.scan, Line::Call(command, b.count, 0))
 }
 
 fn place_line(buf: &mut [u8; 65536], given: &mut [u8], c: Scan) -> Parsed
@@ -221,7 +223,7 @@ fn place_line(buf: &mut [u8; 65536], given: &mut [u8], c: Scan) -> Parsed
     let slot = input::number(buf, c, MOST);
     let offset = input::number(buf, slot.scan, MOST);
     let b = input::bytes(buf, given, offset.scan);
-    let command = Command::Place(slot.value, offset.value);
+    let command = Command::On(slot.value, Request::Place(offset.value));
     ended(buf, b.scan, Line::Call(command, b.count, 0))
 }
 
@@ -230,7 +232,7 @@ fn read_line(buf: &mut [u8; 65536], c: Scan) -> Parsed
 {
     let slot = input::number(buf, c, MOST);
     let room = input::number(buf, slot.scan, 65600);
-    let command = Command::Read(slot.value);
+    let command = Command::On(slot.value, Request::Read);
     ended(buf, room.scan, Line::Call(command, 0, room.value as usize))
 }
 
@@ -244,10 +246,10 @@ fn hear_line(buf: &mut [u8; 65536], given: &mut [u8], c: Scan) -> Parsed
 // The four calls that name a slot and nothing else.
 fn slot_command(verb: Verb, slot: u32) -> Command {
     match verb {
-        Verb::Shutdown => Command::Shutdown(slot),
-        Verb::Close => Command::Close(slot),
-        Verb::Abort => Command::Abort(slot),
-        _ => Command::Free(slot),
+        Verb::Shutdown => Command::On(slot, Request::Shutdown),
+        Verb::Close => Command::On(slot, Request::Close),
+        Verb::Abort => Command::On(slot, Request::Abort),
+        _ => Command::Manage(Management::Free(slot)),
     }
 }
 

@@ -15,7 +15,7 @@ use Rattle.cdc.specs.Cdc.{decodeOf}
 use Rattle.connection.specs.declared.Record.{Record}
 use Rattle.connection.specs.Connection.{zeroRecord, noMessage}
 use Rattle.table.specs.Table.{slotB, recordAt, openB, activeB, findFrom}
-use Rattle.table.specs.Rules.{Group, Request, Call, on, hear, manage, refusal, Answer, Turn, Done, does, answer, next, refuses, outOf, sizesOk, recordOf, elementIn, linkOf, putTurn, onDoes, hearDoes, hearMessage, hearAt, holderOf}
+use Rattle.rules.specs.Rules.{Group, Request, Call, on, hear, manage, refusal, Answer, Turn, Done, does, answer, next, refuses, outOf, sizesOk, recordOf, elementIn, linkOf, putTurn, onDoes, hearDoes, hearMessage, hearAt, holderOf}
 use Rattle.order.specs.Statement.{hearer, ActsOn, SameSlot, Agree, WhoSeesWhat}
 use Rattle.order.proofs.Records.{Left, turnBy, left-by, long-by}
 use Rattle.order.proofs.Slots.{no-slot, open-in, open-there, found-open, open-found, sizes-in, element-long, Put, put}

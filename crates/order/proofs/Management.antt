@@ -16,8 +16,10 @@ use Rattle.llc.specs.Llc.{receivedOf}
 use Rattle.element.specs.Element.{freshElement}
 use Rattle.element.proofs.Others.{fresh-length}
 use Rattle.connection.specs.Connection.{zeroRecord}
-use Rattle.table.specs.Table.{slotB, openB, activeB, findFrom, withLink}
-use Rattle.table.specs.Rules.{Group, manage, Management, openSlot, freeSlot, linkChange, linkMessage, Turn, next, plain, refuses, sizesOk, recordOf, elementIn, putTurn, openRefusal, openedRecord, openDoes, freeRefusal, freeDoes, linkIn, linkDoes, linkAnswer, linkMessageDoes}
+use Rattle.connection.specs.declared.Opening.{Opening}
+use Rattle.table.specs.Table.{slotB, openB, linkIn, activeB, findFrom, withLink}
+use Rattle.connection.specs.Connection.{openedRecord}
+use Rattle.rules.specs.Rules.{Group, manage, Management, openSlot, freeSlot, linkChange, linkMessage, Turn, next, plain, refuses, sizesOk, recordOf, elementIn, putTurn, plainTurn, badOpening, withLinks, openRefusal, openDoes, freeRefusal, freeDoes, linkDoes, linkAnswer, linkMessageDoes}
 use Rattle.order.proofs.Slots.{slot-in, open-in, open-is, open-found, element-long, Sizes, sizes-in, Put, put}
 use Rattle.order.proofs.Acts.{OpenAt, ownOf}
 use Rattle.order.proofs.Near.{Good}
@@ -76,44 +78,44 @@ past : (t : Bool) (x y : ℕ) → cond t (suc x) y ≡ 0 → (t ≡ false) × (y
 past true x y e = absurd (omega (arith, e))
 past false x y e = (refl, e)
 
-open-good : (g : Group) (k own peer link size : ℕ) → Good g → Good ((openDoes g k own peer link size) .group)
+open-good : (g : Group) (k : ℕ) (o : Opening) → Good g → Good ((openDoes g k o) .group)
 unfolding openDoes openRefusal refuses openedRecord
-open-good g k own peer link size good = go (eqb (openRefusal g k own peer link size) 0) refl
+open-good g k o good = go (eqb (openRefusal g k o) 0) refl
   where
-    by : (k : ℕ) → slotB (g .S) k ≡ true → findFrom (g .table) own (g .S) ≡ 0
-        → Good ((putTurn g k (record { answer = plain; after = openedRecord own peer link size; element = freshElement (g .N) })) .group)
+    by : (k : ℕ) → slotB (g .S) k ≡ true → findFrom (g .table) (o .own) (g .S) ≡ 0
+        → Good ((putTurn g k (plainTurn (openedRecord o) (freshElement (g .N)))) .group)
     by zero s f = absurd (omega (arith, slot-in (g .S) 0 s))
     by (suc i) s f =
-        good-put g i (record { answer = plain; after = openedRecord own peer link size; element = freshElement (g .N) }) good
+        good-put g i (plainTurn (openedRecord o) (freshElement (g .N))) good
         ((slot-in (g .S) (suc i) s) .1) (fresh-length (g .N) (omega (arith, (good-sizes g good) .least))) (inr f)
 
-    go : (t : Bool) → eqb (openRefusal g k own peer link size) 0 ≡ t
-        → Good ((cond t (putTurn g k (record { answer = plain; after = openedRecord own peer link size; element = freshElement (g .N) }))
-        (refuses g (openRefusal g k own peer link size) [])) .group)
+    go : (t : Bool) → eqb (openRefusal g k o) 0 ≡ t
+        → Good ((cond t (putTurn g k (plainTurn (openedRecord o) (freshElement (g .N))))
+        (refuses g (openRefusal g k o) [])) .group)
     go false e = good
     go true e =
-        let a = past (not (sizesOk g)) 0 _ (eqb-true (openRefusal g k own peer link size) 0 e) in
+        let a = past (not (sizesOk g)) 0 _ (eqb-true (openRefusal g k o) 0 e) in
         let b = past (not (slotB (g .S) k)) 1 _ (a .1) in
         let c = past (recordOf g k .id .opened) 9 _ (b .1) in
-        let d = past (eqb own 0 || (eqb peer 0 || (ltb size 8 || ltb 65540 size))) 11 _ (c .1) in
-        let x = past (not (linkIn link)) 12 _ (d .1) in
-        let y = past (not (activeB (g .links) link)) 5 _ (x .1) in
-        let z = past (ltb 0 (findFrom (g .table) own (g .S))) 10 _ (y .1) in
-        by k (not-false (slotB (g .S) k) (b .0)) (omega (arith, ltb-false 0 (findFrom (g .table) own (g .S)) (z .0)))
+        let d = past (badOpening o) 11 _ (c .1) in
+        let x = past (not (linkIn (o .link))) 12 _ (d .1) in
+        let y = past (not (activeB (g .links) (o .link))) 5 _ (x .1) in
+        let z = past (ltb 0 (findFrom (g .table) (o .own) (g .S))) 10 _ (y .1) in
+        by k (not-false (slotB (g .S) k) (b .0)) (omega (arith, ltb-false 0 (findFrom (g .table) (o .own) (g .S)) (z .0)))
 
 free-good : (g : Group) (k : ℕ) → Good g → Good ((freeDoes g k) .group)
 unfolding freeDoes freeRefusal refuses zeroRecord
 free-good g k good = go (eqb (freeRefusal g k) 0) refl
   where
-    by : (k : ℕ) → openB (g .S) (g .table) k ≡ true → Good ((putTurn g k (record { answer = plain; after = zeroRecord; element = elementIn g k })) .group)
+    by : (k : ℕ) → openB (g .S) (g .table) k ≡ true → Good ((putTurn g k (plainTurn zeroRecord (elementIn g k))) .group)
     by zero o = absurd (omega (arith, (open-in (g .S) (g .table) 0 o) .low))
     by (suc i) o =
         let l = (open-in (g .S) (g .table) (suc i) o) .high in
-        good-put g i (record { answer = plain; after = zeroRecord; element = elementIn g (suc i) }) good l
+        good-put g i (plainTurn zeroRecord (elementIn g (suc i))) good l
         (element-long (g .N) (g .S) (g .memory) ((good-sizes g good) .whole) i l) (inl refl)
 
     go : (t : Bool) → eqb (freeRefusal g k) 0 ≡ t
-        → Good ((cond t (putTurn g k (record { answer = plain; after = zeroRecord; element = elementIn g k })) (refuses g (freeRefusal g k) [])) .group)
+        → Good ((cond t (putTurn g k (plainTurn zeroRecord (elementIn g k))) (refuses g (freeRefusal g k) [])) .group)
     go false e = good
     go true e =
         let a = past (not (sizesOk g)) 0 _ (eqb-true (freeRefusal g k) 0 e) in
@@ -125,7 +127,7 @@ unfolding linkDoes refuses
 link-good g l up good = go (linkIn l)
   where
     with-link : Group
-    with-link = record { S = g .S; N = g .N; table = g .table; links = withLink (g .links) l up; memory = g .memory }
+    with-link = withLinks g (withLink (g .links) l up)
 
     go : (t : Bool) → Good ((cond t (record { answer = plain; group = with-link }) (refuses g 13 [])) .group)
     go true = record { sizes = good .sizes; enough = good .enough; apart = good .apart }
@@ -149,7 +151,7 @@ message-good g l b good = go (linkIn l) (activeB (g .links) l)
     go false u = good
 
 pub manage-good : (g : Group) (d : Management) → Good g → Good (next g (manage d))
-manage-good g (openSlot k own peer link size) good = open-good g k own peer link size good
+manage-good g (openSlot k o) good = open-good g k o good
 manage-good g (freeSlot k) good = free-good g k good
 manage-good g (linkChange l up) good = link-good g l up good
 manage-good g (linkMessage l b) good = message-good g l b good

@@ -14,7 +14,7 @@ use Rattle.connection.specs.declared.Record.{Record}
 use Rattle.connection.specs.Connection.{zeroRecord}
 use Rattle.element.specs.Element.{elementOf}
 use Rattle.table.specs.Table.{slotB, recordAt, openB, activeB}
-use Rattle.table.specs.Rules.{Group, Call, on, hear, manage, Done, answer, next, refuses, sizesOk, recordOf, elementIn, putTurn, Fresh}
+use Rattle.rules.specs.Rules.{Group, Call, on, hear, manage, Done, answer, next, refuses, sizesOk, recordOf, elementIn, putTurn, Fresh}
 use Rattle.order.specs.Statement.{the-manager, connection, nobody, connectionAt, ownerOf, SameSlot, Agree}
 use Rattle.order.proofs.Records.{Left}
 use Rattle.order.proofs.Slots.{no-slot, open-in, open-is, same-memory, sizes-in, Put}

@@ -10,7 +10,7 @@ use native.Mathlib.Omega.{arith}
 use lib.Dec.{eqb}
 use lib.ListN.{length, getD}
 use borrow.Author.Tests.{eq-eqb}
-use Rattle.table.specs.Rules.{Group, Call, on, hear, manage, freeSlot, Answer, answer, next}
+use Rattle.rules.specs.Rules.{Group, Call, on, hear, manage, freeSlot, Answer, answer, next}
 use Rattle.order.specs.Statement.{answers, leaves, At, Whose, the-manager, connection, nobody, ownerOf, beganBy, whoseFrom}
 use Rattle.order.proofs.Lists.{In, sift, in-sift, to-sift, upto}
 use Rattle.order.proofs.Scripts.{Script, last, cut, before, cutIf, script, flat, siftAll, spanOf, manageOf, restOf}

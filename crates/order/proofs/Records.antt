@@ -20,12 +20,12 @@ use Rattle.connection.specs.declared.Record.{Record}
 use Rattle.connection.specs.declared.Reply.{Reply}
 use Rattle.connection.specs.declared.Reply.the-variants.{Accepted}
 use Rattle.connection.specs.declared.Outcome.{Outcome}
-use Rattle.connection.specs.Connection.{zeroRecord, refusalOf, refusedOf, outcomeOf, toldOf, closedIf, marksTo}
+use Rattle.connection.specs.Connection.{effectOf, zeroRecord, refusalOf, refusedOf, outcomeOf, toldOf, closedIf, marksTo}
 use Rattle.transmit.specs.Transmit.{sendOf, sentOf, producedOf}
 use Rattle.receive.specs.Receive.{placeOf, mayPlace, placeForbids, readOf, takeOf, tornOf, consumedOf}
 use Rattle.hear.specs.Hear.{hearOf, abortedOf, followedOf, acceptedOf, heardRecord}
 use Rattle.finish.specs.Finish.{shutdownOf, closeOf, abortOf}
-use Rattle.table.specs.Rules.{Request, send, place, read, shutdown, close, abort, Call, on, hear, manage, Turn, turnOf, requestTurn, hearTurn, placedIn}
+use Rattle.rules.specs.Rules.{Request, send, place, read, shutdown, close, abort, Call, on, hear, manage, Turn, turnOf, requestTurn, hearTurn, placedIn}
 
 -- the record d is left of c
 abbrev pub Left : Record → Record → Type 0
@@ -96,7 +96,7 @@ and-both true b h = (refl, h)
 and-both false b h = absurd (false≢true h)
 
 module _ (n : ℕ) (a : Bool) (c : Record) (e : List ℕ) (long : length e ≡ n) where
-  place-length : (at : ℕ) (b : List ℕ) → length (placedIn ((placeOf n a c at (length b)) .reply) e at b) ≡ n
+  place-length : (at : ℕ) (b : List ℕ) → length (placedIn (effectOf ((placeOf n a c at (length b)) .reply)) e at b) ≡ n
   unfolding placeOf refusedOf outcomeOf mayPlace
   place-length at b = go (eqb (refusalOf n a c (placeForbids (c .marks))) 0) (mayPlace n (c .inbound) at (length b)) refl
     where
@@ -106,7 +106,7 @@ module _ (n : ℕ) (a : Bool) (c : Record) (e : List ℕ) (long : length e ≡ n
       inside (inr h) = inr (omega (arith, leb-true (at + length b) n ((and-both (leb 4 at) (leb (at + length b) n) ((and-both (inData n at (length b)) _ h) .0)) .1)))
 
       go : (t u : Bool) → mayPlace n (c .inbound) at (length b) ≡ u
-          → length (placedIn ((cond t (cond u (outcomeOf Accepted false c) (refusedOf 9 c)) (refusedOf (refusalOf n a c (placeForbids (c .marks))) c)) .reply) e at b) ≡ n
+          → length (placedIn (effectOf ((cond t (cond u (outcomeOf Accepted false c) (refusedOf 9 c)) (refusedOf (refusalOf n a c (placeForbids (c .marks))) c)) .reply)) e at b) ≡ n
       go true true h = splice-keeps e b at (inside (either (eqb (length b) 0) _ h)) ∙ long
       go true false h = long
       go false u h = long

@@ -17,7 +17,7 @@ use Rattle.element.proofs.Others.{splice-length, part-same, part-before, part-a
 use Rattle.connection.specs.declared.Record.{Record}
 use Rattle.connection.specs.Connection.{zeroRecord}
 use Rattle.table.specs.Table.{sizesB, slotB, recordAt, openB, holdsB, orLater, lowest, findFrom, withRecord}
-use Rattle.table.specs.Rules.{Group, Turn, recordOf, elementIn, putTurn}
+use Rattle.rules.specs.Rules.{Group, Turn, recordOf, elementIn, putTurn}
 use Rattle.order.proofs.Records.{and-both}
 
 -- THE TABLE. Slot k is one of 1 to S

@@ -8,7 +8,7 @@ use Prim.Native.Nat.{ℕ}
 use native.Mathlib.Omega.{arith}
 use lib.Dec.{eqb}
 use borrow.Author.Tests.{eqb-true, eqb-false}
-use Rattle.table.specs.Rules.{Group, Call, Answer, answer, next}
+use Rattle.rules.specs.Rules.{Group, Call, Answer, answer, next}
 use Rattle.order.specs.Statement.{Whose, the-manager, connection, nobody, ownerOf}
 use Rattle.order.proofs.Lists.{In, sift, keep}
 use Rattle.order.proofs.Acts.{Conn, refusalBy}

@@ -10,7 +10,7 @@ use native.Mathlib.Omega.{arith}
 use lib.Dec.{eqb}
 use lib.ListN.{length, getD, getElem?}
 use borrow.Author.Tests.{eqb-true}
-use Rattle.table.specs.Rules.{Group, Call, Answer, next, Fresh}
+use Rattle.rules.specs.Rules.{Group, Call, Answer, next, Fresh}
 use Rattle.order.specs.Statement.{answers, leaves, At, Whose, the-manager, connection, nobody, ownerOf, beganBy, whoseFrom, whose, AnotherOrder, Made, none-made, one-made, Sentence3, NobodysCall, WhoSeesWhat}
 use Rattle.order.proofs.Lists.{In, sift, in-sift, to-sift, Sorted, sorted-sift, sorted-by, sorted-map, sorted-unique, in-map, to-map, upto, in-upto, to-upto, sorted-upto, at-map, at-upto, at-getD, in-range, same-list, length-map′, by-number, length-upto}
 use Rattle.order.proofs.Scripts.{script, flat-script, siftAll, script-sift}

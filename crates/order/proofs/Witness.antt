@@ -1,38 +1,47 @@
 -- The premises of sentence 3 can be met: there is a fresh group, and two neighbouring connection calls that do not belong to one connection
--- may change places in any list. Assumes nothing.
+-- may change places in any list; and of two opened connections whose sends change places, sentence 3 says what it says. Assumes nothing.
 use mathlib.Core.Path.{_≡_, refl, sym, ap, _∙_}
 use mathlib.Core.Logic.{_⊎_, inl, inr, _≢_}
-use mathlib.Core.Bool.{false, and-false}
+use mathlib.Core.Bool.{true, false, and-false}
 use mathlib.Core.Option.{Option·some-injective}
-use mathlib.Core.List.{List, [], _∷_, _++_}
+use mathlib.Core.List.{List, [], _∷_, _++_, map}
 use Prim.Native.Nat.{ℕ, zero, suc, _<_, suc-le-suc}
 use native.Mathlib.Nat.{le-of-suc-le-suc, not-suc-le-zero}
 use native.Mathlib.Omega.{arith}
 use lib.ListN.{length, getElem?, replicate, length-append}
-use Rattle.connection.specs.Connection.{zeroRecord}
-use Rattle.table.specs.Table.{sizesB, slotB, recordAt, openB, activeB}
-use Rattle.table.specs.Rules.{Group, Call, Fresh}
-use Rattle.order.specs.Statement.{At, Whose, the-manager, connection, whose, AnotherOrder}
+use Rattle.cursor.specs.Cursor.{inRange, movedOf, stepOf, turnsOf, distanceOf, goodB, gapOf}
+use Rattle.cdc.specs.Cdc.{highByte, lowByte, encodeOf}
+use Rattle.flow.specs.Flow.{roomOf, takenOf, firstOf, placingsOf}
+use Rattle.element.specs.Element.{part, elementOf, splice, freshElement}
+use Rattle.connection.specs.Connection.{zeroRecord, numbersOk, offsetsOk, distancesOk, coherentB, refusalOf, messageOf, toldIn, usedIn, toldOf, outcomeOf, refusedOf}
+use Rattle.transmit.specs.Transmit.{sendForbids, nOf, producedOut, producedOf, tellsOf, sentOf, sendOf}
+use Rattle.table.specs.Table.{sizesB, slotB, recordAt, openB, activeB, holdsB, lowest, findFrom, withRecord, withLink}
+use Rattle.connection.specs.declared.Opening.{Opening}
+use Rattle.connection.specs.Connection.{openedRecord}
+use Rattle.rules.specs.Rules.{Group, send, openSlot, linkChange, Call, on, manage, Says, accepted, sent, Answer, turnOf, requestTurn, refuses, putTurn, onDoes, openRefusal, openDoes, linkDoes, next, Fresh}
+use Rattle.order.specs.Statement.{answers, leaves, At, Whose, the-manager, connection, ownerOf, whoseFrom, whose, AnotherOrder, Made, none-made, one-made, SameOutcome}
+use Rattle.order.proofs.Theorem.{sentence3}
 
--- one slot, an element of 8 bytes
+-- two slots, elements of 8 bytes
 abbrev pub aGroup : Group
 aGroup =
     record {
-      S = 1;
+      S = 2;
       N = 8;
-      table = zeroRecord ∷ [];
+      table = zeroRecord ∷ zeroRecord ∷ [];
       links = false ∷ false ∷ false ∷ false ∷ [];
-      memory = replicate 8 0;
+      memory = replicate 16 0;
     }
 
 pub a-fresh-group : Fresh aGroup
 unfolding sizesB slotB recordAt openB activeB zeroRecord
 a-fresh-group = record { sizes = refl; enough = omega arith; closed = shut; down = off; zeros = refl }
   where
-    shut : (k : ℕ) → openB 1 (zeroRecord ∷ []) k ≡ false
+    shut : (k : ℕ) → openB 2 (zeroRecord ∷ zeroRecord ∷ []) k ≡ false
     shut zero = refl
     shut (suc zero) = refl
-    shut (suc (suc k)) = and-false (slotB 1 (suc (suc k)))
+    shut (suc (suc zero)) = refl
+    shut (suc (suc (suc k))) = and-false (slotB 2 (suc (suc (suc k))))
 
     off : (l : ℕ) → activeB (false ∷ false ∷ false ∷ false ∷ []) l ≡ false
     off zero = refl
@@ -124,3 +133,61 @@ neighbours g xs c d ys v w ev ew dv dw apart =
     manages : (i j : ℕ) → At owners i the-manager ⊎ At owners j the-manager → (i ≡ n) → (j ≡ suc n) → ⊥
     manages i j (inl e) p q = dv (at-one owners n i ev e p)
     manages i j (inr e) p q = dw (at-one owners (suc n) j ew e q)
+
+-- CALLS MADE BY THE RULES: whatever calls, from whatever group
+pub made-by-rules : (cs : List Call) (g : Group) → Made g cs (answers g cs) (leaves g cs)
+unfolding answers leaves
+made-by-rules [] g = none-made
+made-by-rules (c ∷ cs) g = one-made (record { answered = refl; left = refl }) (made-by-rules cs (next g c))
+
+-- TWO CONNECTIONS. A link is brought up, both slots are opened, the first connection sends two bytes and the second three
+abbrev given : ℕ → ℕ → Opening
+given own peer = record { own = own; peer = peer; link = 1; remote = record { size = 8 } }
+
+abbrev opening : List Call
+opening = manage (linkChange 1 true) ∷ manage (openSlot 1 (given 11 21)) ∷ manage (openSlot 2 (given 12 22)) ∷ []
+
+abbrev one : Call
+one = on 1 (send (5 ∷ 6 ∷ []))
+
+abbrev two : Call
+two = on 2 (send (7 ∷ 8 ∷ 9 ∷ []))
+
+abbrev pub firstly : List Call
+firstly = opening ++ one ∷ two ∷ []
+
+-- in the other order the sends change places
+abbrev pub secondly : List Call
+secondly = opening ++ two ∷ one ∷ []
+
+-- whose each call is, by the groups as the spans begin
+pub owners-are : whose aGroup firstly ≡ the-manager ∷ the-manager ∷ the-manager ∷ connection 1 ∷ connection 2 ∷ []
+unfolding whoseFrom ownerOf inRange movedOf stepOf turnsOf distanceOf goodB gapOf highByte lowByte encodeOf roomOf takenOf firstOf placingsOf part elementOf splice freshElement zeroRecord numbersOk offsetsOk distancesOk coherentB refusalOf messageOf toldIn usedIn toldOf outcomeOf refusedOf sendForbids nOf producedOut producedOf tellsOf sentOf sendOf sizesB slotB recordAt openB activeB holdsB lowest findFrom withRecord withLink turnOf requestTurn refuses putTurn onDoes openedRecord openRefusal openDoes linkDoes
+owners-are = refl
+
+pub sends-swapped : AnotherOrder aGroup firstly secondly
+sends-swapped =
+    neighbours aGroup opening one two [] (connection 1) (connection 2) (ap (λ l. getElem? l 3) owners-are) (ap (λ l. getElem? l 4) owners-are)
+    (λ e. let y : _≡_ {A = ℕ} 0 1 = cc in omega arith)
+    (λ e. let y : _≡_ {A = ℕ} 0 1 = cc in omega arith)
+    (λ k e f. let y : _≡_ {A = ℕ} 1 2 = cc in omega arith)
+
+-- what is said in each order: every call is accepted, and each send takes its own bytes
+abbrev sends : ℕ → Says
+sends n = sent n (record { offset = 4; start = 0; len = n } ∷ [])
+
+pub said-first : map (λ (a : Answer). a .says) (answers aGroup firstly) ≡ accepted ∷ accepted ∷ accepted ∷ sends 2 ∷ sends 3 ∷ []
+unfolding answers inRange movedOf stepOf turnsOf distanceOf goodB gapOf highByte lowByte encodeOf roomOf takenOf firstOf placingsOf part elementOf splice freshElement zeroRecord numbersOk offsetsOk distancesOk coherentB refusalOf messageOf toldIn usedIn toldOf outcomeOf refusedOf sendForbids nOf producedOut producedOf tellsOf sentOf sendOf sizesB slotB recordAt openB activeB holdsB lowest findFrom withRecord withLink turnOf requestTurn refuses putTurn onDoes openedRecord openRefusal openDoes linkDoes
+said-first = refl
+
+pub said-second : map (λ (a : Answer). a .says) (answers aGroup secondly) ≡ accepted ∷ accepted ∷ accepted ∷ sends 3 ∷ sends 2 ∷ []
+unfolding answers inRange movedOf stepOf turnsOf distanceOf goodB gapOf highByte lowByte encodeOf roomOf takenOf firstOf placingsOf part elementOf splice freshElement zeroRecord numbersOk offsetsOk distancesOk coherentB refusalOf messageOf toldIn usedIn toldOf outcomeOf refusedOf sendForbids nOf producedOut producedOf tellsOf sentOf sendOf sizesB slotB recordAt openB activeB holdsB lowest findFrom withRecord withLink turnOf requestTurn refuses putTurn onDoes openedRecord openRefusal openDoes linkDoes
+said-second = refl
+
+-- sentence 3, of these two lists
+pub swapped-same :
+    SameOutcome aGroup firstly secondly (sends-swapped .numbers .place) (answers aGroup firstly) (answers aGroup secondly)
+    (leaves aGroup firstly) (leaves aGroup secondly)
+swapped-same =
+    sentence3 aGroup a-fresh-group firstly secondly sends-swapped (answers aGroup firstly) (answers aGroup secondly) (leaves aGroup firstly)
+    (leaves aGroup secondly) (made-by-rules firstly aGroup) (made-by-rules secondly aGroup)

@@ -11,7 +11,7 @@ use Rattle.cdc.specs.declared.Decoded.{Decoded}
 use Rattle.cdc.specs.declared.Decoded.the-variants.{Good, Malformed}
 use Rattle.cdc.specs.Cdc.{decodeOf}
 use Rattle.table.specs.Table.{slotB, openB}
-use Rattle.table.specs.Rules.{Group, Call, on, hear, manage, Answer, answer, next, recordOf, elementIn, linkOf, holderOf, Did, Fresh}
+use Rattle.rules.specs.Rules.{Group, Call, on, hear, manage, Answer, answer, next, recordOf, elementIn, linkOf, holderOf, Did, Fresh}
 
 -- A LIST OF CALLS, each made on the group as the last one left it: what the rules answer, and the group at the end. A call holds all bytes
 -- lent to it, so a call that stands in two lists is lent the same bytes in both.

@@ -71,19 +71,19 @@ unfolding unreadOf
 unread-is n i d g hd hg = simp (hg, hd)
 
 -- and of a record that is not refused it is at most D
-pub unread-most : (n : ℕ) (active : Bool) (c : Record) (forbids : Bool) → refusalOf n active c forbids ≡ 0
-    → unreadOf n (c .inbound) ≤ n - 4
+pub unread-most : (n : ℕ) (active : Bool) (rec : Record) (forbids : Bool) → refusalOf n active rec forbids ≡ 0
+    → unreadOf n (rec .inbound) ≤ n - 4
 unfolding unreadOf
-unread-most n active c forbids e =
-    good-most (n - 4) (c .inbound .consumer) (c .inbound .producer)
-    (coherent-facts n c (refusal-none n active c forbids e .0) .cp-good)
+unread-most n active rec forbids e =
+    good-most (n - 4) (rec .inbound .consumer) (rec .inbound .producer)
+    (coherent-facts n rec (refusal-none n active rec forbids e .0) .cp-good)
 
 -- an accepted read of an intact element, put together
-pub take-parts : (n : ℕ) (c : Record) (room u k : ℕ) (next : Record) (tells : Bool) (o : Outcome) → u ≡ unreadOf n (c .inbound)
-    → k ≡ takenOf u room → next ≡ consumedOf n c k → tells ≡ updateOf n (next .inbound) k → o ≡ outcomeOf (Read k) tells next
-    → o ≡ takeOf n c room
+pub take-parts : (n : ℕ) (rec : Record) (room u k : ℕ) (next : Record) (tells : Bool) (o : Outcome) → u ≡ unreadOf n (rec .inbound)
+    → k ≡ takenOf u room → next ≡ consumedOf n rec k → tells ≡ updateOf n (next .inbound) k → o ≡ outcomeOf (Read k) tells next
+    → o ≡ takeOf n rec room
 unfolding takeOf
-take-parts n c room u k next tells o hu hk hx ht ho = simp (ho, ht, hx, hk, hu)
+take-parts n rec room u k next tells o hu hk hx ht ho = simp (ho, ht, hx, hk, hu)
 
 -- what holds of both outcomes of a test holds of the one it picks
 pick : (P : Outcome → Type 0) (b : Bool) (x y : Outcome) → (b ≡ true → P x) → (b ≡ false → P y) → P (cond b x y)
@@ -91,51 +91,51 @@ pick P true x y f g = f refl
 pick P false x y f g = g refl
 
 -- the tests of place, walked once
-module _ (n : ℕ) (active : Bool) (c : Record) (at k : ℕ) where
-  pub place-cases : (P : Outcome → Type 0) → ((j : ℕ) → P (refusedOf j c))
-      → (mayPlace n (c .inbound) at k ≡ true → P (outcomeOf Accepted false c)) → P (placeOf n active c at k)
+module _ (n : ℕ) (active : Bool) (rec : Record) (at k : ℕ) where
+  pub place-cases : (P : Outcome → Type 0) → ((j : ℕ) → P (refusedOf j rec))
+      → (mayPlace n (rec .inbound) at k ≡ true → P (outcomeOf Accepted false rec)) → P (placeOf n active rec at k)
   unfolding placeOf
   place-cases P refused accepted =
-      let no = refusalOf n active c (placeForbids (c .marks)) in
-      pick P (eqb no 0) _ _ (λ e. pick P (mayPlace n (c .inbound) at k) _ _ accepted (λ m. refused 9)) (λ e. refused no)
+      let no = refusalOf n active rec (placeForbids (rec .marks)) in
+      pick P (eqb no 0) _ _ (λ e. pick P (mayPlace n (rec .inbound) at k) _ _ accepted (λ m. refused 9)) (λ e. refused no)
 
   -- place leaves the record as it is
-  pub place-keeps : placeOf n active c at k .after ≡ c
-  place-keeps = place-cases (λ o. o .after ≡ c) (λ j. refused-after j c) (λ m. outcome-after Accepted false c)
+  pub place-keeps : placeOf n active rec at k .after ≡ rec
+  place-keeps = place-cases (λ o. o .after ≡ rec) (λ j. refused-after j rec) (λ m. outcome-after Accepted false rec)
 
-  pub place-keeps-id : placeOf n active c at k .after .id ≡ c .id
+  pub place-keeps-id : placeOf n active rec at k .after .id ≡ rec .id
   place-keeps-id = ap (λ (w : Record). w .id) place-keeps
 
-  pub place-coherent : coherentB n c ≡ true → coherentB n (placeOf n active c at k .after) ≡ true
+  pub place-coherent : coherentB n rec ≡ true → coherentB n (placeOf n active rec at k .after) ≡ true
   place-coherent e = rw place-keeps e
 
   -- where it accepts, it may place
-  pub place-accepted : placeOf n active c at k .reply ≡ Accepted → Placeable n (c .inbound) at k
+  pub place-accepted : placeOf n active rec at k .reply ≡ Accepted → Placeable n (rec .inbound) at k
   place-accepted =
-      place-cases (λ o. o .reply ≡ Accepted → Placeable n (c .inbound) at k)
-      (λ j r. let bad : _≡_ {A = ℕ} 0 1 = cc (refused-reply j c) in absurd (omega arith))
-      (λ m r. may-all n (c .inbound) at k m)
+      place-cases (λ o. o .reply ≡ Accepted → Placeable n (rec .inbound) at k)
+      (λ j r. let bad : _≡_ {A = ℕ} 0 1 = cc (refused-reply j rec) in absurd (omega arith))
+      (λ m r. may-all n (rec .inbound) at k m)
 
 -- the distance C to P
 abbrev pub gapCP : ℕ → Record → ℕ
-gapCP n c = gapOf (n - 4) (c .inbound .consumer) (c .inbound .producer)
+gapCP n rec = gapOf (n - 4) (rec .inbound .consumer) (rec .inbound .producer)
 
 -- C moved by k, at most the distance C to P
-module _ (n : ℕ) (c : Record) (k : ℕ) (f : Coherent n c) (h : k ≤ gapCP n c) where
+module _ (n : ℕ) (rec : Record) (k : ℕ) (f : Coherent n rec) (h : k ≤ gapCP n rec) where
   consumed-tc :
-      (goodB (n - 4) (c .inbound .told) (stepOf n (c .inbound .consumer) k) ≡ true)
-      × (gapOf (n - 4) (c .inbound .told) (stepOf n (c .inbound .consumer) k)
-      ≡ gapOf (n - 4) (c .inbound .told) (c .inbound .consumer) + k)
+      (goodB (n - 4) (rec .inbound .told) (stepOf n (rec .inbound .consumer) k) ≡ true)
+      × (gapOf (n - 4) (rec .inbound .told) (stepOf n (rec .inbound .consumer) k)
+      ≡ gapOf (n - 4) (rec .inbound .told) (rec .inbound .consumer) + k)
   consumed-tc =
-      let i = c .inbound in
+      let i = rec .inbound in
       let sum = f .sum in
       step-gap n (i .told) (i .consumer) k (f .t-range) (f .c-range) (f .tc-good) (omega arith)
 
   consumed-cp :
-      (goodB (n - 4) (stepOf n (c .inbound .consumer) k) (c .inbound .producer) ≡ true)
-      × (gapOf (n - 4) (stepOf n (c .inbound .consumer) k) (c .inbound .producer) + k ≡ gapCP n c)
+      (goodB (n - 4) (stepOf n (rec .inbound .consumer) k) (rec .inbound .producer) ≡ true)
+      × (gapOf (n - 4) (stepOf n (rec .inbound .consumer) k) (rec .inbound .producer) + k ≡ gapCP n rec)
   consumed-cp =
-      let i = c .inbound in
+      let i = rec .inbound in
       let most = good-most (n - 4) (i .consumer) (i .producer) (f .cp-good) in
       let self = gap-self (n - 4) (i .consumer) in
       let moved = step-gap n (i .consumer) (i .consumer) k (f .c-range) (f .c-range) (self .0) (omega arith) in
@@ -144,116 +144,116 @@ module _ (n : ℕ) (c : Record) (k : ℕ) (f : Coherent n c) (h : k ≤ gapCP n 
       (step-range n (i .consumer) k (f .c-range)) (f .p-range) (moved .0) (f .cp-good) (omega arith) in
       (rest .0, omega arith)
 
-  consumed-facts : Coherent n (consumedOf n c k)
+  consumed-facts : Coherent n (consumedOf n rec k)
   unfolding consumedOf consumedIn
   consumed-facts =
       let tc = consumed-tc in
       let cp = consumed-cp in
-      let r = step-range n (c .inbound .consumer) k (f .c-range) in
+      let r = step-range n (rec .inbound .consumer) k (f .c-range) in
       search needs
 
 -- how many bytes a read takes
 abbrev taking : ℕ → Record → ℕ → ℕ
-taking n c room = takenOf (unreadOf n (c .inbound)) room
+taking n rec room = takenOf (unreadOf n (rec .inbound)) room
 
-module _ (n : ℕ) (c : Record) (room : ℕ) where
-  taking-most : (taking n c room ≤ gapCP n c) × (taking n c room ≤ room)
+module _ (n : ℕ) (rec : Record) (room : ℕ) where
+  taking-most : (taking n rec room ≤ gapCP n rec) × (taking n rec room ≤ room)
   unfolding unreadOf
-  taking-most = (taken-most (gapCP n c) room, taken-len (gapCP n c) room)
+  taking-most = (taken-most (gapCP n rec) room, taken-len (gapCP n rec) room)
 
   abbrev left : Record
-  left = consumedOf n c (taking n c room)
+  left = consumedOf n rec (taking n rec room)
 
   abbrev tells : Bool
-  tells = updateOf n (left .inbound) (taking n c room)
+  tells = updateOf n (left .inbound) (taking n rec room)
 
-  take-is : takeOf n c room ≡ outcomeOf (Read (taking n c room)) tells left
+  take-is : takeOf n rec room ≡ outcomeOf (Read (taking n rec room)) tells left
   unfolding takeOf
   take-is = refl
 
-  take-reply : takeOf n c room .reply ≡ Read (taking n c room)
-  take-reply = ap (λ (o : Outcome). o .reply) take-is ∙ outcome-reply (Read (taking n c room)) tells left
+  take-reply : takeOf n rec room .reply ≡ Read (taking n rec room)
+  take-reply = ap (λ (o : Outcome). o .reply) take-is ∙ outcome-reply (Read (taking n rec room)) tells left
 
-  take-id : takeOf n c room .after .id ≡ c .id
+  take-id : takeOf n rec room .after .id ≡ rec .id
   unfolding consumedOf
-  take-id = ap (λ (o : Outcome). o .after .id) take-is ∙ outcome-id (Read (taking n c room)) tells left
+  take-id = ap (λ (o : Outcome). o .after .id) take-is ∙ outcome-id (Read (taking n rec room)) tells left
 
-  take-coherent : coherentB n c ≡ true → coherentB n (takeOf n c room .after) ≡ true
+  take-coherent : coherentB n rec ≡ true → coherentB n (takeOf n rec room .after) ≡ true
   take-coherent e =
-      let kept = coherent-from n left (consumed-facts n c (taking n c room) (coherent-facts n c e) (taking-most .0)) in
-      rw take-is (outcome-coherent n left (Read (taking n c room)) tells kept)
+      let kept = coherent-from n left (consumed-facts n rec (taking n rec room) (coherent-facts n rec e) (taking-most .0)) in
+      rw take-is (outcome-coherent n left (Read (taking n rec room)) tells kept)
 
-  take-gap : Coherent n c → gapCP n (takeOf n c room .after) + taking n c room ≡ gapCP n c
+  take-gap : Coherent n rec → gapCP n (takeOf n rec room .after) + taking n rec room ≡ gapCP n rec
   unfolding consumedOf consumedIn
   take-gap f =
-      let answer = Read (taking n c room) in
+      let answer = Read (taking n rec room) in
       let same : gapCP n (outcomeOf answer tells left .after) ≡ gapCP n left = simp (outcome-c answer tells left, outcome-p answer tells left) in
-      let to = consumed-cp n c (taking n c room) f (taking-most .0) .1 in
+      let to = consumed-cp n rec (taking n rec room) f (taking-most .0) .1 in
       omega (arith, ap (λ (o : Outcome). gapCP n (o .after)) take-is)
 
 -- a damaged element
-module _ (c : Record) where
-  torn-reply : tornOf c .reply ≡ Torn
+module _ (rec : Record) where
+  torn-reply : tornOf rec .reply ≡ Torn
   unfolding tornOf
-  torn-reply = outcome-reply Torn true (marksTo c (abortSent (c .marks)))
+  torn-reply = outcome-reply Torn true (marksTo rec (abortSent (rec .marks)))
 
-  torn-id : tornOf c .after .id ≡ c .id
+  torn-id : tornOf rec .after .id ≡ rec .id
   unfolding tornOf marksTo
-  torn-id = outcome-id Torn true (marksTo c (abortSent (c .marks)))
+  torn-id = outcome-id Torn true (marksTo rec (abortSent (rec .marks)))
 
-  torn-coherent : (n : ℕ) → coherentB n c ≡ true → coherentB n (tornOf c .after) ≡ true
+  torn-coherent : (n : ℕ) → coherentB n rec ≡ true → coherentB n (tornOf rec .after) ≡ true
   unfolding tornOf abortSent
   torn-coherent n e =
-      let m = abortSent (c .marks) in
-      outcome-coherent n (marksTo c m) Torn true (marks-coherent n c m e (coherent-facts n c e .not-both))
+      let m = abortSent (rec .marks) in
+      outcome-coherent n (marksTo rec m) Torn true (marks-coherent n rec m e (coherent-facts n rec e .not-both))
 
-module _ (n : ℕ) (active : Bool) (c : Record) (intact : Bool) (room : ℕ) where
+module _ (n : ℕ) (active : Bool) (rec : Record) (intact : Bool) (room : ℕ) where
   -- the tests of read, walked once
-  pub read-cases : (P : Outcome → Type 0) → ((j : ℕ) → P (refusedOf j c)) → (intact ≡ false → P (tornOf c))
-      → (coherentB n c ≡ true → P (takeOf n c room)) → P (readOf n active c intact room)
+  pub read-cases : (P : Outcome → Type 0) → ((j : ℕ) → P (refusedOf j rec)) → (intact ≡ false → P (tornOf rec))
+      → (coherentB n rec ≡ true → P (takeOf n rec room)) → P (readOf n active rec intact room)
   unfolding readOf
   read-cases P refused torn taken =
-      let no = refusalOf n active c (readForbids (c .marks)) in
+      let no = refusalOf n active rec (readForbids (rec .marks)) in
       pick P (eqb no 0) _ _
-      (λ e. pick P intact _ _ (λ i. taken (refusal-none n active c (readForbids (c .marks)) (eqb-true no 0 e) .0)) torn)
+      (λ e. pick P intact _ _ (λ i. taken (refusal-none n active rec (readForbids (rec .marks)) (eqb-true no 0 e) .0)) torn)
       (λ e. refused no)
 
   -- read leaves the record coherent
-  pub read-coherent : coherentB n c ≡ true → coherentB n (readOf n active c intact room .after) ≡ true
+  pub read-coherent : coherentB n rec ≡ true → coherentB n (readOf n active rec intact room .after) ≡ true
   read-coherent e =
       read-cases (λ o. coherentB n (o .after) ≡ true)
-      (λ j. rw (refused-after j c) e)
-      (λ i. torn-coherent c n e)
-      (take-coherent n c room)
+      (λ j. rw (refused-after j rec) e)
+      (λ i. torn-coherent rec n e)
+      (take-coherent n rec room)
 
   -- and keeps its identity
-  pub read-keeps-id : readOf n active c intact room .after .id ≡ c .id
+  pub read-keeps-id : readOf n active rec intact room .after .id ≡ rec .id
   read-keeps-id =
-      read-cases (λ o. o .after .id ≡ c .id)
-      (λ j. ap (λ (w : Record). w .id) (refused-after j c))
-      (λ i. torn-id c)
-      (λ e. take-id n c room)
+      read-cases (λ o. o .after .id ≡ rec .id)
+      (λ j. ap (λ (w : Record). w .id) (refused-after j rec))
+      (λ i. torn-id rec)
+      (λ e. take-id n rec room)
 
   -- whatever k a read names: it is at most what is unread and at most the room in out, and the distance C to P is k less
-  module _ (k : ℕ) (e : readOf n active c intact room .reply ≡ Read k) where
-    not-refused : {A : Type 0} (j : ℕ) → refusedOf j c .reply ≡ Read k → A
-    not-refused j r = let bad : _≡_ {A = ℕ} 0 1 = cc (refused-reply j c) in absurd (omega arith)
+  module _ (k : ℕ) (e : readOf n active rec intact room .reply ≡ Read k) where
+    not-refused : {A : Type 0} (j : ℕ) → refusedOf j rec .reply ≡ Read k → A
+    not-refused j r = let bad : _≡_ {A = ℕ} 0 1 = cc (refused-reply j rec) in absurd (omega arith)
 
-    not-torn : {A : Type 0} → intact ≡ false → tornOf c .reply ≡ Read k → A
-    not-torn i r = let bad : _≡_ {A = ℕ} 0 1 = cc (torn-reply c) in absurd (omega arith)
+    not-torn : {A : Type 0} → intact ≡ false → tornOf rec .reply ≡ Read k → A
+    not-torn i r = let bad : _≡_ {A = ℕ} 0 1 = cc (torn-reply rec) in absurd (omega arith)
 
-    taking-is : takeOf n c room .reply ≡ Read k → taking n c room ≡ k
-    taking-is r = let s : Read (taking n c room) ≡ Read k = sym (take-reply n c room) ∙ r in cc
+    taking-is : takeOf n rec room .reply ≡ Read k → taking n rec room ≡ k
+    taking-is r = let s : Read (taking n rec room) ≡ Read k = sym (take-reply n rec room) ∙ r in cc
 
-    pub read-most : (k ≤ unreadOf n (c .inbound)) × (k ≤ room)
+    pub read-most : (k ≤ unreadOf n (rec .inbound)) × (k ≤ room)
     unfolding unreadOf
     read-most =
-        read-cases (λ o. o .reply ≡ Read k → (k ≤ gapCP n c) × (k ≤ room)) not-refused not-torn
-        (λ g r. rw (← (taking-is r)) (taking-most n c room))
+        read-cases (λ o. o .reply ≡ Read k → (k ≤ gapCP n rec) × (k ≤ room)) not-refused not-torn
+        (λ g r. rw (← (taking-is r)) (taking-most n rec room))
         e
 
-    pub read-less : gapCP n (readOf n active c intact room .after) + k ≡ gapCP n c
+    pub read-less : gapCP n (readOf n active rec intact room .after) + k ≡ gapCP n rec
     read-less =
-        read-cases (λ o. o .reply ≡ Read k → gapCP n (o .after) + k ≡ gapCP n c) (λ j r. not-refused j r) not-torn
-        (λ g r. rw (← (taking-is r)) (take-gap n c room (coherent-facts n c g)))
+        read-cases (λ o. o .reply ≡ Read k → gapCP n (o .after) + k ≡ gapCP n rec) (λ j r. not-refused j r) not-torn
+        (λ g r. rw (← (taking-is r)) (take-gap n rec room (coherent-facts n rec g)))
         e

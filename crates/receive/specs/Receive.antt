@@ -12,7 +12,7 @@ use Rattle.connection.specs.declared.Inbound.{Inbound}
 use Rattle.connection.specs.declared.Record.{Record}
 use Rattle.connection.specs.declared.Reply.the-variants.{Accepted, Read, Torn}
 use Rattle.connection.specs.declared.Outcome.{Outcome}
-use Rattle.connection.specs.Connection.{refusalOf, refusedOf, outcomeOf, marksTo}
+use Rattle.connection.specs.Connection.{cTo, inboundTo, marksTo, refusalOf, refusedOf, outcomeOf}
 
 -- 7: place after A sent or D or C heard
 unfoldable pub placeForbids : Marks → Bool
@@ -21,13 +21,15 @@ placeForbids m = m .abort || (m .heard .done || m .heard .closed)
 -- all bytes must lie in 4 to N-1 and be free: the peer was told T, and its window is measured from there. No bytes: accepted at any offset
 unfoldable pub mayPlace : ℕ → Inbound → ℕ → ℕ → Bool
 mayPlace N i at k =
-    eqb k 0 || (inData N at k && allFree (dataOf N) (i .producer .offset) (windowOf N (i .told) (i .producer)) at k)
+    let p = i .producer in
+    let t = i .told in
+    eqb k 0 || (inData N at k && allFree (dataOf N) (p .offset) (windowOf N t p) at k)
 
 -- 9: a placed byte is outside the data or not free
 unfoldable pub placeOf : ℕ → Bool → Record → ℕ → ℕ → Outcome
-placeOf N active c at k =
-    let no = refusalOf N active c (placeForbids (c .marks)) in
-    cond (eqb no 0) (cond (mayPlace N (c .inbound) at k) (outcomeOf Accepted false c) (refusedOf 9 c)) (refusedOf no c)
+placeOf N active rec at k =
+    let no = refusalOf N active rec (placeForbids (rec .marks)) in
+    cond (eqb no 0) (cond (mayPlace N (rec .inbound) at k) (outcomeOf Accepted false rec) (refusedOf 9 rec)) (refusedOf no rec)
 
 -- 7: read after C or A sent
 unfoldable pub readForbids : Marks → Bool
@@ -35,39 +37,40 @@ readForbids m = m .sent .closed || m .abort
 
 -- unread: the distance C to P
 unfoldable pub unreadOf : ℕ → Inbound → ℕ
-unreadOf N i = gapOf (dataOf N) (i .consumer) (i .producer)
+unreadOf N i =
+    let p = i .producer in
+    let c = i .consumer in
+    gapOf (dataOf N) c p
 
 -- C moves by n
 unfoldable pub consumedIn : ℕ → Inbound → ℕ → Inbound
 consumedIn N i n =
-    record {
-      producer = i .producer;
-      consumer = stepOf N (i .consumer) n;
-      told = i .told;
-      last = i .last;
-      blocked = i .blocked;
-      request = i .request;
-    }
+    let c = i .consumer in
+    cTo i (stepOf N c n)
 
 unfoldable pub consumedOf : ℕ → Record → ℕ → Record
-consumedOf N c n = record { id = c .id; inbound = consumedIn N (c .inbound) n; outbound = c .outbound; marks = c .marks }
+consumedOf N rec n = inboundTo rec (consumedIn N (rec .inbound) n)
 
 -- a message is made if n is above 0 and: B or R stood in the last message heard, or an update is due. C is the new one here
 unfoldable pub updateOf : ℕ → Inbound → ℕ → Bool
-updateOf N i n = ltb 0 n && ((i .blocked || i .request) || updateDue N (i .told) (i .producer) (i .consumer))
+updateOf N i n =
+    let p = i .producer in
+    let c = i .consumer in
+    let t = i .told in
+    ltb 0 n && ((i .blocked || i .request) || updateDue N t p c)
 
 -- a damaged eye catcher: the answer is "torn", an abort message is made, the abort mark is set
 unfoldable pub tornOf : Record → Outcome
-tornOf c = outcomeOf Torn true (marksTo c (abortSent (c .marks)))
+tornOf rec = outcomeOf Torn true (marksTo rec (abortSent (rec .marks)))
 
 -- otherwise n is the smaller of unread and room in out; the answer names n
 unfoldable pub takeOf : ℕ → Record → ℕ → Outcome
-takeOf N c room =
-    let n = takenOf (unreadOf N (c .inbound)) room in
-    let next = consumedOf N c n in
+takeOf N rec room =
+    let n = takenOf (unreadOf N (rec .inbound)) room in
+    let next = consumedOf N rec n in
     outcomeOf (Read n) (updateOf N (next .inbound) n) next
 
 unfoldable pub readOf : ℕ → Bool → Record → Bool → ℕ → Outcome
-readOf N active c intact room =
-    let no = refusalOf N active c (readForbids (c .marks)) in
-    cond (eqb no 0) (cond intact (takeOf N c room) (tornOf c)) (refusedOf no c)
+readOf N active rec intact room =
+    let no = refusalOf N active rec (readForbids (rec .marks)) in
+    cond (eqb no 0) (cond intact (takeOf N rec room) (tornOf rec)) (refusedOf no rec)

@@ -1,7 +1,8 @@
 // Place and read, as steps of one record (document 01, "Calls of a connection").
 ghost use mathlib.Core.Path.{_≡_};
 ghost use Prim.Native.Nat.{_-_, _≤_, _<_};
-ghost use Rattle.receive.specs.Receive.{placeForbids, mayPlace, placeOf, readForbids, unreadOf, consumedIn, consumedOf, updateOf, tornOf, takeOf, readOf};
+ghost use Rattle.receive.specs.Receive.{placeForbids, mayPlace, placeOf};
+ghost use Rattle.receive.specs.Receive.{readForbids, unreadOf, consumedIn, consumedOf, updateOf, tornOf, takeOf, readOf};
 use closing::Marks;
 use connection::Inbound;
 use connection::Outcome;
@@ -30,26 +31,26 @@ fn may_place(n: u32, i: Inbound, at: u32, k: usize) -> bool
     if ((n - at) as usize) < k {
         return false;
     }
-    let told = i.told;
+    let t = i.told; // what the peer was told, not C
     let p = i.producer;
     let d = cursor::data_size(n);
-    let w = flow::window(n, told, p);
+    let w = flow::window(n, t, p);
     element::all_free(d, p.offset, w, at, k)
 }
 
 // Place of k bytes at offset `at`: accepted, or refused. The record stays as it is.
-pub fn place(n: u32, active: bool, c: Record, at: u32, k: usize) -> Outcome
-    ensures { λ r. ⌜ r ≡ placeOf n active c at k ⌝ }
+pub fn place(n: u32, active: bool, rec: Record, at: u32, k: usize) -> Outcome
+    ensures { λ r. ⌜ r ≡ placeOf n active rec at k ⌝ }
 {
-    let no = connection::refusal(n, active, c, place_forbids(c.marks));
+    let no = connection::refusal(n, active, rec, place_forbids(rec.marks));
     if no != 0 {
-        return connection::refused(no, c);
+        return connection::refused(no, rec);
     }
-    let ok = may_place(n, c.inbound, at, k);
+    let ok = may_place(n, rec.inbound, at, k);
     if ok {
-        connection::outcome_of(Reply::Accepted, false, c)
+        connection::outcome_of(Reply::Accepted, false, rec)
     } else {
-        connection::refused(9, c)
+        connection::refused(9, rec)
     }
 }
 
@@ -64,27 +65,27 @@ fn unread(n: u32, i: Inbound) -> u32
     requires { ⌜ unreadOf n i ≤ n - 4 ⌝ }
     ensures { λ r. ⌜ r ≡ unreadOf n i ⌝ }
 {
-    let k = i.consumer;
+    let c = i.consumer;
     let p = i.producer;
     let d = cursor::data_size(n);
-    cursor::gap(d, k, p) as u32
+    cursor::gap(d, c, p) as u32
 }
 
 fn consumed_in(n: u32, i: Inbound, k: u32) -> Inbound
     ensures { λ r. ⌜ r ≡ consumedIn n i k ⌝ }
 {
-    let from = i.consumer;
-    let moved = cursor::step(n, from, k);
+    let c = i.consumer;
+    let moved = cursor::step(n, c, k);
     let mut next = i;
     next.consumer = moved;
     next
 }
 
-fn consumed(n: u32, c: Record, k: u32) -> Record
-    ensures { λ r. ⌜ r ≡ consumedOf n c k ⌝ }
+fn consumed(n: u32, rec: Record, k: u32) -> Record
+    ensures { λ r. ⌜ r ≡ consumedOf n rec k ⌝ }
 {
-    let i = consumed_in(n, c.inbound, k);
-    let mut next = c;
+    let i = consumed_in(n, rec.inbound, k);
+    let mut next = rec;
     next.inbound = i;
     next
 }
@@ -100,31 +101,35 @@ fn updates(n: u32, i: Inbound, k: u32) -> bool
 }
 
 // A damaged eye catcher: an abort message is made, and the abort mark is set.
-fn torn(c: Record) -> Outcome
-    ensures { λ r. ⌜ r ≡ tornOf c ⌝ }
+fn torn(rec: Record) -> Outcome
+    ensures { λ r. ⌜ r ≡ tornOf rec ⌝ }
 {
-    let marks = closing::abort_sent(c.marks);
-    let next = connection::marks_to(c, marks);
+    let marks = closing::abort_sent(rec.marks);
+    let next = connection::marks_to(rec, marks);
     connection::outcome_of(Reply::Torn, true, next)
 }
 
-fn take(n: u32, c: Record, room: usize) -> Outcome
-    requires { ⌜ unreadOf n (c .inbound) ≤ n - 4 ⌝ }
-    ensures { λ r. ⌜ r ≡ takeOf n c room ⌝ }
+fn take(n: u32, rec: Record, room: usize) -> Outcome
+    requires { ⌜ unreadOf n (rec .inbound) ≤ n - 4 ⌝ }
+    ensures { λ r. ⌜ r ≡ takeOf n rec room ⌝ }
 {
-    let k = flow::taken(unread(n, c.inbound), room);
-    let next = consumed(n, c, k);
+    let k = flow::taken(unread(n, rec.inbound), room);
+    let next = consumed(n, rec, k);
     let tells = updates(n, next.inbound, k);
     connection::outcome_of(Reply::Read(k), tells, next)
 }
 
 // Read into an out buffer of `room` bytes, of an element whose eye catcher is intact or not.
-pub fn read(n: u32, active: bool, c: Record, intact: bool, room: usize) -> Outcome
-    ensures { λ r. ⌜ r ≡ readOf n active c intact room ⌝ }
+pub fn read(n: u32, active: bool, rec: Record, intact: bool, room: usize) -> Outcome
+    ensures { λ r. ⌜ r ≡ readOf n active rec intact room ⌝ }
 {
-    let no = connection::refusal(n, active, c, read_forbids(c.marks));
+    let no = connection::refusal(n, active, rec, read_forbids(rec.marks));
     if no != 0 {
-        return connection::refused(no, c);
+        return connection::refused(no, rec);
     }
-    if intact { take(n, c, room) } else { torn(c) }
+    if intact {
+        take(n, rec, room)
+    } else {
+        torn(rec)
+    }
 }

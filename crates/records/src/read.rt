@@ -3,9 +3,8 @@ ghost use Prim.Native.Nat.{_≤_};
 use closing::Marks;
 use closing::Side;
 use connection::Identity;
-use connection::Inbound;
-use connection::Outbound;
 use connection::Record;
+use connection::Remote;
 use cursor::Cursor;
 use stream::input;
 use stream::input::Scan;
@@ -25,7 +24,7 @@ struct At {
 struct Who {
     scan: Scan,
     id: Identity,
-    size: u32,
+    remote: Remote,
 }
 
 struct Cursors {
@@ -71,25 +70,26 @@ fn who_of(buf: &mut [u8; 65536], c: Scan) -> Who
         peer: peer.value,
         link: link.value as u8,
     };
+    let remote = Remote { size: size.value };
     let scan = size.scan;
     Who {
         scan: scan,
         id: id,
-        size: size.value,
+        remote: remote,
     }
 }
 
 // The five cursors, in the order P C T Q R.
-fn cursors_of(buf: &mut [u8; 65536], c: Scan) -> Cursors
-    ensures { λ r. ⌜ r .scan .left ≤ c .left ⌝ }
+fn cursors_of(buf: &mut [u8; 65536], from: Scan) -> Cursors
+    ensures { λ r. ⌜ r .scan .left ≤ from .left ⌝ }
 {
-    let producer = cursor_of(buf, c);
+    let producer = cursor_of(buf, from);
     let consumer = cursor_of(buf, producer.scan);
     let told = cursor_of(buf, consumer.scan);
     let ours = cursor_of(buf, told.scan);
     let theirs = cursor_of(buf, ours.scan);
     let p = producer.cursor;
-    let k = consumer.cursor;
+    let c = consumer.cursor;
     let t = told.cursor;
     let q = ours.cursor;
     let r = theirs.cursor;
@@ -97,7 +97,7 @@ fn cursors_of(buf: &mut [u8; 65536], c: Scan) -> Cursors
     Cursors {
         scan: scan,
         p: p,
-        c: k,
+        c: c,
         t: t,
         q: q,
         r: r,
@@ -131,33 +131,32 @@ fn marks_of(marks: u32) -> Marks {
 
 fn record_of(h: Who, k: Cursors, next: u16, last: u16, marks: u32) -> Record {
     let id = h.id;
+    let remote = h.remote;
     let p = k.p;
     let c = k.c;
     let t = k.t;
     let q = k.q;
     let r = k.r;
-    let inbound = Inbound {
-        producer: p,
-        consumer: c,
-        told: t,
-        last: last,
-        blocked: mark(marks, 128),
-        request: mark(marks, 256),
-    };
-    let outbound = Outbound {
-        size: h.size,
-        producer: q,
-        consumer: r,
-        next: next,
-        blocked: mark(marks, 64),
-    };
     let m = marks_of(marks);
-    Record {
-        id: id,
-        inbound: inbound,
-        outbound: outbound,
-        marks: m,
-    }
+    let mut rec = connection::zero_record();
+    let mut i = rec.inbound;
+    i.producer = p;
+    i.consumer = c;
+    i.told = t;
+    i.last = last;
+    i.blocked = mark(marks, 128);
+    i.request = mark(marks, 256);
+    let mut o = rec.outbound;
+    o.producer = q;
+    o.consumer = r;
+    o.next = next;
+    o.blocked = mark(marks, 64);
+    rec.id = id;
+    rec.remote = remote;
+    rec.inbound = i;
+    rec.outbound = o;
+    rec.marks = m;
+    rec
 }
 
 // The line's numbers, in their order.

@@ -5,21 +5,21 @@
 // Five buffers are lent throughout: `mem` the receive memory, `given` the bytes of a line, `out` the out buffer of a read, `buf` the
 // input and `o` the output.
 ghost use Prim.Native.Nat.{_≤_};
-use answers::Said;
 use connection::Record;
 use group::Command;
 use lines::Line;
 use records::print;
 use stream::input;
 use stream::output;
-use table::Tables;
+use table::Links;
 
 // The group as the last call left it, its memory aside, of which it has the first `len` bytes; and how far the output buffer is filled.
 struct World {
     s: u32,
     n: u32,
     len: usize,
-    tables: Tables,
+    table: [Record; table::MOST_SLOTS],
+    links: Links,
     at: usize,
 }
 
@@ -50,15 +50,13 @@ fn copy(to: &mut [u8], from: &[u8]) {
 // A fresh group: every slot all zeros, every link down.
 fn fresh(s: u32, n: u32, len: usize, at: usize) -> World {
     let z = connection::zero_record();
-    let tables = Tables {
-        table: [z; 16],
-        links: [false; 4],
-    };
+    let links = Links { active: [false; 4] };
     World {
         s: s,
         n: n,
         len: len,
-        tables: tables,
+        table: [z; table::MOST_SLOTS],
+        links: links,
         at: at,
     }
 }
@@ -91,23 +89,20 @@ fn call(
     w: World,
     command: Command,
 ) -> World {
-    let tables = w.tables;
+    let table = w.table;
+    let links = w.links;
     fill(out, 165);
-    let a = group::make(w.s, w.n, mem, tables, command, bytes, out);
-    let reply = a.reply;
-    let message = a.message;
-    let after = a.tables;
-    let said = Said {
-        reply: reply,
-        made: a.made,
-        message: message,
-    };
+    let a = group::make(w.s, w.n, mem, table, links, command, bytes, out);
+    let said = a.answer;
+    let after = a.table;
+    let left = said.links;
     let at = answers::answer(o, w.at, command, said, out);
     World {
         s: w.s,
         n: w.n,
         len: w.len,
-        tables: after,
+        table: after,
+        links: left,
         at: at,
     }
 }
@@ -136,20 +131,19 @@ fn lent(
     )
 }
 
-// Lays a record into a slot from 1 to 16.
+// Lays a record into a slot of the table.
 fn lay_record(o: &mut [u8; 65536], w: World, slot: usize, c: Record) -> World {
     if slot < 1 {
         return bad(o, w);
     }
-    if 16 < slot {
+    if table::MOST_SLOTS < slot {
         return bad(o, w);
     }
-    let i = slot - 1;
-    let mut tables = w.tables;
-    tables.table[i] = c;
+    let before = w.table;
+    let after = table::put_record(before, slot, c);
     let at = output::text(o, w.at, b"record\n");
     let mut next = w;
-    next.tables = tables;
+    next.table = after;
     next.at = at;
     next
 }
@@ -190,8 +184,9 @@ fn memory(mem: &[u8], o: &mut [u8; 65536], w: World, at: usize, count: usize) ->
 }
 
 fn table(o: &mut [u8; 65536], w: World) -> World {
-    let t = w.tables;
-    let at = print::tables(o, w.at, t);
+    let table = w.table;
+    let links = w.links;
+    let at = print::tables(o, w.at, table, links);
     filled_to(w, at)
 }
 

@@ -13,7 +13,7 @@ use Rattle.transmit.specs.Transmit.{sendOf, sentOf}
 use Rattle.receive.specs.Receive.{placeOf, readOf, takeOf}
 use Rattle.hear.specs.Hear.{hearOf, abortedOf, followedOf, acceptedOf}
 use Rattle.finish.specs.Finish.{shutdownOf, closeOf, abortOf}
-use Rattle.table.specs.Rules.{Says, refusal, accepted, sent, wasRead, torn, heard, saysOf}
+use Rattle.rules.specs.Rules.{Says, refusal, accepted, sent, wasRead, torn, heard, saysOf}
 use Rattle.safety.specs.Statement.{acceptedB}
 
 -- from an equation of two constructors
@@ -70,10 +70,6 @@ module _ (n : ℕ) (active : Bool) (c : Record) (ok : coherentB n c ≡ true) wh
   outside : Answers (refusedOf 9 c)
   unfolding refusedOf
   outside = record { fair = λ e. omega (arith, e) }
-
-  pub none-answers : Answers (refusedOf 0 c)
-  unfolding refusedOf
-  none-answers = record { fair = λ e. omega (arith, e) }
 
   outcome : (r : Reply) (t : Bool) (d : Record) → Fair r → Answers (outcomeOf r t d)
   unfolding outcomeOf

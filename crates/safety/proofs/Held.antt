@@ -2,17 +2,20 @@
 use mathlib.Core.Path.{_≡_, refl, sym, ap, _∙_}
 use mathlib.Core.Logic.{_⊎_, inl, inr}
 use mathlib.Core.List.{List, [], _∷_}
-use Prim.Native.Nat.{ℕ, zero, suc, _+_, _<_}
+use Prim.Native.Nat.{ℕ, suc, _+_, _<_}
 use native.Mathlib.Decide.{ℕ-discrete}
 use native.Mathlib.Omega.{arith}
 use lib.ListN.{length, drop, getD, replicate, length-replicate}
 use lib.Seq.{ext-getD, getD-take, getD-drop}
 use Rattle.element.specs.Element.{part, baseOf, elementOf}
-use Rattle.table.specs.Rules.{Group, Call, Turn, does, next, elementIn, Fresh}
+use Rattle.rules.specs.Rules.{Group, Call, Turn, does, next, elementIn, Fresh}
 use Rattle.order.specs.Statement.{leaves}
 use Rattle.order.proofs.Slots.{element-long}
 use Rattle.safety.specs.Statement.{heldAfter, heldFrom}
-use Rattle.safety.proofs.Sound.{Sound, sizes, Untouched, Turned, call-does, sound-next}
+use Rattle.safety.proofs.Invariant.{Sound, sizes}
+use Rattle.safety.proofs.Calls.{Untouched, Turned, call-does}
+use Rattle.safety.proofs.Sound.{sound-next}
+use Rattle.safety.proofs.Lists.{zero-at}
 
 -- one call on
 module _ (g : Group) (s : Sound g) where
@@ -38,11 +41,6 @@ unfolding leaves heldFrom
 held-leaves [] g s j = refl
 held-leaves (c ∷ cs) g s j =
     held-leaves cs (next g c) (sound-next g s c) j ∙ ap (λ e. heldFrom (next g c) e cs (suc j)) (held-next g s c j)
-
-pub zero-at : (n i : ℕ) → getD {A = ℕ} (replicate n 0) i 0 ≡ 0
-zero-at zero i = refl
-zero-at (suc n) zero = refl
-zero-at (suc n) (suc i) = zero-at n i
 
 -- a fresh group's elements
 pub fresh-zeros : (g : Group) → Fresh g → Sound g → (j : ℕ) → j < g .S → elementIn g (suc j) ≡ replicate (g .N) 0

@@ -1,7 +1,23 @@
--- `Answers`: what a connection call never answers. `Sound`: the invariant, call by call. `OnSlot`: a call on a slot. `Held`, `Bytes`: what an
--- element holds, and where each byte came from. `Reader`: what a read hands out. `Own`: whose bytes a call touches and sees. `Theorem`:
--- the claims of specs/Statement. `Refusals`: those of specs/Refusals.
+-- Of any group: `Effects`, what each call does; `Acted`, `Memory`, `Course`, the slot, the bytes and the record that it changes; `Changes`, the
+-- claims of specs/Changes; `Exactly`, `Refusals`, those of specs/Refusals.
+-- Of groups that calls leave: the `Invariant`; `Answers`, `Changed`, `Turns`, `Calls`, what one call keeps of it; `Sound`, that all have it.
+-- `OnSlot`, `Held`, `Bytes`, `Reader`, `Own`: a call on a slot, what an element holds, where each byte came from, what a read hands out, whose
+-- bytes a call touches and sees. `Theorem`, `Progress`: the claims of specs/Statement.
+-- Of positions: `Places`, `Inbound`, `Journals`, what is said of a slot and its record and element over one turn; `Noted`, `Followed`, over each
+-- call, and all; `HandedOut`, how what is said grows. `Positions`, `Unwritten`: the claims of specs/Positions.
+pub mod Lists
+pub mod Cursors
+pub mod Effects
+pub mod Acted
+pub mod Memory
+pub mod Course
+pub mod Changes
+pub mod Refusals
 pub mod Answers
+pub mod Invariant
+pub mod Changed
+pub mod Turns
+pub mod Calls
 pub mod Sound
 pub mod OnSlot
 pub mod Held
@@ -9,4 +25,13 @@ pub mod Bytes
 pub mod Reader
 pub mod Own
 pub mod Theorem
-pub mod Refusals
+pub mod Progress
+pub mod Exactly
+pub mod Places
+pub mod Inbound
+pub mod Journals
+pub mod Noted
+pub mod Followed
+pub mod HandedOut
+pub mod Positions
+pub mod Unwritten

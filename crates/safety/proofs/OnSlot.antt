@@ -9,10 +9,10 @@ use Rattle.connection.specs.declared.Reply.the-variants.{Refused, Accepted, Sen
 use Rattle.receive.specs.Receive.{placeOf}
 use Rattle.receive.proofs.Laws.{Placeable, place-accepted}
 use Rattle.table.specs.Table.{openB}
-use Rattle.table.specs.Rules.{Group, Request, place, on, refusal, accepted, saysOf, turnOf, requestTurn, Done, does, answer, refuses, putTurn, onDoes, outOf, recordOf, elementIn, linkOf, sizesOk}
+use Rattle.rules.specs.Rules.{Group, Request, place, on, refusal, accepted, saysOf, turnOf, requestTurn, Done, does, answer, refuses, putTurn, onDoes, outOf, recordOf, elementIn, linkOf, sizesOk}
 use Rattle.safety.specs.Statement.{OpenAt}
 use Rattle.safety.proofs.Answers.{clash}
-use Rattle.safety.proofs.Sound.{Sound, sizes}
+use Rattle.safety.proofs.Invariant.{Sound, sizes}
 
 module _ (g : Group) (k : ℕ) (q : Request) (ok : sizesOk g ≡ true) where
   pub on-open : OpenAt g k → does g (on k q) ≡ putTurn g k (requestTurn (g .N) (linkOf g k) (recordOf g k) (elementIn g k) q)

@@ -16,22 +16,17 @@ use Rattle.element.proofs.Elements.{base-end, element-in}
 use Rattle.connection.proofs.Laws.{and-left, and-right}
 use Rattle.receive.proofs.Laws.{Placeable}
 use Rattle.table.specs.Table.{slotB, openB}
-use Rattle.table.specs.Rules.{accepted, Call, Group, Request, read, on, turnOf, requestTurn, Done, answer, next, refuses, putTurn, recordOf, elementIn, linkOf}
+use Rattle.rules.specs.Rules.{accepted, Group, Request, read, on, turnOf, requestTurn, Done, answer, next, refuses, putTurn, recordOf, elementIn, linkOf}
 use Rattle.order.proofs.Records.{long-by}
 use Rattle.order.proofs.Acts.{turned}
 use Rattle.order.proofs.Slots.{open-in, element-long}
 use Rattle.safety.specs.Statement.{acceptedB, changedBy, heldAfter, OpenAt, InData, OwnTouched, SameOwn, dataIn}
-use Rattle.safety.proofs.Sound.{no-slot-0, Changes, opens, places, stays, changes, Sound, sizes, splice-none}
+use Rattle.safety.proofs.Invariant.{no-slot-0, Sound, sizes}
+use Rattle.safety.proofs.Changed.{Changes, opens, places, stays, changes}
 use Rattle.safety.proofs.Answers.{clash, says-accepted}
 use Rattle.safety.proofs.Held.{held-next}
 use Rattle.safety.proofs.OnSlot.{placed-inside, on-open, on-closed, on-answer}
-
-same-byte : (l m : List ℕ) (x : ℕ) → length l ≡ length m → getD l x 0 ≡ getD m x 0 → getElem? l x ≡ getElem? m x
-same-byte [] [] x e p = refl
-same-byte [] (b ∷ m) x e p = absurd (omega (arith, e))
-same-byte (a ∷ l) [] x e p = absurd (omega (arith, e))
-same-byte (a ∷ l) (b ∷ m) zero e p = cc
-same-byte (a ∷ l) (b ∷ m) (suc x) e p = same-byte l m x (omega (arith, e)) p
+use Rattle.safety.proofs.Lists.{same-byte, splice-none}
 
 -- TOUCHED
 module _ (h : Group) (s : Sound h) (j : ℕ) (o : OpenAt h (suc j)) where
@@ -95,9 +90,9 @@ module _ (h : Group) (s : Sound h) (j : ℕ) (o : OpenAt h (suc j)) where
 
       by : answer h (on (suc j) q) .says ≡ accepted → Changes (h .N) (suc j) (on (suc j) q) e
           → getD (changedBy (h .N) (suc j) (on (suc j) q) e) i 0 ≡ getD e i 0
-      by a (opens own peer link size p r) = clash (cc)
+      by a (opens given p r) = clash (cc)
       by a (places at b p r) = ap (λ f. getD f i 0) r ∙ placed at b (placed-inside h s (suc j) at b (rw p at a))
-      by a (stays f r) = ap (λ f. getD f i 0) r
+      by a (stays f p r) = ap (λ f. getD f i 0) r
 
       go : (t : Bool) → acceptedB (answer h (on (suc j) q) .says) ≡ t
           → getD (cond t (changedBy (h .N) (suc j) (on (suc j) q) e) e) i 0 ≡ getD e i 0

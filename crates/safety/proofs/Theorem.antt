@@ -1,43 +1,35 @@
--- The six claims of specs/Statement. Assumes nothing.
+-- The claims of specs/Statement over lists of calls. Assumes nothing.
 use mathlib.Core.Path.{_≡_, refl, sym, ap, _∙_, subst₂}
 use mathlib.Core.Logic.{_⊎_, inl, inr}
 use mathlib.Core.Bool.{true, false≢true}
 use mathlib.Core.List.{List, _++_}
 use Prim.Native.Nat.{ℕ, zero, suc, _<_}
 use native.Mathlib.Omega.{arith}
-use lib.ListN.{length, take, drop, getD}
+use lib.ListN.{take, drop, getD}
 use borrow.Author.Tests.{ne-eqb}
-use Rattle.flow.specs.declared.Placings.{Placings}
-use Rattle.flow.specs.declared.Placings.the-variants.{Nowhere, One, Two}
-use Rattle.flow.specs.Flow.{placingsTotal}
 use Rattle.element.specs.Element.{intactB, ringFrom}
 use Rattle.connection.specs.Connection.{coherentB}
 use Rattle.connection.proofs.Laws.{coherent-facts}
-use Rattle.transmit.proofs.Laws.{writes-a-byte}
 use Rattle.table.specs.Table.{slotB}
-use Rattle.table.specs.Rules.{Group, send, read, Call, on, saysOf, wasRead, placingList, turnOf, requestTurn, answer, recordOf, elementIn, linkOf, holderOf, Fresh}
+use Rattle.rules.specs.Rules.{Group, read, Call, on, wasRead, answer, recordOf, elementIn, linkOf, holderOf, Fresh}
 use Rattle.order.specs.Statement.{leaves}
 use Rattle.order.proofs.Slots.{slot-in, open-in, found-open, open-found}
-use Rattle.safety.specs.Statement.{OpenAt, ownOf, offsetC, Apart, TokensApart, AlwaysCoherent, AlwaysIntact, held, heldFrom, Stored, offsetFrom, Handed, NoStaleBytes, NobodyElses, totalOf, OneByte}
+use Rattle.safety.specs.Statement.{OpenAt, ownOf, offsetC, Apart, TokensApart, AlwaysCoherent, AlwaysIntact, held, heldFrom, Stored, Unstored, offsetFrom, Handed, NoStaleBytes, NobodyElses}
 use Rattle.safety.proofs.Answers.{clash}
-use Rattle.safety.proofs.Sound.{no-slot-0, Sound, call-does, sound-fresh, sound-leaves, leaves-sizes}
-use Rattle.safety.proofs.OnSlot.{on-answer, on-was-open}
+use Rattle.safety.proofs.Invariant.{no-slot-0, Sound}
+use Rattle.safety.proofs.Calls.{call-does}
+use Rattle.safety.proofs.Sound.{sound-fresh, sound-leaves, leaves-sizes}
+use Rattle.safety.proofs.OnSlot.{on-was-open}
 use Rattle.safety.proofs.Held.{held-leaves, fresh-zeros}
-use Rattle.safety.proofs.Bytes.{From, unopened, since-open, from-calls, still-closed}
+use Rattle.safety.proofs.Bytes.{unstored, stored, From, unopened, since-open, from-calls, still-closed}
 use Rattle.safety.proofs.Own.{own-touched, own-seen}
-use Rattle.safety.proofs.Reader.{read-open, read-out, in-data, read-byte}
+use Rattle.safety.proofs.Reader.{not-slot-0, read-open, read-out, in-data, read-byte}
 
 -- what is shown of slots from 1 on holds of every open slot
 module _ (h : Group) (P : ℕ → Type 0) where
   each-open : ((i : ℕ) → OpenAt h (suc i) → P (suc i)) → (k : ℕ) → OpenAt h k → P k
   each-open f zero o = absurd (no-slot-0 h o)
   each-open f (suc i) o = f i o
-
--- no call on slot 0 reads
-not-slot-0 : (h : Group) → Sound h → (n : ℕ) (out : List ℕ) → answer h (on 0 (read out)) .says ≡ wasRead n → ⊥
-not-slot-0 h s n out e =
-    let o = on-was-open h 0 (read out) (s .good .sizes) (λ m r. clash (cc)) in
-    no-slot-0 h o
 
 -- 1. Tokens apart
 module _ (h : Group) (s : Sound h) where
@@ -97,11 +89,22 @@ module _ (g : Group) (f : Fresh g) (cs : List Call) where
   slot j o = rw (leaves-sizes cs g (sound-fresh g f) .0) at (open-in (h .S) (h .table) (suc j) o .slot)
 
   -- the slot was opened by one of the calls, since it is open now
-  since : (j x v : ℕ) → OpenAt h (suc j) → From g cs (suc j) x (getD (elementIn g (suc j)) x 0) v → (v ≡ 0) ⊎ Stored g cs (suc j) x v
+  since : (j x v : ℕ) → OpenAt h (suc j) → From g cs (suc j) x (getD (elementIn g (suc j)) x 0) v
+      → Stored g cs (suc j) x v ⊎ Unstored g cs (suc j) x v
   since j x v o (unopened u w) = absurd (false≢true (sym (f .closed (suc j)) ∙ still-closed cs g (sound-fresh g f) j u o))
-  since j x v o (since-open i p u (inl z)) = inl z
-  since j x v o (since-open i p u (inr w)) =
-      inr (record { opening = i; opened = p; last = u; storing = w .0; since = w .1; stored = w .2 })
+  since j x v o (since-open i p u (unstored n e)) =
+      inr (record { opening = i; open-last = record { opened = p; last = u }; none-since = n; zero-byte = e })
+  since j x v o (since-open i p u (stored n l w e q)) =
+      inl
+      (record {
+        opening = i;
+        open-last = record { opened = p; last = u };
+        storing = n;
+        since = l;
+        covers = w;
+        byte = e;
+        latest = q;
+      })
 
   module _ (j n : ℕ) (out : List ℕ) (e : answer h (on (suc j) (read out)) .says ≡ wasRead n) where
     abbrev now : List ℕ
@@ -113,12 +116,14 @@ module _ (g : Group) (f : Fresh g) (cs : List Call) where
     bytes : now ≡ take n (ringFrom (held g cs (suc j)) (offsetC h (suc j))) ++ drop n out
     bytes = read-out h s j n out e ∙ ap (λ l. take n (ringFrom l (offsetC h (suc j))) ++ drop n out) (exactly (suc j) (slot j open-now))
 
-    each : (i : ℕ) → i < n → (getD now i 0 ≡ 0) ⊎ Stored g cs (suc j) (offsetFrom (g .N) (offsetC h (suc j)) i) (getD now i 0)
+    each : (i : ℕ) → i < n → let x = offsetFrom (g .N) (offsetC h (suc j)) i in Stored g cs (suc j) x (getD now i 0) ⊎ Unstored g cs (suc j) x (getD now i 0)
     each i l =
         let x = offsetFrom (h .N) (offsetC h (suc j)) i in
         let inside = slot-in (g .S) (suc j) (slot j open-now) .1 in
         let origin = from-calls cs g (sound-fresh g f) j x inside (in-data h s j n out e i l) in
-        subst₂ (λ m v. (v ≡ 0) ⊎ Stored g cs (suc j) (offsetFrom m (offsetC h (suc j)) i) v) (leaves-sizes cs g (sound-fresh g f) .1)
+        subst₂
+        (λ m v. let y = offsetFrom m (offsetC h (suc j)) i in Stored g cs (suc j) y v ⊎ Unstored g cs (suc j) y v)
+        (leaves-sizes cs g (sound-fresh g f) .1)
         (sym (read-byte h s j n out e i l)) (since j x (getD (elementIn h (suc j)) x 0) open-now origin)
 
   reads : (k n : ℕ) (out : List ℕ) → answer h (on k (read out)) .says ≡ wasRead n → Handed g cs h k n out (answer h (on k (read out)) .out)
@@ -137,17 +142,3 @@ nobody-elses = (
       let s₂ = sound-leaves cs₂ g₂ (sound-fresh g₂ f₂) in
       own-seen (leaves g₁ cs₁) (leaves g₂ cs₂) s₁ s₂ k w q,
 )
-
--- the one-byte sentence
-total-is : (p : Placings) → totalOf (placingList p) ≡ placingsTotal p
-total-is Nowhere = refl
-total-is (One p) = omega arith
-total-is (Two p q) = omega arith
-
-pub one-byte : OneByte
-unfolding requestTurn turnOf
-one-byte h k b sizes o ok may some room up =
-    let c = recordOf h k in
-    let w = writes-a-byte (h .N) (linkOf h k) c (length b) ok up may room some in
-    let says = ap (λ a. a .says) (on-answer h k (send b) sizes o) ∙ ap saysOf (w .3) in
-    (w .0, placingList (w .1), says, w .2, total-is (w .1) ∙ w .5)

@@ -1,2 +1,4 @@
 pub mod Statement
 pub mod Refusals
+pub mod Changes
+pub mod Positions

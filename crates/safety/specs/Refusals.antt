@@ -1,12 +1,218 @@
--- Demand 1's refusals: what a refused call leaves, and which numbers it may give. Two claims about the rules that every contract cites
--- (`answer`, `next`), of any group, however it came about, and any call. proofs/Refusals proves both. Assumes nothing.
-use Prim.Native.Nat.{ℕ}
+-- Demand 1's refusals, "When the desk says no": when a call is refused and with which number, and what a refused call leaves. Two claims
+-- about the rules that every contract cites (`answer`, `next`), of any group, however it came about, and any call. proofs/Exactly and
+-- proofs/Refusals prove them. Assumes nothing.
+use Prim.Native.Nat.{ℕ, zero, suc, _+_, _*_}
 use mathlib.Core.Path.{_≡_}
-use mathlib.Core.Bool.{Bool, true, false, _||_}
+use mathlib.Core.Logic.{_↔_}
+use mathlib.Core.Bool.{Bool, true, false, _&&_, _||_, not, cond}
+use mathlib.Core.Option.{Option, some, none}
 use mathlib.Core.List.{List, [], _∷_}
-use lib.Dec.{eqb}
-use Rattle.connection.specs.Connection.{noMessage}
-use Rattle.table.specs.Rules.{Group, send, place, read, shutdown, close, abort, openSlot, freeSlot, linkChange, linkMessage, Call, on, hear, manage, refusal, answer, next, outOf}
+use lib.Dec.{ltb, leb, eqb}
+use lib.ListN.{length, getD}
+use Rattle.cursor.specs.Cursor.{dataOf, inRange, sameB, goodB, gapOf}
+use Rattle.cdc.specs.declared.Message.{Message}
+use Rattle.cdc.specs.Cdc.{fieldsOf}
+use Rattle.llc.specs.Llc.{unknown, named, cursorMessage, optional, classOf}
+use Rattle.closing.specs.declared.Marks.{Marks}
+use Rattle.closing.specs.declared.State.{State}
+use Rattle.closing.specs.declared.State.the-variants.{Active, PeerCloseWait1, PeerCloseWait2, AppCloseWait1, AppCloseWait2, PeerAbortWait, Closed}
+use Rattle.closing.specs.Closing.{marked, stateOf}
+use Rattle.flow.specs.Flow.{windowOf}
+use Rattle.element.specs.Element.{freeB}
+use Rattle.connection.specs.declared.Record.{Record}
+use Rattle.connection.specs.Connection.{noMessage, coherentB}
+use Rattle.table.specs.Table.{activeB, findFrom}
+use Rattle.rules.specs.Rules.{Group, Request, send, place, read, shutdown, close, abort, openSlot, freeSlot, linkChange, linkMessage, Call, on, hear, manage, refusal, answer, next, outOf, recordOf, linkOf, holderOf}
+
+-- EACH NUMBER'S CONDITION, as the page's table has it.
+
+abbrev pub outside : ℕ → ℕ → ℕ → Bool
+outside least most x = ltb x least || ltb most x
+
+-- 1: S, N or the memory's length is wrong
+abbrev pub sizesWrong : Group → Bool
+sizesWrong g = outside 1 16 (g .S) || outside 8 65540 (g .N) || not (eqb (length (g .memory)) (g .S * g .N))
+
+-- 2: slot outside 1 to S, or closed (for open: outside only)
+abbrev pub slotOutside : Group → ℕ → Bool
+slotOutside g k = outside 1 (g .S) k
+
+abbrev pub slotClosed : Group → ℕ → Bool
+slotClosed g k = slotOutside g k || not (recordOf g k .id .opened)
+
+-- 3: the open record is not coherent
+abbrev pub incoherent : Group → ℕ → Bool
+incoherent g k = not (coherentB (g .N) (recordOf g k))
+
+-- 4: bytes are not 44; byte 0 is not FE (hear), or unknown or FE (link message); byte 1 is not 2C (optional link messages aside)
+abbrev pub byteIs : List ℕ → ℕ → ℕ → Bool
+byteIs b i x = eqb (getD b i 0) x
+
+abbrev pub classIs : List ℕ → ℕ → Bool
+classIs b c = eqb (classOf (getD b 0 0)) c
+
+abbrev pub malformed : List ℕ → Bool
+malformed b = not (eqb (length b) 44) || not (byteIs b 0 0xFE) || not (byteIs b 1 0x2C)
+
+abbrev pub malformedLink : List ℕ → Bool
+malformedLink b =
+    not (eqb (length b) 44)
+    || not (classIs b optional) && (classIs b unknown || classIs b cursorMessage || not (byteIs b 1 0x2C))
+
+-- 5: no open slot has the token, or it is 0
+abbrev pub tokenUnheld : Group → ℕ → Bool
+tokenUnheld g token = eqb token 0 || eqb (findFrom (g .table) token (g .S)) 0
+
+-- 6: the connection's or named link is down
+abbrev pub connectionDown : Group → ℕ → Bool
+connectionDown g k = not (linkOf g k)
+
+abbrev pub linkDown : Group → ℕ → Bool
+linkDown g l = not (activeB (g .links) l)
+
+-- 7: the state forbids: send after D, C or A sent or C heard; place after A sent or D or C heard; read after C or A sent; shutdown after D, C
+-- or A sent; close after C or A sent; abort after A sent; free outside PeerAbortWait
+abbrev pub forbids : Request → Marks → Bool
+forbids (send b) m = m .sent .done || m .sent .closed || m .abort || m .heard .closed
+forbids (place at b) m = m .abort || m .heard .done || m .heard .closed
+forbids (read out) m = m .sent .closed || m .abort
+forbids shutdown m = m .sent .done || m .sent .closed || m .abort
+forbids close m = m .sent .closed || m .abort
+forbids abort m = m .abort
+
+abbrev pub stateForbids : Group → ℕ → Request → Bool
+stateForbids g k q = forbids q (recordOf g k .marks)
+
+abbrev pub aborting : State → Bool
+aborting Active = false
+aborting PeerCloseWait1 = false
+aborting PeerCloseWait2 = false
+aborting AppCloseWait1 = false
+aborting AppCloseWait2 = false
+aborting PeerAbortWait = true
+aborting Closed = false
+
+abbrev pub notAborting : Group → ℕ → Bool
+notAborting g k = not (aborting (stateOf (recordOf g k .marks)))
+
+-- 8: a cursor rule of hear is broken. The new P is out of range, has no good distance from T, or one less than before, or moved after D or C
+-- was heard; the new R is out of range, at no good distance before Q, or at one greater than before
+abbrev pub producerBroken : ℕ → Record → Message → Bool
+producerBroken N c m =
+    let d = dataOf N in
+    not (inRange N (m .producer))
+    || not (goodB d (c .inbound .told) (m .producer))
+    || ltb (gapOf d (c .inbound .told) (m .producer)) (gapOf d (c .inbound .told) (c .inbound .producer))
+    || marked (c .marks .heard) && not (sameB (c .inbound .producer) (m .producer))
+
+abbrev pub consumerBroken : Record → Message → Bool
+consumerBroken c m =
+    let d = dataOf (c .remote .size) in
+    not (inRange (c .remote .size) (m .consumer))
+    || not (goodB d (m .consumer) (c .outbound .producer))
+    || ltb (gapOf d (c .outbound .consumer) (c .outbound .producer)) (gapOf d (m .consumer) (c .outbound .producer))
+
+-- with A in the message cursors are not looked at, and after A sent nothing is
+abbrev pub cursorBroken : Group → ℕ → Message → Bool
+cursorBroken g k m =
+    not (m .flags .abort)
+    && (not (recordOf g k .marks .abort) && (producerBroken (g .N) (recordOf g k) m || consumerBroken (recordOf g k) m))
+
+-- 9: a placed byte is outside the data or not free
+abbrev pub byteFree : Group → ℕ → ℕ → Bool
+byteFree g k x =
+    let i = recordOf g k .inbound in
+    freeB (dataOf (g .N)) (i .producer .offset) (windowOf (g .N) (i .told) (i .producer)) x
+
+unfoldable pub unplaceable : Group → ℕ → ℕ → ℕ → Bool
+unplaceable g k x zero = false
+unplaceable g k x (suc j) = (ltb x 4 || leb (g .N) x || not (byteFree g k x)) || unplaceable g k (x + 1) j
+
+-- 10: open: slot already open
+abbrev pub alreadyOpen : Group → ℕ → Bool
+alreadyOpen g k = recordOf g k .id .opened
+
+-- 11: open: own token held by another open slot (any is another: slot k is closed, by 10)
+abbrev pub tokenHeld : Group → ℕ → Bool
+tokenHeld g own = ltb 0 (findFrom (g .table) own (g .S))
+
+-- 12: open: a zero token, or N' out of range
+abbrev pub zeroOrOut : ℕ → ℕ → ℕ → Bool
+zeroOrOut own peer size = eqb own 0 || eqb peer 0 || outside 8 65540 size
+
+-- 13: link number outside 1 to 4
+abbrev pub linkOutside : ℕ → Bool
+linkOutside l = outside 1 4 l
+
+-- 14: a named link message other than 07
+abbrev pub otherNamed : List ℕ → Bool
+otherNamed b = classIs b named && not (byteIs b 0 0x07)
+
+-- THE TESTS OF EACH CALL, in the page's order: a number, and when it is given.
+infix 68 _when_
+pub data Test : Type 0 where
+  _when_ : ℕ → Bool → Test
+
+-- 9 is place's alone
+abbrev pub placeTest : Group → ℕ → Request → List Test
+placeTest g k (send b) = []
+placeTest g k (place at b) = 9 when unplaceable g k at (length b) ∷ []
+placeTest g k (read out) = []
+placeTest g k shutdown = []
+placeTest g k close = []
+placeTest g k abort = []
+
+-- Connection calls test 1, then 2 (hear: 4, 5), 3, 6, 7, 8, 9. Hear finds the lowest slot with the token and gives no 7. Open: 1, 2, 10, 12, 13,
+-- 6, 11. Free: 1, 2, 3, 7. Link change: 13. Link message: 13, 6, length 44, then optional, else 4, 14
+abbrev pub tests : Group → Call → List Test
+tests g (on k q) =
+    1 when sizesWrong g
+    ∷ 2 when slotClosed g k
+    ∷ 3 when incoherent g k
+    ∷ 6 when connectionDown g k
+    ∷ 7 when stateForbids g k q
+    ∷ placeTest g k q
+tests g (hear b) =
+    let m = fieldsOf b in
+    let k = holderOf g (m .token) in
+    1 when sizesWrong g
+    ∷ 4 when malformed b
+    ∷ 5 when tokenUnheld g (m .token)
+    ∷ 3 when incoherent g k
+    ∷ 6 when connectionDown g k
+    ∷ 8 when cursorBroken g k m
+    ∷ []
+tests g (manage (openSlot k o)) =
+    1 when sizesWrong g
+    ∷ 2 when slotOutside g k
+    ∷ 10 when alreadyOpen g k
+    ∷ 12 when zeroOrOut (o .own) (o .peer) (o .remote .size)
+    ∷ 13 when linkOutside (o .link)
+    ∷ 6 when linkDown g (o .link)
+    ∷ 11 when tokenHeld g (o .own)
+    ∷ []
+tests g (manage (freeSlot k)) =
+    1 when sizesWrong g
+    ∷ 2 when slotClosed g k
+    ∷ 3 when incoherent g k
+    ∷ 7 when notAborting g k
+    ∷ []
+tests g (manage (linkChange l up)) = 13 when linkOutside l ∷ []
+tests g (manage (linkMessage l b)) = 13 when linkOutside l ∷ 6 when linkDown g l ∷ 4 when malformedLink b ∷ 14 when otherNamed b ∷ []
+
+-- the number of the first test whose condition holds; `none`: none does
+unfoldable pub firstOf : List Test → Option ℕ
+firstOf [] = none
+firstOf (n when holds ∷ l) = cond holds (some n) (firstOf l)
+
+-- ONE NUMBERED REFUSAL EXACTLY WHEN THE LIST SAYS SO. A call is refused with k if and only if k is the number of the first test whose
+-- condition holds, and it is not refused if and only if none holds.
+pub record Exactly (g : Group) (c : Call) : Type 0 where
+  pub refused : (k : ℕ) → (answer g c .says ≡ refusal k) ↔ (firstOf (tests g c) ≡ some k)
+  pub not-refused : ((k : ℕ) → answer g c .says ≡ refusal k → ⊥) ↔ (firstOf (tests g c) ≡ none)
+
+abbrev pub ExactlyWhen : Type 0
+ExactlyWhen = (g : Group) (c : Call) → Exactly g c
 
 -- what is lent to a call to write into, beside the group: a read's out buffer
 abbrev pub lentOut : Call → List ℕ
@@ -20,25 +226,3 @@ abbrev pub RefusedKeeps : Type 0
 RefusedKeeps =
     (g : Group) (c : Call) (k : ℕ) → answer g c .says ≡ refusal k
     → (next g c ≡ g) × (answer g c ≡ record { says = refusal k; made = false; message = noMessage; out = lentOut c })
-
--- ONE NUMBERED REFUSAL FROM THE LIST. The numbers that document 01 gives for each call, in the order in which it tests them.
-abbrev pub listed : Call → List ℕ
-listed (on k (send b)) = 1 ∷ 2 ∷ 3 ∷ 6 ∷ 7 ∷ []
-listed (on k (place at b)) = 1 ∷ 2 ∷ 3 ∷ 6 ∷ 7 ∷ 9 ∷ []
-listed (on k (read out)) = 1 ∷ 2 ∷ 3 ∷ 6 ∷ 7 ∷ []
-listed (on k shutdown) = 1 ∷ 2 ∷ 3 ∷ 6 ∷ 7 ∷ []
-listed (on k close) = 1 ∷ 2 ∷ 3 ∷ 6 ∷ 7 ∷ []
-listed (on k abort) = 1 ∷ 2 ∷ 3 ∷ 6 ∷ 7 ∷ []
-listed (hear b) = 1 ∷ 4 ∷ 5 ∷ 3 ∷ 6 ∷ 8 ∷ []
-listed (manage (openSlot k own peer link size)) = 1 ∷ 2 ∷ 10 ∷ 12 ∷ 13 ∷ 6 ∷ 11 ∷ []
-listed (manage (freeSlot k)) = 1 ∷ 2 ∷ 3 ∷ 7 ∷ []
-listed (manage (linkChange l up)) = 13 ∷ []
-listed (manage (linkMessage l b)) = 13 ∷ 6 ∷ 4 ∷ 14 ∷ []
-
--- k stands in the list
-abbrev pub inB : ℕ → List ℕ → Bool
-inB k [] = false
-inB k (n ∷ l) = eqb k n || inB k l
-
-abbrev pub RefusedByList : Type 0
-RefusedByList = (g : Group) (c : Call) (k : ℕ) → answer g c .says ≡ refusal k → inB k (listed c) ≡ true

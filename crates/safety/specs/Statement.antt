@@ -1,7 +1,7 @@
--- What stays true over any list of calls from any fresh group, and the one-byte sentence of demand 2: six claims about the rules that
--- every contract cites (`answer`, `next`). A call holds all that a peer hands in, messages and placed bytes, so "any list" is any peer,
--- lying or not. proofs/Theorem proves each. Assumes nothing.
-use Prim.Native.Nat.{ℕ, _+_, _-_, _*_, _≤_, _<_}
+-- What stays true over any list of calls from any fresh group, and the one-byte sentence of demand 2 with its twin for read: claims about
+-- the rules that every contract cites (`answer`, `next`). A call holds all that a peer hands in, messages and placed bytes, so "any list" is
+-- any peer, lying or not. proofs/Theorem and proofs/Progress prove them. Assumes nothing.
+use Prim.Native.Nat.{ℕ, _+_, _-_, _*_, _≤_, _<_, min}
 use mathlib.Core.Path.{_≡_}
 use mathlib.Core.Logic.{_⊎_}
 use mathlib.Core.Bool.{Bool, true, false, cond}
@@ -11,10 +11,12 @@ use lib.ListN.{length, take, drop, getD, getElem?, replicate}
 use Rattle.flow.specs.declared.Placing.{Placing}
 use Rattle.flow.specs.Flow.{roomOf}
 use Rattle.element.specs.Element.{baseOf, splice, intactB, freshElement, ringFrom}
+use Rattle.connection.specs.declared.Opening.{Opening}
 use Rattle.connection.specs.Connection.{coherentB}
 use Rattle.transmit.specs.Transmit.{sendForbids}
+use Rattle.receive.specs.Receive.{readForbids, unreadOf}
 use Rattle.table.specs.Table.{slotB, openB}
-use Rattle.table.specs.Rules.{Group, Request, send, place, read, shutdown, close, abort, openSlot, freeSlot, linkChange, linkMessage, Call, on, hear, manage, Says, refusal, accepted, sent, wasRead, torn, heard, answer, next, sizesOk, recordOf, elementIn, linkOf, holderOf, Fresh}
+use Rattle.rules.specs.Rules.{Group, Request, send, place, read, shutdown, close, abort, openSlot, freeSlot, linkChange, linkMessage, Call, on, hear, manage, Says, refusal, accepted, sent, wasRead, torn, heard, Answer, answer, next, sizesOk, recordOf, elementIn, linkOf, holderOf, Fresh}
 use Rattle.order.specs.Statement.{leaves, At}
 
 -- whatever calls are made of a fresh group, this holds of the group that they leave
@@ -76,7 +78,7 @@ placedBy abort e = e
 abbrev pub changedBy : ℕ → ℕ → Call → List ℕ → List ℕ
 changedBy N k (on j q) e = cond (eqb j k) (placedBy q e) e
 changedBy N k (hear b) e = e
-changedBy N k (manage (openSlot j own peer link size)) e = cond (eqb j k) (freshElement N) e
+changedBy N k (manage (openSlot j o)) e = cond (eqb j k) (freshElement N) e
 changedBy N k (manage (freeSlot j)) e = e
 changedBy N k (manage (linkChange l up)) e = e
 changedBy N k (manage (linkMessage l b)) e = e
@@ -99,29 +101,38 @@ AcceptedAt g cs i c = At cs i c × (answer (leaves g (take i cs)) c .says ≡ ac
 
 -- it opened slot k
 pub record Opens (g : Group) (cs : List Call) (i k : ℕ) : Type 0 where
-  pub own : ℕ
-  pub peer : ℕ
-  pub link : ℕ
-  pub size : ℕ
-  pub took : AcceptedAt g cs i (manage (openSlot k own peer link size))
+  pub given : Opening
+  pub took : AcceptedAt g cs i (manage (openSlot k given))
 
--- it stored the byte v at offset x of slot k's element
-pub record Stores (g : Group) (cs : List Call) (i k x v : ℕ) : Type 0 where
+-- it is a place on slot k that covers the byte at offset x
+pub record Covers (g : Group) (cs : List Call) (i k x : ℕ) : Type 0 where
   pub at : ℕ
   pub bytes : List ℕ
   pub took : AcceptedAt g cs i (on k (place at bytes))
   pub low : at ≤ x
   pub high : x < at + length bytes
-  pub byte : getD bytes (x - at) 0 ≡ v
 
--- the byte v was stored at offset x of slot k's element by a place on the connection that the slot has now: after its last open
-pub record Stored (g : Group) (cs : List Call) (k x v : ℕ) : Type 0 where
-  pub opening : ℕ
+-- number `opening` opened slot k, and no later one: the connection that the slot has now
+pub record LastOpen (g : Group) (cs : List Call) (opening k : ℕ) : Type 0 where
   pub opened : Opens g cs opening k
   pub last : (i : ℕ) → opening < i → Opens g cs i k → ⊥
+
+-- the byte v is that of the last place that covers offset x, of those on that connection: after its open
+pub record Stored (g : Group) (cs : List Call) (k x v : ℕ) : Type 0 where
+  pub opening : ℕ
+  pub open-last : LastOpen g cs opening k
   pub storing : ℕ
   pub since : opening < storing
-  pub stored : Stores g cs storing k x v
+  pub covers : Covers g cs storing k x
+  pub byte : getD (covers .bytes) (x - covers .at) 0 ≡ v
+  pub latest : (i : ℕ) → storing < i → Covers g cs i k x → ⊥
+
+-- the byte v is zero, as the open left it: no place on that connection covers offset x
+pub record Unstored (g : Group) (cs : List Call) (k x v : ℕ) : Type 0 where
+  pub opening : ℕ
+  pub open-last : LastOpen g cs opening k
+  pub none-since : (i : ℕ) → opening < i → Covers g cs i k x → ⊥
+  pub zero-byte : v ≡ 0
 
 -- where byte number i of a read stands in an element of N bytes: i bytes on from C, and from the end on at 4
 abbrev pub offsetFrom : ℕ → ℕ → ℕ → ℕ
@@ -131,8 +142,9 @@ offsetFrom N c i = cond (ltb (c + i) N) (c + i) (c + i - N + 4)
 pub record Handed (g : Group) (cs : List Call) (h : Group) (k n : ℕ) (out now : List ℕ) : Type 0 where
   -- n bytes of what the element must hold, from C on, stand in front, and out beyond n stays
   pub bytes : now ≡ take n (ringFrom (held g cs k) (offsetC h k)) ++ drop n out
-  -- each of the n is zero, or was stored by a place on that same connection after its open, at that very offset
-  pub each : (i : ℕ) → i < n → (getD now i 0 ≡ 0) ⊎ Stored g cs k (offsetFrom (g .N) (offsetC h k) i) (getD now i 0)
+  -- each of the n was stored last by a place on that same connection, at that very offset; or none was stored there, and it is zero
+  pub each : (i : ℕ) → i < n
+      → let x = offsetFrom (g .N) (offsetC h k) i in Stored g cs k x (getD now i 0) ⊎ Unstored g cs k x (getD now i 0)
 
 -- each element holds exactly what it must, and a read hands out bytes of that
 pub record NoneStale (g : Group) (cs : List Call) (h : Group) : Type 0 where
@@ -174,16 +186,45 @@ abbrev pub NobodyElses : Type 0
 NobodyElses = Always OwnTouched × OwnSeen
 
 -- THE ONE-BYTE SENTENCE. Given the right S, N and memory, an open, coherent connection that may send, with data offered, free room at
--- the peer and an active link, writes at least one byte: n is above 0, and the placings name n bytes in all. It holds of any group,
--- however it came about.
+-- the peer and an active link, writes at least one byte. It holds of any group, however it came about.
 abbrev pub totalOf : List Placing → ℕ
 totalOf [] = 0
 totalOf (p ∷ l) = p .len + totalOf l
+
+-- each placing lies in the data of an element of `size` bytes
+abbrev pub AllWithin : ℕ → List Placing → Type 0
+AllWithin size [] = Unit {0}
+AllWithin size (p ∷ l) = (4 ≤ p .offset) × (p .offset + p .len ≤ size) × AllWithin size l
+
+-- n is above 0 and at most what was offered, the placings name n bytes in all, each in the data of the peer's element, and a message is made
+pub record Writes (size offered : ℕ) (a : Answer) : Type 0 where
+  pub n : ℕ
+  pub placings : List Placing
+  pub says : a .says ≡ sent n placings
+  pub some : 0 < n
+  pub most : n ≤ offered
+  pub total : totalOf placings ≡ n
+  pub within : AllWithin size placings
+  pub told : a .made ≡ true
 
 abbrev pub OneByte : Type 0
 OneByte =
     (h : Group) (k : ℕ) (b : List ℕ) → sizesOk h ≡ true → OpenAt h k → coherentB (h .N) (recordOf h k) ≡ true
     → sendForbids (recordOf h k .marks) ≡ false → 0 < length b
-    → 0 < roomOf (recordOf h k .outbound .size) (recordOf h k .outbound .consumer) (recordOf h k .outbound .producer)
+    → 0 < roomOf (recordOf h k .remote .size) (recordOf h k .outbound .consumer) (recordOf h k .outbound .producer)
     → linkOf h k ≡ true
-    → (n : ℕ) × (p : List Placing) × (answer h (on k (send b)) .says ≡ sent n p) × (0 < n) × (totalOf p ≡ n)
+    → Writes (recordOf h k .remote .size) (length b) (answer h (on k (send b)))
+
+-- ITS TWIN FOR READ. Given the right S, N and memory, an open, coherent connection that may read, its element intact and its link active,
+-- reads the smaller of what is unread and the room in out: those bytes, from C on, are what it leaves in front of out.
+pub record Hands (h : Group) (k : ℕ) (out : List ℕ) (a : Answer) : Type 0 where
+  pub n : ℕ
+  pub smaller : n ≡ min (unreadOf (h .N) (recordOf h k .inbound)) (length out)
+  pub says : a .says ≡ wasRead n
+  pub bytes : a .out ≡ take n (ringFrom (elementIn h k) (offsetC h k)) ++ drop n out
+
+abbrev pub OneRead : Type 0
+OneRead =
+    (h : Group) (k : ℕ) (out : List ℕ) → sizesOk h ≡ true → OpenAt h k → coherentB (h .N) (recordOf h k) ≡ true
+    → readForbids (recordOf h k .marks) ≡ false → intactB (elementIn h k) ≡ true → linkOf h k ≡ true
+    → Hands h k out (answer h (on k (read out)))

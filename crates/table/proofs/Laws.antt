@@ -1,50 +1,46 @@
 -- Sizes, slots, links and the search by token: what each definition gives. Assumes nothing.
 use Prim.Native.Nat.{ℕ, zero, suc, _+_, _-_, _*_, _≤_, _<_}
 use mathlib.Core.Path.{_≡_, refl, sym, ap, _∙_}
-use mathlib.Core.Bool.{Bool, true, false}
+use mathlib.Core.Bool.{Bool, true, false, _&&_, not, cond}
 use mathlib.Core.List.{List, [], _∷_}
 use native.Mathlib.Numerals.{add-one}
 use native.Mathlib.Omega.{arith}
 use lib.Dec.{leb, eqb}
 use lib.ListN.{length, getD, drop, set, List·getD-eq-default, length-map, length-set}
-use lib.Seq.{drop-cons, getD-set-same, getD-set-other, set-out}
+use lib.Seq.{drop-cons, getD-set-same, getD-set-other, set-getD, set-out}
 use mir.Val.{Val}
 use denote.Laws.{Is}
-use borrow.Author.Tests.{le-leb, leb-true, eqb-true}
+use borrow.Author.Tests.{le-leb, leb-true, eqb-true, eq-eqb, ne-eqb}
 use borrow.Author.Needs.{length-unmapped}
 use Rattle.connection.specs.declared.Record.{Record}
-use Rattle.connection.specs.Connection.{zeroRecord}
+use Rattle.connection.specs.Connection.{leastSize, mostSize, zeroRecord}
 use Rattle.connection.proofs.Laws.{and-left, and-right, holds}
-use Rattle.table.specs.declared.Tables.{Tables}
-use Rattle.table.specs.Table.{sizesB, slotB, recordAt, openB, activeB, holdsB, orLater, lowest, findFrom, withRecord, withLink}
-use Rattle.table.proofs.Tables.{the-row}
+use Rattle.table.specs.declared.Links.{Links}
+use Rattle.table.specs.Table.{mostSlots, sizesB, slotB, recordAt, openB, activeB, holdsB, orLater, lowest, findFrom, holderIn, withRecord, withLink, foundOf}
+use Rattle.table.proofs.Links.{the-row}
 
 -- THE ARRAYS' LENGTHS, which a value of the type has
-module _ (t : Tables) (vs : List Val) (is : Is the-row t vs) where
-  pub table-length : length (t .table) ≡ 16
-  table-length = simp length-map at (is .1 .1 .0 .1 .0 .1)
-
-  pub links-length : length (t .links) ≡ 4
-  links-length = length-unmapped Bool (t .links) 4 (is .1 .1 .1 .0 .1 .0 .1)
+pub links-length : (l : Links) (vs : List Val) (is : Is the-row l vs) → length (l .active) ≡ 4
+links-length l vs is = length-unmapped Bool (l .active) 4 (is .1 .1 .0 .1 .0 .1)
 
 -- SIZES AND SLOTS: what a test that holds tells
 pub record Sizes (s n len : ℕ) : Type 0 where
   pub s-least : 1 ≤ s
-  pub s-most : s ≤ 16
-  pub n-least : 8 ≤ n
-  pub n-most : n ≤ 65540
+  pub s-most : s ≤ mostSlots
+  pub n-least : leastSize ≤ n
+  pub n-most : n ≤ mostSize
   pub len-is : len ≡ s * n
 
 module _ (s : ℕ) where
   pub sizes-facts : (n len : ℕ) → sizesB s n len ≡ true → Sizes s n len
   unfolding sizesB
   sizes-facts n len e =
-      let h = holds (leb 1 s ∷ leb s 16 ∷ leb 8 n ∷ leb n 65540 ∷ eqb len (s * n) ∷ []) e in
+      let h = holds (leb 1 s ∷ leb s mostSlots ∷ leb leastSize n ∷ leb n mostSize ∷ eqb len (s * n) ∷ []) e in
       record {
         s-least = leb-true 1 s (h 0);
-        s-most = leb-true s 16 (h 1);
-        n-least = leb-true 8 n (h 2);
-        n-most = leb-true n 65540 (h 3);
+        s-most = leb-true s mostSlots (h 1);
+        n-least = leb-true leastSize n (h 2);
+        n-most = leb-true n mostSize (h 3);
         len-is = eqb-true len (s * n) (h 4);
       }
 
@@ -59,6 +55,27 @@ module _ (s : ℕ) where
   pub open-facts : (t : List Record) (k : ℕ) → openB s t k ≡ true → (slotB s k ≡ true) × (recordAt t k .id .opened ≡ true)
   unfolding openB
   open-facts t k e = (and-left (slotB s k) (recordAt t k .id .opened) e, and-right (slotB s k) (recordAt t k .id .opened) e)
+
+-- refusals 1 and 2 stand first, whatever follows
+pub two-passed : (a b : Bool) (x : ℕ) → cond (not a) 1 (cond (not b) 2 x) ≡ 0 → (a ≡ true) × (b ≡ true)
+two-passed true true x e = (refl, refl)
+two-passed true false x e = absurd (omega arith)
+two-passed false b x e = absurd (omega arith)
+
+-- what is known where a slot is found
+module _ (s n len k : ℕ) (c : Record) (j : ℕ) (f : j ≡ foundOf s n len k c) (z : j ≡ 0) where
+  both : (sizesB s n len ≡ true) × (slotB s k && c .id .opened ≡ true)
+  unfolding foundOf
+  both = two-passed (sizesB s n len) (slotB s k && c .id .opened) 0 (sym f ∙ z)
+
+  pub found-sized : sizesB s n len ≡ true
+  found-sized = both .0
+
+  pub found-slot : slotB s k ≡ true
+  found-slot = and-left (slotB s k) (c .id .opened) (both .1)
+
+  pub found-open : c .id .opened ≡ true
+  found-open = and-right (slotB s k) (c .id .opened) (both .1)
 
 -- SLOTS AND LINKS, as the code counts them
 
@@ -120,6 +137,12 @@ module _ (t : List Record) where
       ∙ record-next (set t i c) j
       ∙ getD-set-other t i j c zeroRecord (λ e. h (ap suc e))
       ∙ sym (record-next t j)
+
+  -- the record that the slot has, put back
+  pub record-kept : (k : ℕ) → withRecord t k (recordAt t k) ≡ t
+  unfolding withRecord recordAt
+  record-kept zero = refl
+  record-kept (suc i) = set-getD t i zeroRecord
 
   pub with-length : (k : ℕ) (c : Record) → length (withRecord t k c) ≡ length t
   with-length zero c = ap length (with-low zero c (omega arith))
@@ -209,17 +232,28 @@ module _ (q : Record → Bool) where
       unfolding lowest
       done h = let e : s - i ≡ 0 = omega arith in rw e
 
--- where the search by token begins: at most as many slots as the table has
-pub begins : (t : List Record) (token s m : ℕ) → m ≡ s → rest (holdsB token) t m 0 ≡ findFrom t token s
-unfolding findFrom
-begins t token s m e = rest-all (holdsB token) t m ∙ ap (λ (k : ℕ). lowest (holdsB token) k t) e
+-- the search by token: none for the token 0
+pub holder-none : (s : ℕ) (t : List Record) (token : ℕ) → token ≡ 0 → 0 ≡ holderIn s t token
+unfolding holderIn
+holder-none s t token e = simp (eq-eqb token 0 e)
 
-pub begins-all : (t : List Record) (token s m : ℕ) → m ≡ length t → length t ≤ s → rest (holdsB token) t m 0 ≡ findFrom t token s
-unfolding findFrom
-begins-all t token s m e h =
-    rest-all (holdsB token) t m
-    ∙ ap (λ (k : ℕ). lowest (holdsB token) k t) e
-    ∙ sym (lowest-beyond (holdsB token) s t h)
+pub holder-some : (s : ℕ) (t : List Record) (token : ℕ) → (token ≡ 0 → ⊥) → holderIn s t token ≡ findFrom t token s
+unfolding holderIn
+holder-some s t token h = simp (ne-eqb token 0 h)
+
+-- where it begins: at most as many slots as the table has
+module _ (t : List Record) (token s : ℕ) (h : token ≡ 0 → ⊥) (m : ℕ) where
+  pub begins : m ≡ s → rest (holdsB token) t m 0 ≡ holderIn s t token
+  unfolding findFrom
+  begins e = rest-all (holdsB token) t m ∙ ap (λ (k : ℕ). lowest (holdsB token) k t) e ∙ sym (holder-some s t token h)
+
+  pub begins-all : m ≡ length t → length t ≤ s → rest (holdsB token) t m 0 ≡ holderIn s t token
+  unfolding findFrom
+  begins-all e l =
+      rest-all (holdsB token) t m
+      ∙ ap (λ (k : ℕ). lowest (holdsB token) k t) e
+      ∙ sym (lowest-beyond (holdsB token) s t l)
+      ∙ sym (holder-some s t token h)
 
 -- what a search finds: a slot that passes, and no lower one; and that it finds none
 module _ (q : Record → Bool) where

@@ -1,20 +1,25 @@
 -- Document 01, "The memory and the tables", "When the desk says no": sizes, slots, links, and the search by token.
 -- Assumes nothing.
 use Prim.Native.Nat.{ℕ, zero, suc, _*_}
-use mathlib.Core.Bool.{Bool, true, false, _&&_, cond}
+use mathlib.Core.Bool.{Bool, true, false, _&&_, not, cond}
 use mathlib.Core.List.{List, [], _∷_}
 use lib.Dec.{leb, eqb}
 use lib.ListN.{getD, set}
 use Rattle.connection.specs.declared.Record.{Record}
 use Rattle.connection.specs.declared.Outcome.{Outcome}
 use Rattle.connection.specs.declared.Reply.the-variants.{Refused}
-use Rattle.connection.specs.Connection.{every, zeroRecord, noMessage}
-use Rattle.table.specs.declared.Tables.{Tables}
+use Rattle.connection.specs.Connection.{leastSize, mostSize, mostLink, every, zeroRecord, noMessage}
+use Rattle.table.specs.declared.Links.{Links}
 use Rattle.table.specs.declared.Answered.{Answered}
+use Rattle.table.specs.declared.Turned.{Turned}
+
+-- the most elements that a memory has
+abbrev pub mostSlots : ℕ
+mostSlots = 16
 
 -- S from 1 to 16, N from 8 to 65,540, lent as S x N bytes
 unfoldable pub sizesB : ℕ → ℕ → ℕ → Bool
-sizesB s n len = every (leb 1 s ∷ leb s 16 ∷ leb 8 n ∷ leb n 65540 ∷ eqb len (s * n) ∷ [])
+sizesB s n len = every (leb 1 s ∷ leb s mostSlots ∷ leb leastSize n ∷ leb n mostSize ∷ eqb len (s * n) ∷ [])
 
 -- slot k, from 1 to S
 unfoldable pub slotB : ℕ → ℕ → Bool
@@ -29,7 +34,11 @@ recordAt t (suc i) = getD t i zeroRecord
 unfoldable pub openB : ℕ → List Record → ℕ → Bool
 openB s t k = slotB s k && recordAt t k .id .opened
 
--- link l, from 1 to 4, is active
+-- link l, from 1 to 4
+abbrev pub linkIn : ℕ → Bool
+linkIn l = leb 1 l && leb l mostLink
+
+-- it is active
 unfoldable pub activeB : List Bool → ℕ → Bool
 activeB links zero = false
 activeB links (suc i) = getD links i false
@@ -54,6 +63,10 @@ lowest q (suc s) (c ∷ t) = orLater (q c) (lowest q s t)
 unfoldable pub findFrom : List Record → ℕ → ℕ → ℕ
 findFrom t token s = lowest (holdsB token) s t
 
+-- the same, where no slot has the token 0
+unfoldable pub holderIn : ℕ → List Record → ℕ → ℕ
+holderIn s t token = cond (eqb token 0) 0 (findFrom t token s)
+
 -- another record in slot k, and every other slot as it was
 unfoldable pub withRecord : List Record → ℕ → Record → List Record
 withRecord t zero c = t
@@ -63,14 +76,21 @@ unfoldable pub withLink : List Bool → ℕ → Bool → List Bool
 withLink l zero up = l
 withLink l (suc i) up = set l i up
 
-unfoldable pub setRecord : Tables → ℕ → Record → Tables
-setRecord t k c = record { table = withRecord (t .table) k c; links = t .links }
+-- WHAT THE CODE ANSWERS. What a call on slot k, whose record is c, tests first: 1, then 2 (outside 1 to S, or closed); 0: neither
+unfoldable pub foundOf : ℕ → ℕ → ℕ → ℕ → Record → ℕ
+foundOf s n len k c = cond (not (sizesB s n len)) 1 (cond (not (slotB s k && c .id .opened)) 2 0)
 
-unfoldable pub setLink : Tables → ℕ → Bool → Tables
-setLink t l up = record { table = t .table; links = withLink (t .links) l up }
+unfoldable pub refusedBy : ℕ → Links → Answered
+refusedBy k l = record { reply = Refused k; made = false; message = noMessage; links = l }
 
-unfoldable pub refusedBy : ℕ → Tables → Answered
-refusedBy k t = record { reply = Refused k; made = false; message = noMessage; tables = t }
+-- an answer, and the record as it was
+unfoldable pub keptBy : Record → Answered → Turned
+keptBy c a = record { after = c; answer = a }
 
-unfoldable pub putBy : Tables → ℕ → Outcome → Answered
-putBy t k o = record { reply = o .reply; made = o .made; message = o .message; tables = setRecord t k (o .after) }
+-- what the step of one record gave
+unfoldable pub turnedBy : Links → Outcome → Turned
+turnedBy l o = record { after = o .after; answer = record { reply = o .reply; made = o .made; message = o .message; links = l } }
+
+-- refusal j, or, where that is 0, what the step of the record c gave
+unfoldable pub settledBy : ℕ → Links → Record → Outcome → Turned
+settledBy j l c o = cond (eqb j 0) (turnedBy l o) (keptBy c (refusedBy j l))

@@ -1,24 +1,33 @@
-// The connection table and the links, by value: sizes, slots, links, the search by token, and putting a record back
-// (document 01, "The memory and the tables", "When the desk says no").
+// The connection table, by value, and the links: sizes, slots, links, the search by token, putting a record back, and what a call on one
+// record answers (document 01, "The memory and the tables", "When the desk says no").
 ghost use mathlib.Core.Path.{_≡_};
+ghost use mathlib.Core.Bool.{cond};
 ghost use Prim.Native.Nat.{ℕ, _+_, _*_, _≤_, _<_};
-ghost use Rattle.table.specs.Table.{sizesB, slotB, recordAt, openB, activeB, holdsB, findFrom, setRecord, setLink, refusedBy, putBy};
+ghost use Rattle.table.specs.Table.{sizesB, slotB, recordAt, linkIn, activeB, holderIn, withRecord, withLink};
+ghost use Rattle.table.specs.Table.{foundOf, refusedBy, keptBy, turnedBy, settledBy};
 use connection::Outcome;
 use connection::Record;
 use connection::Reply;
 
-// Slot k of the table belongs to element k, k from 1 up; links are active or down.
-pub struct Tables {
-    pub table: [Record; 16],
-    pub links: [bool; 4],
+pub const MOST_SLOTS: usize = 16;
+
+// The four links, active or down.
+pub struct Links {
+    pub active: [bool; 4],
 }
 
-// What a call answers: what its line names, the message's bytes where one was made (else zeros), and the tables that it leaves.
+// What a call answers: what its line names, the message's bytes where one was made (else zeros), and the links that it leaves.
 pub struct Answered {
     pub reply: Reply,
     pub made: bool,
     pub message: [u8; 44],
-    pub tables: Tables,
+    pub links: Links,
+}
+
+// What a call on one record answers, and the record that it leaves.
+pub struct Turned {
+    pub after: Record,
+    pub answer: Answered,
 }
 
 // Refusal 1's case is the opposite: S, N and the memory's length are right.
@@ -28,13 +37,13 @@ pub fn sizes_ok(s: u32, n: u32, len: usize) -> bool
     if s < 1 {
         return false;
     }
-    if 16 < s {
+    if MOST_SLOTS < s as usize {
         return false;
     }
-    if n < 8 {
+    if n < connection::LEAST_SIZE {
         return false;
     }
-    if 65540 < n {
+    if connection::MOST_SIZE < n {
         return false;
     }
     len == (s as usize) * (n as usize)
@@ -47,114 +56,160 @@ pub fn slot_ok(s: u32, slot: u32) -> bool
     (1 <= slot) & (slot <= s)
 }
 
-// The record of a slot from 1 to 16; all zeros for any other.
-pub fn record_at(t: Tables, slot: u32) -> Record
-    ensures { λ r. ⌜ r ≡ recordAt (t .table) slot ⌝ }
+// Whether the link is one of 1 to 4.
+pub fn link_ok(link: u8) -> bool
+    ensures { λ r. ⌜ r ≡ linkIn link ⌝ }
 {
-    if slot < 1 {
-        return connection::zero_record();
-    }
-    if 16 < slot {
-        return connection::zero_record();
-    }
-    let i = slot as usize - 1;
-    t.table[i]
-}
-
-// Whether the slot is one of 1 to s, and open.
-pub fn is_open(s: u32, t: Tables, slot: u32) -> bool
-    ensures { λ r. ⌜ r ≡ openB s (t .table) slot ⌝ }
-{
-    let c = record_at(t, slot);
-    slot_ok(s, slot) & c.id.opened
+    (1 <= link) & (link <= connection::MOST_LINK)
 }
 
 // Whether the link is one of 1 to 4, and active.
-pub fn link_active(t: Tables, link: u8) -> bool
-    ensures { λ r. ⌜ r ≡ activeB (t .links) link ⌝ }
+pub fn link_active(links: Links, link: u8) -> bool
+    ensures { λ r. ⌜ r ≡ activeB (links .active) link ⌝ }
 {
     if link < 1 {
         return false;
     }
-    if 4 < link {
+    if connection::MOST_LINK < link {
         return false;
     }
     let k = link as usize - 1;
-    t.links[k]
+    links.active[k]
 }
 
-// The lowest of the slots 1 to s, at most 16, that is open with this token; 0 for none.
-pub fn find(s: u32, t: Tables, token: u32) -> u32
-    ensures { λ r. ⌜ r ≡ findFrom (t .table) token s ⌝ }
+// The links with one from 1 to 4 set.
+pub fn set_link(links: Links, link: u8, up: bool) -> Links
+    ensures { λ r. ⌜ r .active ≡ withLink (links .active) link up ⌝ }
 {
-    let table = t.table;
-    let most = if s <= 16 { s as usize } else { 16 };
+    if link < 1 {
+        return links;
+    }
+    if connection::MOST_LINK < link {
+        return links;
+    }
+    let i = link as usize - 1;
+    let mut next = links;
+    next.active[i] = up;
+    next
+}
+
+// The record of a slot; all zeros for a slot outside the table.
+pub fn record_at(table: [Record; MOST_SLOTS], slot: usize) -> Record
+    ensures { λ r. ⌜ r ≡ recordAt table slot ⌝ }
+{
+    if slot < 1 {
+        return connection::zero_record();
+    }
+    if MOST_SLOTS < slot {
+        return connection::zero_record();
+    }
+    let i = slot - 1;
+    table[i]
+}
+
+// Another record in a slot; nothing changes for a slot outside the table.
+pub fn put_record(table: [Record; MOST_SLOTS], slot: usize, c: Record) -> [Record; MOST_SLOTS]
+    ensures { λ r. ⌜ r ≡ withRecord table slot c ⌝ }
+{
+    if slot < 1 {
+        return table;
+    }
+    if MOST_SLOTS < slot {
+        return table;
+    }
+    let at = slot - 1;
+    let mut next = table;
+    next[at] = c;
+    next
+}
+
+// The lowest of the slots 1 to s that is open with this token; 0 for none, and for the token 0.
+pub fn find(s: u32, table: [Record; MOST_SLOTS], token: u32) -> usize
+    ensures { λ r. ⌜ r ≡ holderIn s table token ⌝ }
+{
+    if token == 0 {
+        return 0;
+    }
+    let most = if s as usize <= MOST_SLOTS {
+        s as usize
+    } else {
+        MOST_SLOTS
+    };
     let mut i: usize = 0;
     while i < most {
         let c = table[i];
         if c.id.opened & (c.id.own == token) {
-            return (i + 1) as u32;
+            return i + 1;
         }
         i += 1;
     }
     0
 }
 
-// The tables with another record in a slot from 1 to 16.
-pub fn set_record(t: Tables, slot: u32, c: Record) -> Tables
-    ensures { λ r. ⌜ r ≡ setRecord t slot c ⌝ }
+// A refusal's number where the test holds, else what is refused otherwise.
+pub fn refusal_if(test: bool, number: u8, otherwise: u8) -> u8
+    ensures { λ r. ⌜ r ≡ cond test number otherwise ⌝ }
 {
-    if slot < 1 {
-        return t;
-    }
-    if 16 < slot {
-        return t;
-    }
-    let at = slot as usize - 1;
-    let mut next = t;
-    next.table[at] = c;
-    next
+    if test { number } else { otherwise }
 }
 
-// The tables with a link from 1 to 4 set.
-pub fn set_link(t: Tables, link: u8, up: bool) -> Tables
-    ensures { λ r. ⌜ r ≡ setLink t link up ⌝ }
+// What a call on a slot with the record c tests first: 1, then 2; 0 for neither.
+pub fn found(s: u32, n: u32, len: usize, slot: u32, c: Record) -> u8
+    ensures { λ r. ⌜ r ≡ foundOf s n len slot c ⌝ }
 {
-    if link < 1 {
-        return t;
-    }
-    if 4 < link {
-        return t;
-    }
-    let i = link as usize - 1;
-    let mut next = t;
-    next.links[i] = up;
-    next
+    let wrong = !sizes_ok(s, n, len);
+    let closed = !(slot_ok(s, slot) & c.id.opened);
+    refusal_if(wrong, 1, refusal_if(closed, 2, 0))
 }
 
-// A refusal: its number, and the tables as they were.
-pub fn refuse(k: u8, t: Tables) -> Answered
-    ensures { λ r. ⌜ r ≡ refusedBy k t ⌝ }
+// A refusal: its number, and the links as they were.
+pub fn refuse(k: u8, links: Links) -> Answered
+    ensures { λ r. ⌜ r ≡ refusedBy k links ⌝ }
 {
     Answered {
         reply: Reply::Refused(k),
         made: false,
         message: [0u8; 44],
-        tables: t,
+        links: links,
     }
 }
 
-// What the one-record step answered, and its record put back.
-pub fn put(t: Tables, slot: u32, o: Outcome) -> Answered
-    ensures { λ r. ⌜ r ≡ putBy t slot o ⌝ }
+// An answer, and the record as it was.
+pub fn kept(c: Record, answer: Answered) -> Turned
+    ensures { λ r. ⌜ r ≡ keptBy c answer ⌝ }
 {
-    let next = set_record(t, slot, o.after);
+    Turned {
+        after: c,
+        answer: answer,
+    }
+}
+
+// What the step of one record gave, beside the links.
+fn turned_by(links: Links, o: Outcome) -> Turned
+    ensures { λ r. ⌜ r ≡ turnedBy links o ⌝ }
+{
     let reply = o.reply;
     let bytes = o.message;
-    Answered {
+    let after = o.after;
+    let answer = Answered {
         reply: reply,
         made: o.made,
         message: bytes,
-        tables: next,
+        links: links,
+    };
+    Turned {
+        after: after,
+        answer: answer,
+    }
+}
+
+// Refusal `no`, the record c as it was; or, where that is 0, what the step of the record gave.
+pub fn settled(no: u8, links: Links, c: Record, o: Outcome) -> Turned
+    ensures { λ r. ⌜ r ≡ settledBy no links c o ⌝ }
+{
+    if no == 0 {
+        turned_by(links, o)
+    } else {
+        kept(c, refuse(no, links))
     }
 }

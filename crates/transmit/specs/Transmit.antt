@@ -12,7 +12,7 @@ use Rattle.connection.specs.declared.Outbound.{Outbound}
 use Rattle.connection.specs.declared.Record.{Record}
 use Rattle.connection.specs.declared.Reply.the-variants.{Sent}
 use Rattle.connection.specs.declared.Outcome.{Outcome}
-use Rattle.connection.specs.Connection.{refusalOf, refusedOf, outcomeOf}
+use Rattle.connection.specs.Connection.{qTo, blockedTo, outboundTo, refusalOf, refusedOf, outcomeOf}
 
 -- 7: send after D, C or A sent or C heard
 unfoldable pub sendForbids : Marks → Bool
@@ -20,31 +20,36 @@ sendForbids m = m .sent .done || (m .sent .closed || (m .abort || m .heard .clos
 
 -- it takes n, the smaller of room and length
 unfoldable pub nOf : Record → ℕ → ℕ
-nOf c len = takenOf (roomOf (c .outbound .size) (c .outbound .consumer) (c .outbound .producer)) len
+nOf rec len =
+    let q = rec .outbound .producer in
+    let r = rec .outbound .consumer in
+    takenOf (roomOf (rec .remote .size) r q) len
 
 -- Q moves by n; with bytes offered, B becomes "n is less than the length"
-unfoldable pub producedOut : Outbound → ℕ → ℕ → Outbound
-producedOut o n len =
-    record { size = o .size; producer = stepOf (o .size) (o .producer) n; consumer = o .consumer; next = o .next; blocked = ltb n len }
+unfoldable pub producedOut : ℕ → Outbound → ℕ → ℕ → Outbound
+producedOut N' o n len =
+    let q = o .producer in
+    blockedTo (qTo o (stepOf N' q n)) (ltb n len)
 
 unfoldable pub producedOf : Record → ℕ → ℕ → Record
-producedOf c n len = record { id = c .id; inbound = c .inbound; outbound = producedOut (c .outbound) n len; marks = c .marks }
+producedOf rec n len = outboundTo rec (producedOut (rec .remote .size) (rec .outbound) n len)
 
--- a message is made if n is above 0, or if bytes are left over and B was not yet told (our B on is a B told: the send that turns it on makes
--- a message)
+-- a message is made if n is above 0, or if bytes are left over and B was not yet told (our B on is a B told: the send that turns it on
+-- makes a message)
 unfoldable pub tellsOf : Record → ℕ → ℕ → Bool
-tellsOf c n len = ltb 0 n || (ltb n len && not (c .outbound .blocked))
+tellsOf rec n len = ltb 0 n || (ltb n len && not (rec .outbound .blocked))
 
 -- the answer names n and at most two placings
 unfoldable pub sentOf : Record → ℕ → Outcome
-sentOf c len =
-    let n = nOf c len in
-    outcomeOf (Sent n (placingsOf (c .outbound .size) (c .outbound .producer) n)) (tellsOf c n len) (producedOf c n len)
+sentOf rec len =
+    let q = rec .outbound .producer in
+    let n = nOf rec len in
+    outcomeOf (Sent n (placingsOf (rec .remote .size) q n)) (tellsOf rec n len) (producedOf rec n len)
 
 -- nothing offered: n is 0, no message, no change
 unfoldable pub sendOf : ℕ → Bool → Record → ℕ → Outcome
-sendOf N active c len =
-    let no = refusalOf N active c (sendForbids (c .marks)) in
+sendOf N active rec len =
+    let no = refusalOf N active rec (sendForbids (rec .marks)) in
     cond (eqb no 0)
-    (cond (eqb len 0) (outcomeOf (Sent 0 Nowhere) false c) (sentOf c len))
-    (refusedOf no c)
+    (cond (eqb len 0) (outcomeOf (Sent 0 Nowhere) false rec) (sentOf rec len))
+    (refusedOf no rec)

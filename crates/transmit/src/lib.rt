@@ -15,11 +15,10 @@ fn forbids(m: Marks) -> bool
     m.sent.done | (m.sent.closed | (m.abort | m.heard.closed))
 }
 
-// The outbound half with k of len bytes taken.
-fn produced_out(o: Outbound, k: u32, len: usize) -> Outbound
-    ensures { λ r. ⌜ r ≡ producedOut o k len ⌝ }
+// The outbound half with k of len bytes taken, for an element of `size` bytes.
+fn produced_out(size: u32, o: Outbound, k: u32, len: usize) -> Outbound
+    ensures { λ r. ⌜ r ≡ producedOut size o k len ⌝ }
 {
-    let size = o.size;
     let q = o.producer;
     let moved = cursor::step(size, q, k);
     let left = (k as usize) < len;
@@ -29,41 +28,41 @@ fn produced_out(o: Outbound, k: u32, len: usize) -> Outbound
     next
 }
 
-fn produced(c: Record, k: u32, len: usize) -> Record
-    ensures { λ r. ⌜ r ≡ producedOf c k len ⌝ }
+fn produced(rec: Record, k: u32, len: usize) -> Record
+    ensures { λ r. ⌜ r ≡ producedOf rec k len ⌝ }
 {
-    let o = produced_out(c.outbound, k, len);
-    let mut next = c;
+    let o = produced_out(rec.remote.size, rec.outbound, k, len);
+    let mut next = rec;
     next.outbound = o;
     next
 }
 
 // Bytes are offered.
-fn sent(c: Record, len: usize) -> Outcome
-    ensures { λ r. ⌜ r ≡ sentOf c len ⌝ }
+fn sent(rec: Record, len: usize) -> Outcome
+    ensures { λ r. ⌜ r ≡ sentOf rec len ⌝ }
 {
-    let o = c.outbound;
-    let size = o.size;
+    let size = rec.remote.size;
+    let o = rec.outbound;
     let q = o.producer;
-    let a = o.consumer;
-    let room = flow::room(size, a, q);
+    let r = o.consumer;
+    let room = flow::room(size, r, q);
     let k = flow::taken(room, len);
     let placings = flow::placings_of(size, q, k);
     let tells = (0 < k) | (((k as usize) < len) & !o.blocked);
-    let next = produced(c, k, len);
+    let next = produced(rec, k, len);
     connection::outcome_of(Reply::Sent(k, placings), tells, next)
 }
 
 // Send of `len` bytes, in a group whose elements have n bytes, on a link that is active or not.
-pub fn send(n: u32, active: bool, c: Record, len: usize) -> Outcome
-    ensures { λ r. ⌜ r ≡ sendOf n active c len ⌝ }
+pub fn send(n: u32, active: bool, rec: Record, len: usize) -> Outcome
+    ensures { λ r. ⌜ r ≡ sendOf n active rec len ⌝ }
 {
-    let no = connection::refusal(n, active, c, forbids(c.marks));
+    let no = connection::refusal(n, active, rec, forbids(rec.marks));
     if no != 0 {
-        return connection::refused(no, c);
+        return connection::refused(no, rec);
     }
     if len == 0 {
-        return connection::outcome_of(Reply::Sent(0, Placings::Nowhere), false, c);
+        return connection::outcome_of(Reply::Sent(0, Placings::Nowhere), false, rec);
     }
-    sent(c, len)
+    sent(rec, len)
 }

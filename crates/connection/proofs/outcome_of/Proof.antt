@@ -19,9 +19,12 @@ unfolding outcomeOf
 returns c =
     simp (c .before .before .before .if1 .taken, c .before .encode .ensures, c .before .before .message-of .ensures, c .told .ensures)
 
+silent-requires : tie.Need-silent-requires
+silent-requires c κs = search needs
+
 returns-2 : tie.Need-returns-2
 unfolding outcomeOf
-returns-2 c = simp (c .if1 .left)
+returns-2 c = simp (c .before .if1 .left, c .silent .ensures)
 
 pub outcome-of-spec : {M : Type 1} → statement M
-outcome-of-spec = tie.close (tie.spec message-of-requires encode-requires told-requires returns returns-2)
+outcome-of-spec = tie.close (tie.spec message-of-requires encode-requires told-requires returns silent-requires returns-2)

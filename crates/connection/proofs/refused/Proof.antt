@@ -1,13 +1,16 @@
 -- `connection::refused` meets its contract.
 -- Assumes nothing.
-use mathlib.Core.Path.{refl}
+use borrow.Author.Needs.{needs}
 use Rattle.connection.specs.Connection.{refusedOf}
 use Rattle.connection.proofs.refused.Statement.{statement}
 use Rattle.connection.proofs.refused.Tie as tie
 
+silent-requires : tie.Need-silent-requires
+silent-requires c κs = search needs
+
 returns : tie.Need-returns
 unfolding refusedOf
-returns c = refl
+returns c = c .silent .ensures
 
 pub refused-spec : {M : Type 1} → statement M
-refused-spec = tie.close (tie.spec returns)
+refused-spec = tie.close (tie.spec silent-requires returns)

@@ -13,9 +13,7 @@ used-in-requires c κs = search needs
 
 returns : tie.Need-returns
 unfolding toldOf
-returns c =
-    let a = c .before .before .before .before .args in
-    λ i. record { id = a .c .id; inbound = c .before .told-in .ensures i; outbound = c .used-in .ensures i; marks = a .c .marks }
+returns c = simp (c .before .told-in .ensures, c .used-in .ensures)
 
 pub told-spec : {M : Type 1} → statement M
 told-spec = tie.close (tie.spec told-in-requires used-in-requires returns)

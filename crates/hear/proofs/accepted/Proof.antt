@@ -32,7 +32,7 @@ returns c =
     let h = o .before .before .before .before in
     let d = h .before .before in
     let a = d .before .before .before .args in
-    accepted-parts (a .n) (a .c) (a .m) _ _ _ _ _ _ _
+    accepted-parts (a .n) (a .rec) (a .m) _ _ _ _ _ _ _
     (d .data-size .ensures)
     (h .before .gap .ensures .0)
     (h .heard .ensures)

@@ -1,6 +1,7 @@
 -- `hear::heard` meets its contract.
 -- Assumes nothing.
 use borrow.Author.Needs.{needs}
+use Rattle.connection.specs.Connection.{marksTo}
 use Rattle.hear.specs.Hear.{heardRecord}
 use Rattle.hear.proofs.heard.Statement.{statement}
 use Rattle.hear.proofs.heard.Tie as tie
@@ -15,7 +16,7 @@ marks-heard-requires : tie.Need-marks-heard-requires
 marks-heard-requires c κs = search needs
 
 returns : tie.Need-returns
-unfolding heardRecord
+unfolding heardRecord marksTo
 returns c = simp (c .before .before .heard-in .ensures, c .before .heard-out .ensures, c .marks-heard .ensures)
 
 pub heard-spec : {M : Type 1} → statement M

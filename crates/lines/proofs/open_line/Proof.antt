@@ -1,6 +1,6 @@
 -- `lines::open_line` is safe and ends: five numbers and the rest of the line leave fewer bytes to come. Assumes nothing.
-use borrow.Author.Needs.{needs}
 use native.Mathlib.Omega.{arith}
+use borrow.Author.Needs.{needs}
 use Rattle.lines.proofs.open_line.Statement.{statement}
 use Rattle.lines.proofs.open_line.Tie as tie
 
@@ -19,8 +19,8 @@ number-requires-4 c κs = search needs
 number-requires-5 : tie.Need-number-requires-5
 number-requires-5 c κs = search needs
 
-cast-t14 : tie.Need-cast-t14
-cast-t14 c = search needs
+cast-t16 : tie.Need-cast-t16
+cast-t16 c = search needs
 
 ended-requires : tie.Need-ended-requires
 ended-requires c κs = search needs
@@ -37,6 +37,6 @@ open-line-spec =
     number-requires-3
     number-requires-4
     number-requires-5
-    cast-t14
+    cast-t16
     ended-requires
     returns)

@@ -5,32 +5,33 @@ use mathlib.Core.Path.{_≡_, sym, _∙_}
 use mathlib.Core.Logic.{⊎-elim}
 use native.Mathlib.Omega.{arith}
 use Rattle.connection.specs.Connection.{zeroRecord}
-use Rattle.table.specs.Table.{holdsB, findFrom}
-use Rattle.table.proofs.Laws.{table-length, rest, begins, begins-all, hit, miss, done}
+use Rattle.table.specs.Table.{mostSlots, holdsB, holderIn}
+use Rattle.table.proofs.Laws.{holder-none, rest, begins, begins-all, hit, miss, done}
 use Rattle.table.proofs.find.Statement.{statement}
 use Rattle.table.proofs.find.Tie as tie
 
 abbrev Inv-loop : tie.InvT-loop
-Inv-loop s token table most i₀ i = (i ≤ most) × (most ≤ 16) × (rest (holdsB token) table most i ≡ findFrom table token s)
+Inv-loop s token table most i₀ i = (i ≤ most) × (most ≤ mostSlots) × (rest (holdsB token) table most i ≡ holderIn s table token)
 
 abbrev μ-loop : tie.MeasureT-loop
 μ-loop s token table most i₀ i = most - i
 
 loop-holds : tie.Need-loop-holds Inv-loop μ-loop
 loop-holds c =
-    let b = c .before .before in
+    let z = c .before in
+    let b = z .before in
     let a = b .args in
-    let l = table-length (a .t) _ (b .good .1 .0) in
+    let l = b .good .1 .0 .1 .0 .1 in
     ⊎-elim
     (λ w.
     let t = w .0 .taken in
     let e = w .1 in
-    (omega arith, omega arith, begins (a .t .table) (a .token) (a .s) (c .if1 .most) (w .1)))
+    (omega arith, omega arith, begins (a .t2) (a .token) (a .s) (z .if1 .left) (c .if2 .most) (w .1)))
     (λ w.
     let t = w .0 .left in
     let e = w .1 in
-    (omega arith, omega arith, begins-all (a .t .table) (a .token) (a .s) (c .if1 .most) (omega arith) (omega arith)))
-    (c .if1 .came)
+    (omega arith, omega arith, begins-all (a .t2) (a .token) (a .s) (z .if1 .left) (c .if2 .most) (omega arith) (omega arith)))
+    (c .if2 .came)
 
 mul-c : tie.Need-mul-c Inv-loop μ-loop
 mul-c c = omega arith
@@ -41,17 +42,17 @@ array-copy-out-c c = omega arith
 add-result : tie.Need-add-result Inv-loop μ-loop
 add-result c = omega arith
 
-cast-result : tie.Need-cast-result Inv-loop μ-loop
-cast-result c = omega arith
-
 returns : tie.Need-returns Inv-loop μ-loop
+returns c = holder-none _ _ _ (c .if1 .taken)
+
+returns-2 : tie.Need-returns-2 Inv-loop μ-loop
 unfolding holdsB zeroRecord
-returns c =
+returns-2 c =
     let b = c .before .before .before .before .before in
     let s = b .before .before .before in
     let a = s .args in
-    let l = table-length (a .t) _ (s .good .1 .0) in
-    sym (hit (holdsB (a .token)) (a .t .table) (b .before .if1 .most) (b .loop .i) (omega arith) (omega arith) (c .if2 .taken))
+    let l = s .good .1 .0 .1 .0 .1 in
+    sym (hit (holdsB (a .token)) (a .t2) (b .before .if2 .most) (b .loop .i) (omega arith) (omega arith) (c .if3 .taken))
     ∙ b .loop .inv .2
 
 add-i : tie.Need-add-i Inv-loop μ-loop
@@ -66,13 +67,13 @@ loop-again c =
     let b = c .before .before .before .before .before in
     let s = b .before .before .before in
     let a = s .args in
-    let l = table-length (a .t) _ (s .good .1 .0) in
-    let m = miss (holdsB (a .token)) (a .t .table) (b .before .if1 .most) (b .loop .i) (omega arith) (omega arith) (c .if2 .left) in
+    let l = s .good .1 .0 .1 .0 .1 in
+    let m = miss (holdsB (a .token)) (a .t2) (b .before .if2 .most) (b .loop .i) (omega arith) (omega arith) (c .if3 .left) in
     (omega arith, omega arith, sym m ∙ b .loop .inv .2)
 
-returns-2 : tie.Need-returns-2 Inv-loop μ-loop
-returns-2 c = let b = c .before in let a = b .before .before .before .args in
-    sym (done (holdsB (a .token)) (a .t .table) (b .before .if1 .most) (b .loop .i) (omega arith)) ∙ b .loop .inv .2
+returns-3 : tie.Need-returns-3 Inv-loop μ-loop
+returns-3 c = let b = c .before in let a = b .before .before .before .args in
+    sym (done (holdsB (a .token)) (a .t2) (b .before .if2 .most) (b .loop .i) (omega arith)) ∙ b .loop .inv .2
 
 pub find-spec : {M : Type 1} → statement M
 find-spec =
@@ -80,13 +81,13 @@ find-spec =
     (tie.spec
     Inv-loop
     μ-loop
+    returns
     loop-holds
     mul-c
     array-copy-out-c
     add-result
-    cast-result
-    returns
+    returns-2
     add-i
     loop-less
     loop-again
-    returns-2)
+    returns-3)

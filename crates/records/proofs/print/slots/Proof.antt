@@ -1,23 +1,24 @@
--- `records::print::slots` is safe and ends: the loop over the slots counts up to 16. Assumes nothing.
+-- `records::print::slots` is safe and ends: the loop over the slots counts up to the most that a table has. Assumes nothing.
 use borrow.Author.Needs.{needs}
 use Prim.Native.Nat.{_-_, _≤_}
+use Rattle.table.specs.Table.{mostSlots}
 use Rattle.records.proofs.print.slots.Statement.{statement}
 use Rattle.records.proofs.print.slots.Tie as tie
 
 abbrev Inv-loop : tie.InvT-loop
-Inv-loop o₀ at table to₀ k₀ o to k = k ≤ 16
+Inv-loop o₀ at table to₀ k₀ o to k = k ≤ mostSlots
 
 abbrev μ-loop : tie.MeasureT-loop
-μ-loop o₀ at table to₀ k₀ o to k = 16 - k
+μ-loop o₀ at table to₀ k₀ o to k = mostSlots - k
 
 loop-holds : tie.Need-loop-holds Inv-loop μ-loop
 loop-holds c = search needs
 
-mul-c : tie.Need-mul-c Inv-loop μ-loop
-mul-c c = search needs
+mul-rec : tie.Need-mul-rec Inv-loop μ-loop
+mul-rec c = search needs
 
-array-copy-out-c : tie.Need-array-copy-out-c Inv-loop μ-loop
-array-copy-out-c c = search needs
+array-copy-out-rec : tie.Need-array-copy-out-rec Inv-loop μ-loop
+array-copy-out-rec c = search needs
 
 add-k : tie.Need-add-k Inv-loop μ-loop
 add-k c = search needs
@@ -41,8 +42,8 @@ slots-spec =
     Inv-loop
     μ-loop
     loop-holds
-    mul-c
-    array-copy-out-c
+    mul-rec
+    array-copy-out-rec
     add-k
     slot-requires
     loop-less

@@ -19,8 +19,8 @@ number-requires-4 c κs = search needs
 number-requires-5 : tie.Need-number-requires-5
 number-requires-5 c κs = search needs
 
-cast-t16 : tie.Need-cast-t16
-cast-t16 c = search needs
+cast-t17 : tie.Need-cast-t17
+cast-t17 c = search needs
 
 returns : tie.Need-returns
 returns c = omega (arith, c .before .before .before .before .before .before .before)
@@ -34,5 +34,5 @@ who-of-spec =
     number-requires-3
     number-requires-4
     number-requires-5
-    cast-t16
+    cast-t17
     returns)

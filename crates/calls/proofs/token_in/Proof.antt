@@ -1,0 +1,26 @@
+-- `calls::token_in` meets its contract. Assumes nothing.
+use mathlib.Core.Path.{sym, ap, _∙_}
+use borrow.Author.Needs.{needs}
+use Rattle.calls.specs.Calls.{tokenIn, tokenIs}
+use Rattle.calls.proofs.token_in.Statement.{statement}
+use Rattle.calls.proofs.token_in.Tie as tie
+
+decode-requires : tie.Need-decode-requires
+decode-requires c κs = search needs
+
+enum-known-what : tie.Need-enum-known-what
+enum-known-what c = search needs
+
+enum-told : tie.Need-enum-told
+enum-told c = search needs
+
+returns : tie.Need-returns
+unfolding tokenIn
+returns c = ap tokenIs (sym (c .before .what .given .1) ∙ c .before .before .before .decode .ensures)
+
+returns-2 : tie.Need-returns-2
+unfolding tokenIn
+returns-2 c = ap tokenIs (sym (c .enum-told .given .1) ∙ c .before .before .decode .ensures)
+
+pub token-in-spec : {M : Type 1} → statement M
+token-in-spec = tie.close (tie.spec decode-requires enum-known-what enum-told returns returns-2)

@@ -1,0 +1,236 @@
+-- Each call of management, from what its parts gave: the answer and the group that is left are what the rules say. Assumes nothing.
+use Prim.Native.Nat.{ℕ}
+use mathlib.Core.Path.{_≡_, refl, sym, ap, _∙_, subst}
+use mathlib.Core.Bool.{Bool, true, false, _&&_, _||_, not, cond}
+use mathlib.Core.List.{List, []}
+use lib.Dec.{ltb, eqb}
+use lib.ListN.{length}
+use borrow.Author.Tests.{eq-eqb, ne-eqb, eqb-false}
+use Rattle.llc.specs.declared.Kind.{Kind}
+use Rattle.llc.specs.declared.Kind.the-variants as Kinds
+use Rattle.llc.specs.declared.Received.{Received}
+use Rattle.llc.specs.Llc.{receivedOf}
+use Rattle.element.specs.Element.{baseOf, freshElement, clearedOf}
+use Rattle.connection.specs.declared.Record.{Record}
+use Rattle.connection.specs.declared.Opening.{Opening}
+use Rattle.connection.specs.declared.Outcome.{Outcome}
+use Rattle.connection.specs.declared.Reply.the-variants.{Accepted}
+use Rattle.connection.specs.Connection.{coherentB, zeroRecord, openedRecord, outcomeOf, noMessage}
+use Rattle.table.specs.declared.Links.{Links}
+use Rattle.table.specs.declared.Answered.{Answered}
+use Rattle.table.specs.declared.Turned.{Turned}
+use Rattle.table.specs.Table.{sizesB, slotB, recordAt, openB, linkIn, activeB, findFrom, holderIn, withRecord, withLink, refusedBy, keptBy, settledBy}
+use Rattle.table.proofs.Laws.{two-passed, open-facts, holder-some}
+use Rattle.rules.specs.Rules.{Group, Call, Management, Done, Did, groupOf, answerOf, does, turnOf, putTurn, plain, plainTurn, refuses, withLinks, badOpening, openRefusal, openDoes, freeRefusal, freeDoes, linkDoes, linkAnswer, linkMessageDoes, elementIn}
+use Rattle.rules.specs.Promises.{Promise, DidIn, DidLinks}
+use Rattle.rules.proofs.Memory.{kept-memory, cleared-memory}
+use Rattle.rules.proofs.Settled.{settled}
+use Rattle.management.specs.Management.{answeredBy, kindAnswer, managementOf, tokenOf, slotOf}
+use Rattle.management.specs.declared.Management.{Management as Managed}
+
+-- the turn of an accepted call that names nothing and makes no message
+plain-turn : (c : Record) (e : List ℕ) → turnOf (outcomeOf Accepted false c) e [] ≡ plainTurn c e
+unfolding turnOf outcomeOf
+plain-turn c e = refl
+
+either-false : (a b : Bool) → a || b ≡ false → a ≡ false
+either-false true b h = h
+either-false false b h = refl
+
+module _ (s n : ℕ) (t : List Record) (ls : Links) (m : List ℕ) where
+  abbrev g : Group
+  g = groupOf s n t (ls .active) m
+
+  -- OPEN
+  module _ (k : ℕ) (rec : Record) (hc : rec ≡ recordAt t k) (given : Opening) where
+    -- its refusals in their order, by its record and the holder of its own token
+    abbrev number : Bool → ℕ → ℕ
+    number opened holder =
+        cond (not (sizesB s n (length m))) 1
+        (cond (not (slotB s k)) 2
+        (cond opened 10
+        (cond (badOpening given) 12
+        (cond (not (linkIn (given .link))) 13
+        (cond (not (activeB (ls .active) (given .link))) 6
+        (cond (ltb 0 holder) 11 0))))))
+
+    pub open-number : (holder : ℕ) → holder ≡ holderIn s t (given .own) → number (rec .id .opened) holder ≡ openRefusal g k given
+    unfolding openRefusal
+    open-number holder hh =
+        ap (λ (r : Record). number (r .id .opened) holder) hc
+        ∙ go (badOpening given) refl
+        (cond (not (linkIn (given .link))) 13 (cond (not (activeB (ls .active) (given .link))) 6 (cond (ltb 0 holder) 11 0)))
+        (cond (not (linkIn (given .link))) 13 (cond (not (activeB (ls .active) (given .link))) 6 (cond (ltb 0 (findFrom t (given .own) s)) 11 0)))
+        (λ h.
+        ap
+        (λ (i : ℕ). cond (not (linkIn (given .link))) 13 (cond (not (activeB (ls .active) (given .link))) 6 (cond (ltb 0 i) 11 0)))
+        (hh ∙ holder-some s t (given .own) (eqb-false (given .own) 0 (either-false (eqb (given .own) 0) _ h))))
+      where
+        go : (b : Bool) → badOpening given ≡ b → (x y : ℕ) → (badOpening given ≡ false → x ≡ y)
+            → cond (not (sizesB s n (length m))) 1 (cond (not (slotB s k)) 2 (cond (recordAt t k .id .opened) 10 (cond (badOpening given) 12 x)))
+            ≡ cond (not (sizesB s n (length m))) 1 (cond (not (slotB s k)) 2 (cond (recordAt t k .id .opened) 10 (cond (badOpening given) 12 y)))
+        go true e x y h = rw e
+        go false e x y h =
+            ap
+            (λ (i : ℕ).
+            cond (not (sizesB s n (length m))) 1 (cond (not (slotB s k)) 2 (cond (recordAt t k .id .opened) 10 (cond (badOpening given) 12 i))))
+            (h e)
+
+    module _ (j : ℕ) (f : j ≡ openRefusal g k given) (o : Outcome) (ho : o ≡ outcomeOf Accepted false (openedRecord given)) (a : Turned)
+        (p : a ≡ settledBy j ls rec o) where
+      abbrev Opens : List ℕ → Type 0
+      Opens l = Promise s n m l t ls (Call.manage (Management.openSlot k given)) k a []
+
+      sized-slot : j ≡ 0 → (sizesB s n (length m) ≡ true) × (slotB s k ≡ true)
+      unfolding openRefusal
+      sized-slot z = two-passed (sizesB s n (length m)) (slotB s k) _ (sym f ∙ z)
+
+      open-opens : j ≡ 0 → openDoes g k given ≡ putTurn g k (turnOf o (freshElement n) [])
+      unfolding openDoes
+      open-opens z =
+          (simp (← f, eq-eqb j 0 z))
+          ∙ ap (putTurn g k) (sym (ap (λ (w : Outcome). turnOf w (freshElement n) []) ho ∙ plain-turn (openedRecord given) (freshElement n)))
+
+      open-refuses : (j ≡ 0 → ⊥) → openDoes g k given ≡ refuses g j []
+      unfolding openDoes
+      open-refuses h = simp (← f, ne-eqb j 0 h)
+
+      pub open-did : j ≡ 0 → (l : List ℕ) → l ≡ clearedOf m (baseOf n k) n → Opens l
+      open-did z l hl =
+          settled s n t ls m (Call.manage (Management.openSlot k given)) k j rec hc o a p (freshElement n) [] l
+          (λ x. (open-opens x, hl ∙ cleared-memory s n m k (sized-slot x .0) (sized-slot x .1))) (λ h. absurd (h z))
+
+      pub open-refused : (j ≡ 0 → ⊥) → Opens m
+      open-refused h =
+          settled s n t ls m (Call.manage (Management.openSlot k given)) k j rec hc o a p (freshElement n) [] m (λ z. absurd (h z))
+          (λ x. (open-refuses x, refl))
+
+  -- FREE
+  module _ (k : ℕ) (rec : Record) (hc : rec ≡ recordAt t k) where
+    pub free-number :
+        cond (not (sizesB s n (length m))) 1
+        (cond (not (slotB s k && rec .id .opened)) 2
+        (cond (not (coherentB n rec)) 3
+        (cond (not (rec .marks .abort)) 7 0)))
+        ≡ freeRefusal g k
+    unfolding freeRefusal openB
+    free-number =
+        ap
+        (λ (r : Record).
+        cond (not (sizesB s n (length m))) 1
+        (cond (not (slotB s k && r .id .opened)) 2 (cond (not (coherentB n r)) 3 (cond (not (r .marks .abort)) 7 0)))) hc
+
+    module _ (j : ℕ) (f : j ≡ freeRefusal g k) (o : Outcome) (ho : o ≡ outcomeOf Accepted false zeroRecord) (a : Turned)
+        (p : a ≡ settledBy j ls rec o) where
+      free-frees : j ≡ 0 → freeDoes g k ≡ putTurn g k (turnOf o (elementIn g k) [])
+      unfolding freeDoes
+      free-frees z =
+          (simp (← f, eq-eqb j 0 z))
+          ∙ ap (putTurn g k) (sym (ap (λ (w : Outcome). turnOf w (elementIn g k) []) ho ∙ plain-turn zeroRecord (elementIn g k)))
+
+      free-refuses : (j ≡ 0 → ⊥) → freeDoes g k ≡ refuses g j []
+      unfolding freeDoes
+      free-refuses h = simp (← f, ne-eqb j 0 h)
+
+      free-kept : j ≡ 0 → (sizesB s n (length m) ≡ true) × (openB s t k ≡ true)
+      unfolding freeRefusal
+      free-kept z = two-passed (sizesB s n (length m)) (openB s t k) _ (sym f ∙ z)
+
+      pub free-did : Promise s n m m t ls (Call.manage (Management.freeSlot k)) k a []
+      free-did =
+          settled s n t ls m (Call.manage (Management.freeSlot k)) k j rec hc o a p (elementIn g k) [] m
+          (λ z. (free-frees z, sym (kept-memory s n m k (free-kept z .0) (open-facts s t k (free-kept z .1) .0))))
+          (λ h. (free-refuses h, refl))
+
+-- THE LINKS
+module _ (ls : Links) (g : Group) (e : g .links ≡ ls .active) where
+  abbrev DidIt : Call → Answered → Type 0
+  DidIt call r = Did g call (answerOf r []) (withLinks g (r .links .active))
+
+  links-refused : (call : Call) (k : ℕ) (r : Answered) → does g call ≡ refuses g k [] → r ≡ refusedBy k ls → DidIt call r
+  unfolding refuses refusedBy
+  links-refused call k r d p =
+      record {
+        answered = ap (λ (b : Answered). answerOf b []) p ∙ sym (ap (λ (w : Done). w .answer) d);
+        left =
+            ap (λ (b : Answered). withLinks g (b .links .active)) p
+            ∙ ap (withLinks g) (sym e)
+            ∙ sym (ap (λ (w : Done). w .group) d);
+      }
+
+  links-answered : (call : Call) (made : Bool) (message : List ℕ) (u : Links) (r : Answered)
+      → does g call
+      ≡ record { answer = answerOf (answeredBy made message u) []; group = withLinks g (u .active) } → r ≡ answeredBy made message u
+      → DidIt call r
+  unfolding answeredBy
+  links-answered call made message u r d p =
+      record {
+        answered = ap (λ (b : Answered). answerOf b []) p ∙ sym (ap (λ (w : Done). w .answer) d);
+        left = ap (λ (b : Answered). withLinks g (b .links .active)) p ∙ sym (ap (λ (w : Done). w .group) d);
+      }
+
+  module _ (l : ℕ) where
+    pub change-did : (up : Bool) (u : Links) (r : Answered) → linkIn l ≡ true → u .active ≡ withLink (ls .active) l up
+        → r ≡ answeredBy false noMessage u → DidIt (Call.manage (Management.linkChange l up)) r
+    unfolding linkDoes answeredBy
+    change-did up u r h q p =
+        links-answered (Call.manage (Management.linkChange l up)) false noMessage u r
+        ((simp h)
+        ∙ ap (λ (x : List Bool). record { answer = plain; group = withLinks g x }) (sym (q ∙ ap (λ (x : List Bool). withLink x l up) (sym e))))
+        p
+
+    pub change-refused : (up : Bool) (r : Answered) → linkIn l ≡ false → r ≡ refusedBy 13 ls
+        → DidIt (Call.manage (Management.linkChange l up)) r
+    unfolding linkDoes
+    change-refused up r h p = links-refused (Call.manage (Management.linkChange l up)) 13 r (simp h) p
+
+    module _ (b : List ℕ) (r : Answered) where
+      abbrev message : Call
+      message = Call.manage (Management.linkMessage l b)
+
+      pub message-nowhere : linkIn l ≡ false → r ≡ refusedBy 13 ls → DidIt message r
+      unfolding linkMessageDoes
+      message-nowhere h p = links-refused message 13 r (simp h) p
+
+      module _ (h : linkIn l ≡ true) where
+        pub message-down : activeB (ls .active) l ≡ false → r ≡ refusedBy 6 ls → DidIt message r
+        unfolding linkMessageDoes
+        message-down d p =
+            let d′ : activeB (g .links) l ≡ false = ap (λ (x : List Bool). activeB x l) e ∙ d in
+            links-refused message 6 r (simp (h, d′)) p
+
+        by-kind : (x : Kind) (reply : List ℕ) → linkMessageDoes g l b ≡ linkAnswer g x reply → r ≡ kindAnswer x reply ls → DidIt message r
+        unfolding answeredBy
+        by-kind Kinds.Malformed reply d p = links-refused message 4 r d p
+        by-kind Kinds.Optional reply d p =
+            links-answered message false noMessage ls r (d ∙ ap (λ (x : List Bool). record { answer = plain; group = withLinks g x }) e) p
+        by-kind Kinds.Named reply d p = links-refused message 14 r d p
+        by-kind Kinds.TestRequest reply d p = links-answered message true reply ls r (d ∙ ap (λ (x : List Bool). record { answer = answerOf (answeredBy true reply ls) []; group = withLinks g x }) e) p
+        by-kind Kinds.TestReply reply d p =
+            links-answered message false noMessage ls r (d ∙ ap (λ (x : List Bool). record { answer = plain; group = withLinks g x }) e) p
+
+        pub message-did : activeB (ls .active) l ≡ true → (w : Received) → w ≡ receivedOf b → r ≡ kindAnswer (w .kind) (w .reply) ls
+            → DidIt message r
+        unfolding linkMessageDoes
+        message-did d w hw p =
+            let d′ : activeB (g .links) l ≡ true = ap (λ (x : List Bool). activeB x l) e ∙ d in
+            by-kind (w .kind) (w .reply) ((simp (h, d′)) ∙ ap (λ (x : Received). linkAnswer g (x .kind) (x .reply)) (sym hw)) p
+
+-- ANY CALL: what holds of the call that was matched holds of the call
+module _ {x y : Managed} (e : x ≡ y) (s n : ℕ) (m l : List ℕ) (count : ℕ) (ls : Links) (holder : ℕ) (rec : Record) (b : List ℕ) (r : Turned) where
+  abbrev DidManaged : Managed → Type 0
+  DidManaged q = DidIn s n m l count ls (Call.manage (managementOf q b)) (tokenOf q) holder (slotOf q) rec r []
+
+  pub by-management : DidManaged y → DidManaged x
+  by-management = subst DidManaged (sym e)
+
+-- a call on the links alone keeps every record
+pub links-did : (s n : ℕ) (m : List ℕ) (count : ℕ) (ls : Links) (q : Management) (token holder : ℕ) (rec : Record) (r : Answered)
+    → DidLinks ls (Call.manage q) r → (d : Turned) → d ≡ keptBy rec r → DidIn s n m m count ls (Call.manage q) token holder 0 rec d []
+unfolding withRecord keptBy
+links-did s n m count ls q token holder rec r h d p t e f i =
+    let y = h (groupOf s n t (ls .active) m) refl in
+    record {
+      answered = ap (λ (x : Turned). answerOf (x .answer) []) p ∙ y .answered;
+      left = ap (λ (x : Turned). groupOf s n t (x .answer .links .active) m) p ∙ y .left;
+    }

@@ -1,0 +1,2 @@
+-- `Laws`: each call of management, from what its parts gave.
+pub mod Laws

@@ -1,0 +1,46 @@
+-- `management::link_change` meets its contract. Assumes nothing.
+use mathlib.Core.Path.{sym, _∙_}
+use borrow.Author.Needs.{needs}
+use Rattle.management.proofs.Laws.{change-did, change-refused}
+use Rattle.management.proofs.link_change.Statement.{statement}
+use Rattle.management.proofs.link_change.Tie as tie
+
+link-ok-requires : tie.Need-link-ok-requires
+link-ok-requires c κs = search needs
+
+set-link-requires : tie.Need-set-link-requires
+set-link-requires c κs = search needs
+
+answered-requires : tie.Need-answered-requires
+answered-requires c κs = search needs
+
+refuse-requires : tie.Need-refuse-requires
+refuse-requires c κs = search needs
+
+returns : tie.Need-returns
+returns c =
+    let u = c .before in
+    let o = u .before .before in
+    let a = o .before .args in
+    λ g e.
+    change-did (a .links) g e (a .link) (a .up) (u .set-link .result) (c .answered .result)
+    (sym (o .link-ok .ensures) ∙ u .before .if1 .taken) (u .set-link .ensures) (c .answered .ensures)
+
+returns-2 : tie.Need-returns-2
+returns-2 c =
+    let o = c .before .before in
+    let a = o .before .args in
+    λ g e.
+    change-refused (a .links) g e (a .link) (a .up) (c .refuse .result) (sym (o .link-ok .ensures) ∙ c .before .if1 .left)
+    (c .refuse .ensures)
+
+pub link-change-spec : {M : Type 1} → statement M
+link-change-spec =
+    tie.close
+    (tie.spec
+    link-ok-requires
+    set-link-requires
+    answered-requires
+    refuse-requires
+    returns
+    returns-2)

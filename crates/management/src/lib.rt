@@ -1,0 +1,228 @@
+// The calls of management, document 01's desk calls ("Desk calls"). Open and free act on one record, as the calls of a connection do: each is
+// lent S, N and the memory, and is given the table's length, the links, a slot and the record that the slot shows. Link change and link
+// message see the links alone.
+ghost use mathlib.Core.Path.{_≡_};
+ghost use mathlib.Core.List.{List, []};
+ghost use Rattle.connection.specs.declared.Record.{Record};
+ghost use Rattle.table.specs.Table.{recordAt, holderIn};
+ghost use Rattle.rules.specs.Rules as Rules;
+ghost use Rattle.rules.specs.Rules.{Call, badOpening, openRefusal, freeRefusal, groupOf};
+ghost use Rattle.rules.specs.Promises.{DidOn, DidIn, DidLinks};
+ghost use Rattle.management.specs.Management.{answeredBy, kindAnswer, managementOf, tokenOf, slotOf};
+use connection::Opening;
+use connection::Record;
+use connection::Reply;
+use llc::Kind;
+use table::Answered;
+use table::Links;
+use table::Turned;
+
+// A call of management, with its numbers; a link message's bytes are lent beside it.
+pub enum Management {
+    // a slot, and what its connection is given
+    Open(u32, Opening),
+    // a slot
+    Free(u32),
+    // a link, and whether it is active now
+    LinkChange(u8, bool),
+    // a link
+    LinkMessage(u8),
+}
+
+// Whether what open is given is refused with 12: a zero token, or N' out of range.
+fn bad_opening(given: Opening) -> bool
+    ensures { λ r. ⌜ r ≡ badOpening given ⌝ }
+{
+    let size = given.remote.size;
+    (given.own == 0)
+        | ((given.peer == 0) | ((size < connection::LEAST_SIZE) | (connection::MOST_SIZE < size)))
+}
+
+// The refusal that open gives: 1, 2, 10, 12, 13, 6, 11; 0 for none. `holder` is the slot that holds the own token.
+fn open_refusal(
+    s: u32,
+    n: u32,
+    mem: &[u8],
+    links: Links,
+    holder: usize,
+    slot: u32,
+    rec: Record,
+    given: Opening,
+) -> u8
+    ensures { λ r.
+        ⌜ ((t : List Record) → holder ≡ holderIn s t (given .own) → rec ≡ recordAt t slot
+        → r ≡ openRefusal (groupOf s n t (links .active) (now (mem .entry))) slot given) ⌝ }
+{
+    let wrong = !table::sizes_ok(s, n, mem.len());
+    let outside = !table::slot_ok(s, slot);
+    let bad = bad_opening(given);
+    let unknown = !table::link_ok(given.link);
+    let down = !table::link_active(links, given.link);
+    let no_11 = table::refusal_if(0 < holder, 11, 0);
+    let no_6 = table::refusal_if(down, 6, no_11);
+    let no_13 = table::refusal_if(unknown, 13, no_6);
+    let no_12 = table::refusal_if(bad, 12, no_13);
+    let no_10 = table::refusal_if(rec.id.opened, 10, no_12);
+    let no_2 = table::refusal_if(outside, 2, no_10);
+    table::refusal_if(wrong, 1, no_2)
+}
+
+// `holder` is the slot that holds the own token, 0 for none.
+pub fn open(
+    s: u32,
+    n: u32,
+    mem: &mut [u8],
+    count: usize,
+    links: Links,
+    holder: usize,
+    slot: u32,
+    rec: Record,
+    given: Opening,
+) -> Turned
+    ensures { λ r.
+        ⌜ DidIn s n (now (mem .entry)) (now (mem .exit)) count links
+        (Call.manage (Rules.Management.openSlot slot given)) (given .own) holder slot rec r [] ⌝ }
+{
+    let no = open_refusal(s, n, mem, links, holder, slot, rec, given);
+    let after = connection::opened_record(given);
+    let o = connection::outcome_of(Reply::Accepted, false, after);
+    let d = table::settled(no, links, rec, o);
+    if no == 0 {
+        let base = element::base_of(n, slot);
+        element::clear(mem, base, n as usize);
+    }
+    d
+}
+
+// The refusal that free gives: 1, 2, 3, 7; 0 for none.
+fn free_refusal(s: u32, n: u32, mem: &[u8], links: Links, slot: u32, rec: Record) -> u8
+    ensures { λ r.
+        ⌜ ((t : List Record) → rec ≡ recordAt t slot
+        → r ≡ freeRefusal (groupOf s n t (links .active) (now (mem .entry))) slot) ⌝ }
+{
+    let wrong = !table::sizes_ok(s, n, mem.len());
+    let closed = !(table::slot_ok(s, slot) & rec.id.opened);
+    let incoherent = !connection::coherent(n, rec);
+    let no_7 = table::refusal_if(!rec.marks.abort, 7, 0);
+    let no_3 = table::refusal_if(incoherent, 3, no_7);
+    let no_2 = table::refusal_if(closed, 2, no_3);
+    table::refusal_if(wrong, 1, no_2)
+}
+
+pub fn free(
+    s: u32,
+    n: u32,
+    mem: &[u8],
+    count: usize,
+    links: Links,
+    slot: u32,
+    rec: Record,
+) -> Turned
+    ensures { λ r.
+        ⌜ DidOn s n (now (mem .entry)) (now (mem .entry)) count links (Call.manage (Rules.Management.freeSlot slot)) slot rec r [] ⌝ }
+{
+    let no = free_refusal(s, n, mem, links, slot, rec);
+    let z = connection::zero_record();
+    let o = connection::outcome_of(Reply::Accepted, false, z);
+    table::settled(no, links, rec, o)
+}
+
+// An accepted call's answer, with a message where `made`.
+fn answered(made: bool, message: [u8; 44], links: Links) -> Answered
+    ensures { λ r. ⌜ r ≡ answeredBy made message links ⌝ }
+{
+    Answered {
+        reply: Reply::Accepted,
+        made: made,
+        message: message,
+        links: links,
+    }
+}
+
+pub fn link_change(links: Links, link: u8, up: bool) -> Answered
+    ensures { λ r. ⌜ DidLinks links (Call.manage (Rules.Management.linkChange link up)) r ⌝ }
+{
+    if table::link_ok(link) {
+        answered(false, [0u8; 44], table::set_link(links, link, up))
+    } else {
+        table::refuse(13, links)
+    }
+}
+
+// What a link message is answered by its kind; `reply` is a TEST LINK request's.
+fn link_answer(kind: Kind, reply: [u8; 44], links: Links) -> Answered
+    ensures { λ r. ⌜ r ≡ kindAnswer kind reply links ⌝ }
+{
+    match kind {
+        Kind::Malformed => table::refuse(4, links),
+        Kind::Optional => answered(false, [0u8; 44], links),
+        Kind::Named => table::refuse(14, links),
+        Kind::TestRequest => answered(true, reply, links),
+        Kind::TestReply => answered(false, [0u8; 44], links),
+    }
+}
+
+pub fn link_message(links: Links, link: u8, bytes: &[u8]) -> Answered
+    ensures { λ r. ⌜ DidLinks links (Call.manage (Rules.Management.linkMessage link (now (bytes .entry)))) r ⌝ }
+{
+    if table::link_ok(link) {
+        if table::link_active(links, link) {
+            let m = llc::receive(bytes);
+            let kind = m.kind;
+            let reply = m.reply;
+            link_answer(kind, reply, links)
+        } else {
+            table::refuse(6, links)
+        }
+    } else {
+        table::refuse(13, links)
+    }
+}
+
+// The own token that an open looks for in the table; 0 for none.
+pub fn token_of(call: Management) -> u32
+    ensures { λ r. ⌜ r ≡ tokenOf call ⌝ }
+{
+    match call {
+        Management::Open(_, given) => given.own,
+        Management::Free(_) => 0,
+        Management::LinkChange(_, _) => 0,
+        Management::LinkMessage(_) => 0,
+    }
+}
+
+// The slot whose record a call may change; 0 for none.
+pub fn slot_of(call: Management) -> u32
+    ensures { λ r. ⌜ r ≡ slotOf call ⌝ }
+{
+    match call {
+        Management::Open(slot, _) => slot,
+        Management::Free(slot) => slot,
+        Management::LinkChange(_, _) => 0,
+        Management::LinkMessage(_) => 0,
+    }
+}
+
+// Any one of the calls of management; `holder` is the slot that holds the token that it looks for, 0 for none.
+pub fn manage(
+    s: u32,
+    n: u32,
+    mem: &mut [u8],
+    count: usize,
+    links: Links,
+    holder: usize,
+    rec: Record,
+    call: Management,
+    bytes: &[u8],
+) -> Turned
+    ensures { λ r.
+        ⌜ DidIn s n (now (mem .entry)) (now (mem .exit)) count links
+        (Call.manage (managementOf call (now (bytes .entry)))) (tokenOf call) holder (slotOf call) rec r [] ⌝ }
+{
+    match call {
+        Management::Open(slot, given) => open(s, n, mem, count, links, holder, slot, rec, given),
+        Management::Free(slot) => free(s, n, mem, count, links, slot, rec),
+        Management::LinkChange(link, up) => table::kept(rec, link_change(links, link, up)),
+        Management::LinkMessage(link) => table::kept(rec, link_message(links, link, bytes)),
+    }
+}

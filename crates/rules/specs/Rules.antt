@@ -1,0 +1,319 @@
+-- Document 01's rules for a whole group: what each of the eleven calls answers, and the group that it leaves.
+-- The contracts of the calls cite `Did`, which is `answer` and `next`; the theorems about lists of calls cite these and `Fresh`, and, for
+-- whose a call is and what it sees, `recordOf`, `elementIn`, `linkOf` and `holderOf`.
+-- Assumes nothing.
+use Prim.Native.Nat.{ℕ, _≤_}
+use mathlib.Core.Path.{_≡_}
+use mathlib.Core.Bool.{Bool, true, false, _&&_, _||_, not, cond}
+use mathlib.Core.List.{List, [], _∷_}
+use lib.Dec.{ltb, leb, eqb}
+use lib.ListN.{length, replicate}
+use Rattle.cursor.specs.declared.Cursor.{Cursor}
+use Rattle.cdc.specs.declared.Message.{Message}
+use Rattle.cdc.specs.declared.Decoded.{Decoded}
+use Rattle.cdc.specs.declared.Decoded.the-variants.{Good, Malformed}
+use Rattle.cdc.specs.Cdc.{decodeOf}
+use Rattle.llc.specs.declared.Kind.{Kind}
+use Rattle.llc.specs.declared.Kind.the-variants as Kinds
+use Rattle.llc.specs.declared.Received.{Received}
+use Rattle.llc.specs.Llc.{receivedOf}
+use Rattle.closing.specs.declared.State.{State}
+use Rattle.flow.specs.declared.Placing.{Placing}
+use Rattle.flow.specs.declared.Placings.{Placings}
+use Rattle.flow.specs.declared.Placings.the-variants.{Nowhere, One, Two}
+use Rattle.element.specs.Element.{baseOf, elementOf, splice, intactB, freshElement, intoOut}
+use Rattle.connection.specs.declared.Record.{Record}
+use Rattle.connection.specs.declared.Opening.{Opening}
+use Rattle.connection.specs.declared.Reply.{Reply}
+use Rattle.connection.specs.declared.Reply.the-variants.{Refused, Accepted, Sent, Read, Torn, Heard}
+use Rattle.connection.specs.declared.Effect.{Effect}
+use Rattle.connection.specs.declared.Effect.the-variants.{Nothing, Stores, Copies}
+use Rattle.connection.specs.declared.Outcome.{Outcome}
+use Rattle.connection.specs.Connection.{mostSize, leastSize, zeroRecord, openedRecord, noMessage, coherentB, effectOf}
+use Rattle.transmit.specs.Transmit.{sendOf}
+use Rattle.receive.specs.Receive.{placeOf, readOf}
+use Rattle.hear.specs.Hear.{hearOf}
+use Rattle.finish.specs.Finish.{shutdownOf, closeOf, abortOf}
+use Rattle.table.specs.declared.Answered.{Answered}
+use Rattle.table.specs.Table.{sizesB, slotB, recordAt, openB, linkIn, activeB, findFrom, withRecord, withLink}
+
+-- A group: S and N, one connection table, four links, one receive memory. The code is lent its slots and four links by its types; the
+-- rules are said for lists of any length.
+pub record Group : Type 0 where
+  pub S : ℕ
+  pub N : ℕ
+  pub table : List Record
+  pub links : List Bool
+  pub memory : List ℕ
+
+-- the group with another table, other links, another memory
+abbrev pub withTable : Group → List Record → Group
+withTable g t = record { S = g .S; N = g .N; table = t; links = g .links; memory = g .memory }
+
+abbrev pub withLinks : Group → List Bool → Group
+withLinks g l = record { S = g .S; N = g .N; table = g .table; links = l; memory = g .memory }
+
+abbrev pub withMemory : Group → List ℕ → Group
+withMemory g m = record { S = g .S; N = g .N; table = g .table; links = g .links; memory = m }
+
+-- THE CALLS, each with all bytes lent to it.
+
+-- of a connection, on its slot. A read is lent an out buffer
+pub data Request : Type 0 where
+  send : List ℕ → Request
+  place : ℕ → List ℕ → Request
+  read : List ℕ → Request
+  shutdown : Request
+  close : Request
+  abort : Request
+
+-- of management, document 01's desk calls: open takes a slot and what the connection is given (own token, peer token, link, N'); link change
+-- a link and whether it is active; link message a link and bytes
+pub data Management : Type 0 where
+  openSlot : ℕ → Opening → Management
+  freeSlot : ℕ → Management
+  linkChange : ℕ → Bool → Management
+  linkMessage : ℕ → List ℕ → Management
+
+pub data Call : Type 0 where
+  on : ℕ → Request → Call
+  hear : List ℕ → Call
+  manage : Management → Call
+
+-- THE ANSWERS: the refusal's number, or all that the call's line names, with every byte of a message made, and the out buffer's bytes
+-- as the call leaves them.
+pub data Says : Type 0 where
+  refusal : ℕ → Says
+  accepted : Says
+  sent : ℕ → List Placing → Says
+  wasRead : ℕ → Says
+  torn : Says
+  heard : ℕ → State → Says
+
+-- 44 zeros stand in the place of a message where none is made
+pub record Answer : Type 0 where
+  pub says : Says
+  pub made : Bool
+  pub message : List ℕ
+  pub out : List ℕ
+
+-- the code's enums, as the page's numbers and values
+abbrev pub placingList : Placings → List Placing
+placingList Nowhere = []
+placingList (One p) = p ∷ []
+placingList (Two p q) = p ∷ q ∷ []
+
+abbrev pub saysOf : Reply → Says
+saysOf (Refused k) = refusal k
+saysOf Accepted = accepted
+saysOf (Sent n p) = sent n (placingList p)
+saysOf (Read n) = wasRead n
+saysOf Torn = torn
+saysOf (Heard moved state) = heard moved state
+
+-- ONE SLOT. A call of a connection, from N, whether its link is active, its record, its element's bytes and what is lent: its answer,
+-- the record and the bytes that it leaves. It sees nothing else.
+pub record Turn : Type 0 where
+  pub answer : Answer
+  pub after : Record
+  pub element : List ℕ
+
+unfoldable pub turnOf : Outcome → List ℕ → List ℕ → Turn
+turnOf o e out =
+    record {
+      answer = record { says = saysOf (o .reply); made = o .made; message = o .message; out = out };
+      after = o .after;
+      element = e;
+    }
+
+-- the bytes are stored where place is accepted, and nothing else
+abbrev pub placedIn : Effect → List ℕ → ℕ → List ℕ → List ℕ
+placedIn Nothing e at b = e
+placedIn Stores e at b = splice e at b
+placedIn (Copies n) e at b = e
+
+-- the first n unread bytes from C are copied to out where n are read; else out is untouched
+abbrev pub readInto : Effect → Cursor → List ℕ → List ℕ → List ℕ
+readInto Nothing c e out = out
+readInto Stores c e out = out
+readInto (Copies n) c e out = intoOut e (c .offset) n out
+
+unfoldable pub requestTurn : ℕ → Bool → Record → List ℕ → Request → Turn
+requestTurn n active c e (send b) = turnOf (sendOf n active c (length b)) e []
+requestTurn n active c e (place at b) =
+    let o = placeOf n active c at (length b) in turnOf o (placedIn (effectOf (o .reply)) e at b) []
+requestTurn n active c e (read out) =
+    let o = readOf n active c (intactB e) (length out) in turnOf o e (readInto (effectOf (o .reply)) (c .inbound .consumer) e out)
+requestTurn n active c e shutdown = turnOf (shutdownOf n active c) e []
+requestTurn n active c e close = turnOf (closeOf n active c) e []
+requestTurn n active c e abort = turnOf (abortOf n active c) e []
+
+unfoldable pub hearTurn : ℕ → Bool → Record → List ℕ → Message → Turn
+hearTurn n active c e m = turnOf (hearOf n active c m) e []
+
+-- THE GROUP. What a call answers, and the group that it leaves.
+pub record Done : Type 0 where
+  pub answer : Answer
+  pub group : Group
+
+-- a refusal returns its number only, and changes no table, memory or out buffer
+unfoldable pub refuses : Group → ℕ → List ℕ → Done
+refuses g k out = record { answer = record { says = refusal k; made = false; message = noMessage; out = out }; group = g }
+
+-- 1: S, N or the memory's length is wrong
+abbrev pub sizesOk : Group → Bool
+sizesOk g = sizesB (g .S) (g .N) (length (g .memory))
+
+-- the slot's record, its element, and whether its link is active
+abbrev pub recordOf : Group → ℕ → Record
+recordOf g k = recordAt (g .table) k
+
+abbrev pub elementIn : Group → ℕ → List ℕ
+elementIn g k = elementOf (g .N) k (g .memory)
+
+abbrev pub linkOf : Group → ℕ → Bool
+linkOf g k = activeB (g .links) (recordOf g k .id .link)
+
+-- the turn of slot k, with its record and its element put back
+unfoldable pub putTurn : Group → ℕ → Turn → Done
+putTurn g k t =
+    record {
+      answer = t .answer;
+      group = withMemory (withTable g (withRecord (g .table) k (t .after))) (splice (g .memory) (baseOf (g .N) k) (t .element));
+    }
+
+-- what is lent as an out buffer
+abbrev pub outOf : Request → List ℕ
+outOf (send b) = []
+outOf (place at b) = []
+outOf (read out) = out
+outOf shutdown = []
+outOf close = []
+outOf abort = []
+
+-- connection calls test 1, then 2
+unfoldable pub onDoes : Group → ℕ → Request → Done
+onDoes g k q =
+    cond (sizesOk g)
+    (cond (openB (g .S) (g .table) k)
+    (putTurn g k (requestTurn (g .N) (linkOf g k) (recordOf g k) (elementIn g k) q))
+    (refuses g 2 (outOf q)))
+    (refuses g 1 (outOf q))
+
+-- 5: no open slot has the token, or it is 0. Hear finds the lowest slot with the token
+abbrev pub holderOf : Group → ℕ → ℕ
+holderOf g token = cond (eqb token 0) 0 (findFrom (g .table) token (g .S))
+
+unfoldable pub hearAt : Group → Message → ℕ → Done
+hearAt g m k =
+    cond (eqb k 0) (refuses g 5 []) (putTurn g k (hearTurn (g .N) (linkOf g k) (recordOf g k) (elementIn g k) m))
+
+-- 4: the bytes are not a message
+abbrev pub hearMessage : Group → Decoded → Done
+hearMessage g (Good m) = hearAt g m (holderOf g (m .token))
+hearMessage g Malformed = refuses g 4 []
+
+unfoldable pub hearDoes : Group → List ℕ → Done
+hearDoes g b = cond (sizesOk g) (hearMessage g (decodeOf b)) (refuses g 1 [])
+
+-- an answer that names nothing and makes no message
+abbrev pub plain : Answer
+plain = record { says = accepted; made = false; message = noMessage; out = [] }
+
+abbrev pub plainTurn : Record → List ℕ → Turn
+plainTurn c e = record { answer = plain; after = c; element = e }
+
+-- 12: a zero token, or N' out of range
+abbrev pub badOpening : Opening → Bool
+badOpening o = eqb (o .own) 0 || (eqb (o .peer) 0 || (ltb (o .remote .size) leastSize || ltb mostSize (o .remote .size)))
+
+-- Open: 1, 2 (outside only), 10 (already open), 12, 13, 6 (the named link is down), 11 (own token held by another open slot: any holder is
+-- another, since slot k is closed here); 0: not refused
+unfoldable pub openRefusal : Group → ℕ → Opening → ℕ
+openRefusal g k o =
+    cond (not (sizesOk g)) 1
+    (cond (not (slotB (g .S) k)) 2
+    (cond (recordOf g k .id .opened) 10
+    (cond (badOpening o) 12
+    (cond (not (linkIn (o .link))) 13
+    (cond (not (activeB (g .links) (o .link))) 6
+    (cond (ltb 0 (findFrom (g .table) (o .own) (g .S))) 11 0))))))
+
+-- it zeroes the element and writes the eye catcher
+unfoldable pub openDoes : Group → ℕ → Opening → Done
+openDoes g k o =
+    let j = openRefusal g k o in
+    cond (eqb j 0) (putTurn g k (plainTurn (openedRecord o) (freshElement (g .N)))) (refuses g j [])
+
+-- Free: 1, 2, 3, 7 (outside PeerAbortWait, which is: abort sent); it closes the slot
+unfoldable pub freeRefusal : Group → ℕ → ℕ
+freeRefusal g k =
+    cond (not (sizesOk g)) 1
+    (cond (not (openB (g .S) (g .table) k)) 2
+    (cond (not (coherentB (g .N) (recordOf g k))) 3
+    (cond (not (recordOf g k .marks .abort)) 7 0)))
+
+unfoldable pub freeDoes : Group → ℕ → Done
+freeDoes g k =
+    let j = freeRefusal g k in
+    cond (eqb j 0) (putTurn g k (plainTurn zeroRecord (elementIn g k))) (refuses g j [])
+
+-- Link change: 13; it sets one link
+unfoldable pub linkDoes : Group → ℕ → Bool → Done
+linkDoes g l up =
+    cond (linkIn l) (record { answer = plain; group = withLinks g (withLink (g .links) l up) }) (refuses g 13 [])
+
+-- Link message: optional is discarded, a TEST LINK request is answered by a reply, a reply is taken and nothing follows;
+-- 4: malformed; 14: a named link message other than 07
+abbrev pub linkAnswer : Group → Kind → List ℕ → Done
+linkAnswer g Kinds.Malformed reply = refuses g 4 []
+linkAnswer g Kinds.Optional reply = record { answer = plain; group = g }
+linkAnswer g Kinds.Named reply = refuses g 14 []
+linkAnswer g Kinds.TestRequest reply = record { answer = record { says = accepted; made = true; message = reply; out = [] }; group = g }
+linkAnswer g Kinds.TestReply reply = record { answer = plain; group = g }
+
+-- 13, 6, then what the bytes are
+unfoldable pub linkMessageDoes : Group → ℕ → List ℕ → Done
+linkMessageDoes g l b =
+    cond (linkIn l)
+    (cond (activeB (g .links) l) (linkAnswer g (receivedOf b .kind) (receivedOf b .reply)) (refuses g 6 []))
+    (refuses g 13 [])
+
+abbrev pub manageDoes : Group → Management → Done
+manageDoes g (openSlot k o) = openDoes g k o
+manageDoes g (freeSlot k) = freeDoes g k
+manageDoes g (linkChange l up) = linkDoes g l up
+manageDoes g (linkMessage l b) = linkMessageDoes g l b
+
+abbrev pub does : Group → Call → Done
+does g (on k q) = onDoes g k q
+does g (hear b) = hearDoes g b
+does g (manage d) = manageDoes g d
+
+-- ONE RULE FOR ALL CALLS.
+abbrev pub answer : Group → Call → Answer
+answer g c = does g c .answer
+
+abbrev pub next : Group → Call → Group
+next g c = does g c .group
+
+-- what each contract promises: the answer a and the group h that the call c left of g are what the rules say
+pub record Did (g : Group) (c : Call) (a : Answer) (h : Group) : Type 0 where
+  pub answered : a ≡ answer g c
+  pub left : h ≡ next g c
+
+-- what is lent to the code, as a group; and what it returns, as an answer
+abbrev pub groupOf : ℕ → ℕ → List Record → List Bool → List ℕ → Group
+groupOf s n t l m = record { S = s; N = n; table = t; links = l; memory = m }
+
+abbrev pub answerOf : Answered → List ℕ → Answer
+answerOf r out = record { says = saysOf (r .reply); made = r .made; message = r .message; out = out }
+
+-- A fresh group has S and N in range, every slot closed (whatever else it holds), every link down and memory all zeros.
+pub record Fresh (g : Group) : Type 0 where
+  pub sizes : sizesOk g ≡ true
+  -- a slot for each element: always so, since 16 are lent
+  pub enough : g .S ≤ length (g .table)
+  pub closed : (k : ℕ) → openB (g .S) (g .table) k ≡ false
+  pub down : (l : ℕ) → activeB (g .links) l ≡ false
+  pub zeros : g .memory ≡ replicate (length (g .memory)) 0

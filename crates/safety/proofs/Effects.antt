@@ -1,0 +1,222 @@
+-- What a call does to a group, however that came about: it refuses; or a link message is answered; or a link is set; or one turn is put
+-- back in the slot on which the call acts. All else that is said of calls one by one goes by these cases; a further call is a clause more of
+-- `effect`. Assumes nothing.
+use mathlib.Core.Path.{_≡_, refl, sym}
+use mathlib.Core.Bool.{Bool, true, false, false≢true, not, cond, _||_}
+use mathlib.Core.List.{List, []}
+use Prim.Native.Nat.{ℕ, zero, suc, _≤_}
+use native.Mathlib.Omega.{arith}
+use lib.Dec.{ltb, eqb, eqb·suc-zero}
+use borrow.Author.Tests.{eqb-true, eqb-false, not-false, ltb-false}
+use Rattle.cdc.specs.declared.Message.{Message}
+use Rattle.cdc.specs.declared.Decoded.{Decoded}
+use Rattle.cdc.specs.declared.Decoded.the-variants.{Good, Malformed}
+use Rattle.cdc.specs.Cdc.{decodeOf}
+use Rattle.llc.specs.declared.Kind.{Kind}
+use Rattle.llc.specs.declared.Kind.the-variants as Kinds
+use Rattle.llc.specs.Llc.{receivedOf}
+use Rattle.element.specs.Element.{freshElement}
+use Rattle.connection.specs.Connection.{zeroRecord, coherentB}
+use Rattle.connection.specs.declared.Opening as Given
+use Rattle.connection.specs.Connection.{openedRecord}
+use Rattle.table.specs.Table.{linkIn}
+use Rattle.rules.specs.Rules.{plainTurn, badOpening, Group, Request, openSlot, freeSlot, linkChange, linkMessage, Call, on, hear, manage, accepted, Turn, requestTurn, hearTurn, Done, does, answer, refuses, putTurn, recordOf, elementIn, linkOf, sizesOk, outOf, onDoes, holderOf, hearAt, hearMessage, hearDoes, plain, openRefusal, openDoes, freeRefusal, freeDoes, linkDoes, linkAnswer, linkMessageDoes}
+use Rattle.table.specs.Table.{slotB, openB, activeB, findFrom, withLink}
+use Rattle.order.proofs.Slots.{found-open}
+use Rattle.safety.specs.Statement.{OpenAt, ownOf}
+use Rattle.safety.specs.Refusals.{lentOut}
+
+-- the turn of an accepted open, and that of an accepted free
+abbrev pub openTurn : Group → Given.Opening → Turn
+openTurn g given = plainTurn (openedRecord given) (freshElement (g .N))
+
+abbrev pub freeTurn : Group → ℕ → Turn
+freeTurn g k = plainTurn zeroRecord (elementIn g k)
+
+-- the turn t of slot k is what the call c does there
+pub data Acts (g : Group) (c : Call) (k : ℕ) (t : Turn) : Type 0 where
+  asks : (q : Request) → c ≡ on k q → OpenAt g k → t ≡ requestTurn (g .N) (linkOf g k) (recordOf g k) (elementIn g k) q → Acts g c k t
+  hears : (b : List ℕ) (m : Message) → c ≡ hear b → decodeOf b ≡ Good m → holderOf g (m .token) ≡ k → OpenAt g k → ownOf g k ≡ m .token
+      → t ≡ hearTurn (g .N) (linkOf g k) (recordOf g k) (elementIn g k) m → Acts g c k t
+  opens : (given : Given.Opening) → c ≡ manage (openSlot k given) → openRefusal g k given ≡ 0
+      → t ≡ openTurn g given → Acts g c k t
+  frees : c ≡ manage (freeSlot k) → freeRefusal g k ≡ 0 → t ≡ freeTurn g k → Acts g c k t
+
+abbrev pub relinked : Group → ℕ → Bool → Done
+relinked g l up =
+    record {
+      answer = plain;
+      group = record { S = g .S; N = g .N; table = g .table; links = withLink (g .links) l up; memory = g .memory };
+    }
+
+-- refusal 3 is given for an open record that is not coherent
+abbrev pub Incoherent : Group → ℕ → Type 0
+Incoherent g n = n ≡ 3 → (k : ℕ) × OpenAt g k × (coherentB (g .N) (recordOf g k) ≡ false)
+
+pub data Effect (g : Group) (c : Call) (x : Done) : Type 0 where
+  refuses-it : (n : ℕ) → Incoherent g n → x ≡ refuses g n (lentOut c) → Effect g c x
+  answers-it : (l : ℕ) (b : List ℕ) → c ≡ manage (linkMessage l b) → x .answer .says ≡ accepted → x .group ≡ g → Effect g c x
+  sets-link : (l : ℕ) (up : Bool) → c ≡ manage (linkChange l up) → x ≡ relinked g l up → Effect g c x
+  puts-turn : (k : ℕ) (t : Turn) → sizesOk g ≡ true → Acts g c k t → x ≡ putTurn g k t → Effect g c x
+
+-- WHAT AN ACCEPTED OPEN, AND AN ACCEPTED FREE, WERE TESTED FOR
+past : (t : Bool) (x y : ℕ) → cond t (suc x) y ≡ 0 → (t ≡ false) × (y ≡ 0)
+past true x y e = absurd (omega (arith, e))
+past false x y e = (refl, e)
+
+neither : (a b : Bool) → a || b ≡ false → (a ≡ false) × (b ≡ false)
+neither true b e = absurd (false≢true (sym e))
+neither false b e = (refl, e)
+
+pub record Openable (g : Group) (k : ℕ) (given : Given.Opening) : Type 0 where
+  pub sizes : sizesOk g ≡ true
+  pub slot : slotB (g .S) k ≡ true
+  pub was-closed : recordOf g k .id .opened ≡ false
+  pub own-some : 1 ≤ given .own
+  pub peer-some : 1 ≤ given .peer
+  pub size-least : 8 ≤ given .remote .size
+  pub size-most : given .remote .size ≤ 65540
+  pub link-in : linkIn (given .link) ≡ true
+
+pub record Freeable (g : Group) (k : ℕ) : Type 0 where
+  pub sizes : sizesOk g ≡ true
+  pub is-open : OpenAt g k
+  pub aborted : recordOf g k .marks .abort ≡ true
+
+module _ (g : Group) (k : ℕ) where
+  pub open-facts : (given : Given.Opening) → openRefusal g k given ≡ 0 → Openable g k given
+  unfolding openRefusal
+  open-facts given e =
+      let a = past (not (sizesOk g)) 0 _ e in
+      let b = past (not (slotB (g .S) k)) 1 _ (a .1) in
+      let c = past (recordOf g k .id .opened) 9 _ (b .1) in
+      let d = past (badOpening given) 11 _ (c .1) in
+      let x = past (not (linkIn (given .link))) 12 _ (d .1) in
+      let u = neither (eqb (given .own) 0) _ (d .0) in
+      let v = neither (eqb (given .peer) 0) _ (u .1) in
+      let w = neither (ltb (given .remote .size) 8) _ (v .1) in
+      let own-some : given .own ≡ 0 → ⊥ = eqb-false (given .own) 0 (u .0) in
+      let peer-some : given .peer ≡ 0 → ⊥ = eqb-false (given .peer) 0 (v .0) in
+      record {
+        sizes = not-false (sizesOk g) (a .0);
+        slot = not-false (slotB (g .S) k) (b .0);
+        was-closed = c .0;
+        own-some = omega (arith, own-some);
+        peer-some = omega (arith, peer-some);
+        size-least = ltb-false (given .remote .size) 8 (w .0);
+        size-most = ltb-false 65540 (given .remote .size) (w .1);
+        link-in = not-false (linkIn (given .link)) (x .0);
+      }
+
+  pub free-facts : freeRefusal g k ≡ 0 → Freeable g k
+  unfolding freeRefusal
+  free-facts e =
+      let a = past (not (sizesOk g)) 0 _ e in
+      let b = past (not (openB (g .S) (g .table) k)) 1 _ (a .1) in
+      let c = past (not (coherentB (g .N) (recordOf g k))) 2 _ (b .1) in
+      let d = past (not (recordOf g k .marks .abort)) 6 _ (c .1) in
+      record {
+        sizes = not-false (sizesOk g) (a .0);
+        is-open = not-false (openB (g .S) (g .table) k) (b .0);
+        aborted = not-false (recordOf g k .marks .abort) (d .0);
+      }
+
+-- REFUSAL 3
+record Number (g : Group) (n : ℕ) : Type 0 where
+  incoherent : Incoherent g n
+
+or-else : (g : Group) (t : Bool) (x y : ℕ) → Number g x → Number g y → Number g (cond t x y)
+or-else g true x y h k = h
+or-else g false x y h k = k
+
+number : (g : Group) (n : ℕ) → eqb n 3 ≡ false → Number g n
+number g n h = record { incoherent = λ e. absurd (eqb-false n 3 h e) }
+
+open-3 : (g : Group) (k : ℕ) (given : Given.Opening) → Number g (openRefusal g k given)
+unfolding openRefusal
+open-3 g k given = search (or-else, number) depth 12
+
+free-3 : (g : Group) (k : ℕ) → Incoherent g (freeRefusal g k)
+unfolding freeRefusal
+free-3 g k = or-else g (not (sizesOk g)) 1 _ (number g 1 refl) (go (openB (g .S) (g .table) k) (coherentB (g .N) (recordOf g k)) refl refl) .incoherent
+  where
+    go : (o h : Bool) → openB (g .S) (g .table) k ≡ o → coherentB (g .N) (recordOf g k) ≡ h
+        → Number g (cond (not o) 2 (cond (not h) 3 (cond (not (recordOf g k .marks .abort)) 7 0)))
+    go false h o e = number g 2 refl
+    go true false o e = record { incoherent = λ p. (k, o, e) }
+    go true true o e = or-else g (not (recordOf g k .marks .abort)) 7 0 (number g 7 refl) (number g 0 refl)
+
+-- EVERY CALL
+module _ (g : Group) where
+  not3 : (n : ℕ) → eqb n 3 ≡ false → Incoherent g n
+  not3 n h = number g n h .incoherent
+
+  asked : (k : ℕ) (q : Request) (s o : Bool) → sizesOk g ≡ s → openB (g .S) (g .table) k ≡ o
+      → Effect g (on k q)
+      (cond s
+      (cond o (putTurn g k (requestTurn (g .N) (linkOf g k) (recordOf g k) (elementIn g k) q)) (refuses g 2 (outOf q)))
+      (refuses g 1 (outOf q)))
+  asked k q true true h o = puts-turn k _ h (asks q refl o refl) refl
+  asked k q true false h o = refuses-it 2 (not3 2 refl) refl
+  asked k q false o h p = refuses-it 1 (not3 1 refl) refl
+
+  -- the slot that a token finds is open and has it
+  holder-open : (token i : ℕ) → holderOf g token ≡ suc i → OpenAt g (suc i) × (ownOf g (suc i) ≡ token)
+  holder-open token i e = go (eqb token 0) e
+    where
+      go : (z : Bool) → cond z 0 (findFrom (g .table) token (g .S)) ≡ suc i → OpenAt g (suc i) × (ownOf g (suc i) ≡ token)
+      go true p = absurd (omega (arith, p))
+      go false p = found-open (g .S) (g .table) token i p
+
+  heard : (b : List ℕ) → sizesOk g ≡ true → (d : Decoded) → decodeOf b ≡ d → Effect g (hear b) (hearMessage g d)
+  unfolding hearAt
+  heard b s (Good m) e = go (holderOf g (m .token)) refl
+    where
+      go : (k : ℕ) → holderOf g (m .token) ≡ k → Effect g (hear b) (hearAt g m k)
+      go zero p = refuses-it 5 (not3 5 refl) refl
+      go (suc i) p = let w = holder-open (m .token) i p in puts-turn (suc i) _ s (hears b m refl e p (w .0) (w .1) refl) (rw (eqb·suc-zero i))
+  heard b s Malformed e = refuses-it 4 (not3 4 refl) refl
+
+  message : (l : ℕ) (b : List ℕ) (k : Kind) (reply : List ℕ) → Effect g (manage (linkMessage l b)) (linkAnswer g k reply)
+  message l b Kinds.Malformed reply = refuses-it 4 (not3 4 refl) refl
+  message l b Kinds.Optional reply = answers-it l b refl refl refl
+  message l b Kinds.Named reply = refuses-it 14 (not3 14 refl) refl
+  message l b Kinds.TestRequest reply = answers-it l b refl refl refl
+  message l b Kinds.TestReply reply = answers-it l b refl refl refl
+
+  pub effect : (c : Call) → Effect g c (does g c)
+  unfolding onDoes hearDoes openDoes freeDoes linkDoes linkMessageDoes
+  effect (on k q) = asked k q (sizesOk g) (openB (g .S) (g .table) k) refl refl
+  effect (hear b) = go (sizesOk g) refl
+    where
+      go : (s : Bool) → sizesOk g ≡ s → Effect g (hear b) (cond s (hearMessage g (decodeOf b)) (refuses g 1 []))
+      go true s = heard b s (decodeOf b) refl
+      go false s = refuses-it 1 (not3 1 refl) refl
+  effect (manage (openSlot k given)) = go (eqb (openRefusal g k given) 0) refl
+    where
+      go : (z : Bool) → eqb (openRefusal g k given) 0 ≡ z
+          → Effect g (manage (openSlot k given))
+          (cond z (putTurn g k (openTurn g given)) (refuses g (openRefusal g k given) []))
+      go true e =
+          let no = eqb-true (openRefusal g k given) 0 e in
+          puts-turn k _ (open-facts g k given no .sizes) (opens given refl no refl) refl
+      go false e = refuses-it (openRefusal g k given) (open-3 g k given .incoherent) refl
+  effect (manage (freeSlot k)) = go (eqb (freeRefusal g k) 0) refl
+    where
+      go : (z : Bool) → eqb (freeRefusal g k) 0 ≡ z
+          → Effect g (manage (freeSlot k)) (cond z (putTurn g k (freeTurn g k)) (refuses g (freeRefusal g k) []))
+      go true e = let no = eqb-true (freeRefusal g k) 0 e in puts-turn k _ (free-facts g k no .sizes) (frees refl no refl) refl
+      go false e = refuses-it (freeRefusal g k) (free-3 g k) refl
+  effect (manage (linkChange l up)) = go (linkIn l)
+    where
+      go : (z : Bool) → Effect g (manage (linkChange l up)) (cond z (relinked g l up) (refuses g 13 []))
+      go true = sets-link l up refl refl
+      go false = refuses-it 13 (not3 13 refl) refl
+  effect (manage (linkMessage l b)) = go (linkIn l) (activeB (g .links) l)
+    where
+      go : (y z : Bool)
+          → Effect g (manage (linkMessage l b))
+          (cond y (cond z (linkAnswer g (receivedOf b .kind) (receivedOf b .reply)) (refuses g 6 [])) (refuses g 13 []))
+      go true true = message l b (receivedOf b .kind) (receivedOf b .reply)
+      go true false = refuses-it 6 (not3 6 refl) refl
+      go false z = refuses-it 13 (not3 13 refl) refl

@@ -1,0 +1,35 @@
+-- Every row of specs/Vectors comes out as it says, by computation. Assumes nothing.
+use mathlib.Core.Path.{_≡_, refl}
+use Rattle.cursor.specs.Cursor.{inRange, sameB, movedOf, stepOf, turnsOf, distanceOf, goodB, gapOf}
+use Rattle.cdc.specs.Cdc.{highByte, lowByte, encodeOf, num2, num4, cursorOf, flagsOf, fieldsOf, decodeOf}
+use Rattle.llc.specs.Llc.{classOf, namedOf, kindOf, testReplyOf, noReply, answeredOf, receivedOf}
+use Rattle.closing.specs.Closing.{closeStateOf, stateOf, doneSent, closedSent, abortSent, marksHeard}
+use Rattle.flow.specs.Flow.{roomOf, takenOf, firstOf, placingsOf, windowOf, updateDue}
+use Rattle.element.specs.Element.{part, elementOf, splice, intactB, freshElement, allFree, ringFrom, unread}
+use Rattle.connection.specs.Connection.{zeroRecord, numbersOk, offsetsOk, distancesOk, coherentB, refusalOf, messageOf, toldIn, usedIn, toldOf, outcomeOf, refusedOf, closedIf, marksTo}
+use Rattle.transmit.specs.Transmit.{sendForbids, nOf, producedOut, producedOf, tellsOf, sentOf, sendOf}
+use Rattle.receive.specs.Receive.{placeForbids, mayPlace, placeOf, readForbids, unreadOf, consumedIn, consumedOf, updateOf, tornOf, takeOf, readOf}
+use Rattle.hear.specs.Hear.{abortedOf, producerB, consumerB, heardIn, heardOut, heardRecord, answersB, acceptedOf, followedOf, hearOf}
+use Rattle.finish.specs.Finish.{shutdownForbids, shutdownOf, closeForbids, closeOf, abortOf}
+use Rattle.table.specs.Table.{sizesB, slotB, recordAt, openB, activeB, holdsB, lowest, findFrom, withRecord, withLink}
+use Rattle.connection.specs.Connection.{openedRecord}
+use Rattle.rules.specs.Rules.{turnOf, requestTurn, hearTurn, refuses, putTurn, onDoes, hearAt, hearDoes, openRefusal, openDoes, freeRefusal, freeDoes, linkDoes, linkMessageDoes}
+use Rattle.vectors.specs.Vectors.{played, found, vectors, VectorsRight}
+
+pub vectors-right : VectorsRight
+unfolding inRange sameB movedOf stepOf turnsOf distanceOf goodB gapOf
+    highByte lowByte encodeOf num2 num4 cursorOf flagsOf fieldsOf decodeOf
+    classOf namedOf kindOf testReplyOf noReply answeredOf receivedOf
+    closeStateOf stateOf doneSent closedSent abortSent marksHeard
+    roomOf takenOf firstOf placingsOf windowOf updateDue
+    part elementOf splice intactB freshElement allFree ringFrom unread
+    zeroRecord numbersOk offsetsOk distancesOk coherentB refusalOf messageOf toldIn usedIn toldOf outcomeOf refusedOf closedIf marksTo
+    sendForbids nOf producedOut producedOf tellsOf sentOf sendOf
+    placeForbids mayPlace placeOf readForbids unreadOf consumedIn consumedOf updateOf tornOf takeOf readOf
+    abortedOf producerB consumerB heardIn heardOut heardRecord answersB acceptedOf followedOf hearOf
+    shutdownForbids shutdownOf closeForbids closeOf abortOf
+    sizesB slotB recordAt openB activeB holdsB lowest findFrom withRecord withLink
+    turnOf requestTurn hearTurn refuses putTurn onDoes hearAt hearDoes openedRecord openRefusal openDoes freeRefusal freeDoes linkDoes
+    linkMessageDoes
+    played found vectors
+vectors-right = refl

@@ -1,0 +1,434 @@
+-- Document 01's soundings marked *, and worked examples, as rows of a single table. Every row is computed by `answer` and `next`, the rules
+-- that the contract of each call cites, on a group that the row lays. proofs/Vectors has the one theorem: all rows are right.
+-- Assumes nothing.
+use Prim.Native.Nat.{ℕ, zero, suc, _+_, _*_, _/_, _%_, _^_}
+use mathlib.Core.Path.{_≡_}
+use mathlib.Core.Bool.{Bool, true, false, cond}
+use mathlib.Core.Option.{Option, some, none}
+use mathlib.Core.List.{List, [], _∷_, _++_, map}
+use lib.IntN.{ℤ, pos, negsuc}
+use lib.ListN.{replicate}
+use Rattle.cursor.specs.declared.Cursor.{Cursor}
+use Rattle.cursor.specs.Cursor.{dataOf, distanceOf}
+use Rattle.cdc.specs.declared.Message.{Message}
+use Rattle.cdc.specs.Cdc.{encodeOf, wholeExample}
+use Rattle.closing.specs.declared.Marks.{Marks}
+use Rattle.closing.specs.declared.State.the-variants.{Active, PeerCloseWait1, PeerCloseWait2, AppCloseWait1, AppCloseWait2, PeerAbortWait, Closed}
+use Rattle.flow.specs.declared.Placing.{Placing}
+use Rattle.flow.specs.Flow.{windowOf}
+use Rattle.element.specs.Element.{freshElement}
+use Rattle.connection.specs.declared.Inbound.{Inbound}
+use Rattle.connection.specs.declared.Outbound.{Outbound}
+use Rattle.connection.specs.declared.Record.{Record}
+use Rattle.connection.specs.declared.Opening.{Opening}
+use Rattle.connection.specs.Connection.{zeroRecord, noMarks}
+use Rattle.rules.specs.Rules.{Group, Request, send, place, read, shutdown, close, abort, openSlot, freeSlot, linkChange, linkMessage, Call, on, hear, manage, Says, refusal, accepted, sent, wasRead, torn, heard, Answer, answer, next, recordOf}
+
+-- WHAT A ROW LAYS. An offset and a wrap number
+abbrev pub cur : ℕ → ℕ → Cursor
+cur c w = record { offset = c; wrap = w }
+
+abbrev pub start : Cursor
+start = cur 4 0
+
+-- P, C and T; Q and R. Nothing else was heard, and no message was made
+abbrev pub inwards : Cursor → Cursor → Cursor → Inbound
+inwards p c t = record { producer = p; consumer = c; told = t; last = 0; blocked = false; request = false }
+
+abbrev pub outwards : Cursor → Cursor → Outbound
+outwards q r = record { producer = q; consumer = r; next = 1; blocked = false }
+
+abbrev pub unmarked : Marks
+unmarked = record { sent = noMarks; heard = noMarks; first = false; abort = false }
+
+-- the tokens of two hosts: A's peer token is the page's
+abbrev pub tokenA : ℕ
+tokenA = 0x0A0B0C0D
+
+abbrev pub tokenB : ℕ
+tokenB = 0x01020304
+
+-- an open record on link 1: its own token, the peer's, N', and the rest
+abbrev pub laid : ℕ → ℕ → ℕ → Inbound → Outbound → Marks → Record
+laid own peer size i o m =
+    record {
+      id = record { opened = true; own = own; peer = peer; link = 1 };
+      remote = record { size = size };
+      inbound = i;
+      outbound = o;
+      marks = m;
+    }
+
+abbrev pub aGroup : ℕ → ℕ → List Record → List ℕ → Group
+aGroup s n table memory = record { S = s; N = n; table = table; links = true ∷ true ∷ false ∷ false ∷ []; memory = memory }
+
+-- host A with one connection, R and Q in B's element of N' bytes
+abbrev pub hostA : ℕ → Cursor → Cursor → Group
+hostA size r q = aGroup 1 8 (laid tokenA tokenB size (inwards start start start) (outwards q r) unmarked ∷ []) (freshElement 8)
+
+-- host B with one connection, P, C and T in its element of N bytes
+abbrev pub hostB : ℕ → Cursor → Cursor → Cursor → Group
+hostB n p c t = aGroup 1 n (laid tokenB tokenA n (inwards p c t) (outwards start start) unmarked ∷ []) (freshElement n)
+
+-- k bytes to send, or an out buffer
+abbrev pub bytes : ℕ → List ℕ
+bytes k = replicate k 0
+
+-- a placing of k bytes, the first of which is byte `start` of those offered
+abbrev pub placing : ℕ → ℕ → ℕ → Placing
+placing offset start k = record { offset = offset; start = start; len = k }
+
+-- the k bytes of a number, high byte first
+abbrev pub octets : ℕ → ℕ → List ℕ
+octets zero x = []
+octets (suc k) x = x / 256 ^ k % 256 ∷ octets k x
+
+-- a message, as one number of 26 bytes, with eighteen bytes 00 after it: FE2C, sequence; token; reserved, producer wrap; producer offset;
+-- reserved, consumer wrap; consumer offset; bytes 24 and 25
+abbrev pub wire : ℕ → List ℕ
+wire x = octets 26 x ++ replicate 18 0
+
+-- A to B: P is at a cursor, and nothing else
+abbrev pub produced : Cursor → Message
+produced p =
+    record {
+      sequence = 1;
+      token = tokenB;
+      producer = p;
+      consumer = start;
+      flags =
+          record {
+            blocked = false;
+            pending = false;
+            urgent = false;
+            request = false;
+            failover = false;
+            done = false;
+            closed = false;
+            abort = false;
+          };
+    }
+
+-- WHAT A ROW SAYS. Of calls one after the other:
+pub data Line : Type 0 where
+  -- what a call says, and the message that it makes, if one is made
+  gives : Call → Says → Option (List ℕ) → Line
+  -- the same, and the out buffer as the call leaves it
+  hands : Call → Says → Option (List ℕ) → List ℕ → Line
+  -- a slot's record, as it is now; and the memory
+  slot : ℕ → Record → Line
+  memory : List ℕ → Line
+
+pub data Vector : Type 0 where
+  -- N', and a cursor plus k: Q, of a send of k bytes
+  steps : ℕ → Cursor → ℕ → Cursor → Vector
+  -- N', R and Q: the room left, which is what a send of more bytes takes
+  leaves : ℕ → Cursor → Cursor → Option ℕ → Vector
+  -- N', R, Q and a length: n and the placings; the new Q; B
+  sends : ℕ → Cursor → Cursor → ℕ → Says → Cursor → Bool → Vector
+  -- N, T and a new P: the distance, and what hear says
+  apart : ℕ → Cursor → Cursor → ℤ → Says → Vector
+  -- N, T and P, and the room in out of a read from T on: the peer's window; how many bytes are read; whether a message is made
+  updates : ℕ → Cursor → Cursor → ℕ → ℕ → Option ℕ → Bool → Vector
+  -- a group, and calls
+  plays : Group → List Line → Vector
+
+-- THE ROW THAT THE RULES GIVE: with what they answer in the place of what the row says.
+abbrev pub named : Says → Option ℕ
+named (refusal k) = none
+named accepted = none
+named (sent n p) = some n
+named (wasRead n) = some n
+named torn = none
+named (heard moved state) = none
+
+abbrev pub messageIn : Answer → Option (List ℕ)
+messageIn a = cond (a .made) (some (a .message)) none
+
+unfoldable pub played : Group → List Line → List Line
+played g [] = []
+played g (gives c s m ∷ l) = gives c (answer g c .says) (messageIn (answer g c)) ∷ played (next g c) l
+played g (hands c s m out ∷ l) = hands c (answer g c .says) (messageIn (answer g c)) (answer g c .out) ∷ played (next g c) l
+played g (slot k c ∷ l) = slot k (recordOf g k) ∷ played g l
+played g (memory m ∷ l) = memory (g .memory) ∷ played g l
+
+unfoldable pub found : Vector → Vector
+found (steps size c k e) = steps size c k (recordOf (next (hostA size c c) (on 1 (send (bytes k)))) 1 .outbound .producer)
+found (leaves size r q room) = leaves size r q (named (answer (hostA size r q) (on 1 (send (bytes size))) .says))
+found (sends size r q len s e blocked) =
+    let c = on 1 (send (bytes len)) in
+    let after = recordOf (next (hostA size r q) c) 1 in
+    sends size r q len (answer (hostA size r q) c .says) (after .outbound .producer) (after .outbound .blocked)
+found (apart n t p z s) = apart n t p (distanceOf (dataOf n) t p) (answer (hostB n t t t) (hear (encodeOf (produced p))) .says)
+found (updates n t p room window gain due) =
+    let a = answer (hostB n p t t) (on 1 (read (bytes room))) in
+    updates n t p room (windowOf n t p) (named (a .says)) (a .made)
+found (plays g l) = plays g (played g l)
+
+-- WHAT THE WORKED EXAMPLES LAY. A fresh group of one slot; link 1 brought up, and slot 1 opened on it
+abbrev pub freshGroup : ℕ → Group
+freshGroup n = record { S = 1; N = n; table = zeroRecord ∷ []; links = false ∷ false ∷ false ∷ false ∷ []; memory = replicate n 0 }
+
+abbrev pub given : ℕ → ℕ → ℕ → Opening
+given own peer size = record { own = own; peer = peer; link = 1; remote = record { size = size } }
+
+abbrev pub upAndOpen : ℕ → ℕ → ℕ → List Line
+upAndOpen own peer size =
+    gives (manage (linkChange 1 true)) accepted none ∷ gives (manage (openSlot 1 (given own peer size))) accepted none ∷ []
+
+-- a message heard, and one made
+abbrev pub hears : ℕ → Call
+hears x = hear (wire x)
+
+abbrev pub told : ℕ → Option (List ℕ)
+told x = some (wire x)
+
+-- messages of the scenarios, A's and B's, by what they tell: the bytes up to an offset, a full element to the next wrap number
+abbrev pub a3004 : ℕ
+a3004 = 0xFE2C_0001_01020304_0000_0000_00000BBC_0000_0000_00000004_0000
+
+abbrev pub a7004 : ℕ
+a7004 = 0xFE2C_0002_01020304_0000_0000_00001B5C_0000_0000_00000004_0000
+
+abbrev pub b7004 : ℕ
+b7004 = 0xFE2C_0001_0A0B0C0D_0000_0000_00000004_0000_0000_00001B5C_0000
+
+abbrev pub aFull : ℕ
+aFull = 0xFE2C_0001_01020304_0000_0002_000003EC_0000_0000_00000004_8000
+
+abbrev pub bFull : ℕ
+bFull = 0xFE2C_0001_0A0B0C0D_0000_0000_00000004_0000_0002_000003EC_0000
+
+-- a connection with every field different and D, C and B on; and one that hears such a message
+abbrev pub wide : Cursor
+wide = cur 0x0123 0x4567
+
+abbrev pub speaker : Record
+speaker =
+    laid 0xA1A2A3A4 0x11223344 65540 (inwards wide wide wide)
+    (record { producer = cur 0xABCD 0x89EF; consumer = cur 0xABCD 0x89EF; next = 0x5566; blocked = true })
+    (record { sent = record { done = true; closed = true }; heard = noMarks; first = true; abort = false })
+
+abbrev pub listener : Record
+listener = laid 0x11223344 0xA1A2A3A4 65540 (inwards wide wide wide) (outwards (cur 0xABCD 0x89EF) (cur 0xAB00 0x89EF)) unmarked
+
+abbrev pub listened : Record
+listened =
+    laid 0x11223344 0xA1A2A3A4 65540
+    (record { producer = cur 0x0122 0x4568; consumer = wide; told = wide; last = 0x5566; blocked = true; request = true })
+    (outwards (cur 0xABCD 0x89EF) (cur 0xABC0 0x89EF))
+    (record { sent = noMarks; heard = record { done = true; closed = false }; first = false; abort = false })
+
+-- a connection at the start; with another next sequence number; with a full element at the peer, and B told
+abbrev pub opened : ℕ → ℕ → Record
+opened own peer = laid own peer 8 (inwards start start start) (outwards start start) unmarked
+
+abbrev pub nextIs : ℕ → Record
+nextIs s =
+    laid tokenA tokenB 8 (inwards start start start)
+    (record { producer = start; consumer = start; next = s; blocked = false }) unmarked
+
+abbrev pub stopped : Record
+stopped =
+    laid tokenB tokenA 8 (inwards start start start)
+    (record { producer = cur 4 1; consumer = start; next = 1; blocked = true }) unmarked
+
+-- B's messages to A with byte 25 as given: 80 D, 40 C, 20 A; and A's to B, with a sequence number
+abbrev pub fromB : ℕ → Call
+fromB l = hears (0xFE2C_0001_0A0B0C0D_0000_0000_00000004_0000_0000_00000004_0000 + l)
+
+abbrev pub toB : ℕ → ℕ → Option (List ℕ)
+toB s l = told (0xFE2C_0000_01020304_0000_0000_00000004_0000_0000_00000004_0000 + s * 256 ^ 22 + l)
+
+-- a link message by its first two bytes
+abbrev pub begins : ℕ → ℕ → Call
+begins first second = manage (linkMessage 1 (first ∷ second ∷ replicate 42 0))
+
+-- THE ROWS. Those marked * come first, in the page's order. N is 10,000 unless said.
+unfoldable pub vectors : List Vector
+vectors =
+    -- (4,0) plus 1,000 is (1004,0); room left 8,996
+    steps 10000 (cur 4 0) 1000 (cur 1004 0)
+    ∷ leaves 10000 (cur 4 0) (cur 1004 0) (some 8996)
+    -- (1004,0), empty, 9,996 sent: placings 1004 for 8,996 and 4 for 1,000; (1004,1); room 0
+    ∷ sends 10000 (cur 1004 0) (cur 1004 0) 9996 (sent 9996 (placing 1004 0 8996 ∷ placing 4 8996 1000 ∷ [])) (cur 1004 1) false
+    ∷ leaves 10000 (cur 1004 0) (cur 1004 1) (some 0)
+    -- (9999,0) plus 1: (4,1); (9999,65535) plus 1: (4,0)
+    ∷ steps 10000 (cur 9999 0) 1 (cur 4 1)
+    ∷ steps 10000 (cur 9999 65535) 1 (cur 4 0)
+    -- distance (1004,0) to (1003,1): 9,995; to (1005,1): 9,997, refused; to (1003,0): -1, refused
+    ∷ apart 10000 (cur 1004 0) (cur 1003 1) (pos 9995) (heard 9995 Active)
+    ∷ apart 10000 (cur 1004 0) (cur 1005 1) (pos 9997) (refusal 8)
+    ∷ apart 10000 (cur 1004 0) (cur 1003 0) (negsuc 0) (refusal 8)
+    -- (4,65535) to (4,0): 9,996, full
+    ∷ apart 10000 (cur 4 65535) (cur 4 0) (pos 9996) (heard 9996 Active)
+    ∷ leaves 10000 (cur 4 65535) (cur 4 0) (some 0)
+    -- peer's window 4,998: no update (with any gain); 4,997 with gain 1,000: update; with gain 999: none
+    ∷ updates 10000 (cur 4 0) (cur 5002 0) 9996 4998 (some 4998) false
+    ∷ updates 10000 (cur 4 0) (cur 5003 0) 1000 4997 (some 1000) true
+    ∷ updates 10000 (cur 4 0) (cur 5003 0) 999 4997 (some 999) false
+    -- N' 8, room 4, Q (7,0), six bytes: n 4, placings 7 for 1 and 4 for 3, Q (7,1), B on
+    ∷ leaves 8 (cur 7 0) (cur 7 0) (some 4)
+    ∷ sends 8 (cur 7 0) (cur 7 0) 6 (sent 4 (placing 7 0 1 ∷ placing 4 1 3 ∷ [])) (cur 7 1) true
+    -- SCENARIO 1. A sends 1,000 bytes: the page's whole example
+    ∷ plays (freshGroup 10000)
+    (upAndOpen tokenA tokenB 10000 ++ gives (on 1 (send (bytes 1000))) (sent 1000 (placing 4 0 1000 ∷ [])) (some wholeExample) ∷ [])
+    -- B: the bytes are placed and announced, a read for 10,000 takes 1,000, and no update is needed. SCENARIO 2: 500 bytes are sent back,
+    -- in a message that tells C too
+    ∷ plays (freshGroup 10000)
+    (upAndOpen tokenB tokenA 10000
+    ++ gives (on 1 (place 4 (replicate 1000 0x5A))) accepted none
+    ∷ gives (hear wholeExample) (heard 1000 Active) none
+    ∷ hands (on 1 (read (bytes 10000))) (wasRead 1000) none (replicate 1000 0x5A ++ bytes 9000)
+    ∷ gives (on 1 (send (bytes 500))) (sent 500 (placing 4 0 500 ∷ []))
+    (told 0xFE2C_0001_0A0B0C0D_0000_0000_000001F8_0000_0000_000003EC_0000)
+    ∷ [])
+    -- SCENARIO 3. A sends 3,000 bytes, then 4,000
+    ∷ plays (freshGroup 10000)
+    (upAndOpen tokenA tokenB 10000
+    ++ gives (on 1 (send (bytes 3000))) (sent 3000 (placing 4 0 3000 ∷ [])) (told a3004)
+    ∷ gives (on 1 (send (bytes 4000))) (sent 4000 (placing 3004 0 4000 ∷ [])) (told a7004)
+    ∷ gives (hears b7004) (heard 0 Active) none
+    ∷ [])
+    -- B reads each; the window is 6,996, then 2,996: an update
+    ∷ plays (freshGroup 10000)
+    (upAndOpen tokenB tokenA 10000
+    ++ gives (hears a3004) (heard 3000 Active) none
+    ∷ gives (on 1 (read (bytes 10000))) (wasRead 3000) none
+    ∷ gives (hears a7004) (heard 4000 Active) none
+    ∷ gives (on 1 (read (bytes 10000))) (wasRead 4000) (told b7004)
+    ∷ [])
+    -- SCENARIO 4. Both stand at (1004,1); A sends 20,000 bytes: a full element, B on
+    ∷ plays (hostA 10000 (cur 1004 1) (cur 1004 1))
+    (gives (on 1 (send (bytes 20000))) (sent 9996 (placing 1004 0 8996 ∷ placing 4 8996 1000 ∷ [])) (told aFull)
+    -- nothing fits, and B was told: no message
+    ∷ gives (on 1 (send (bytes 10004))) (sent 0 []) none
+    -- all was read: another element, B on
+    ∷ gives (hears bFull) (heard 0 Active) none
+    ∷ gives (on 1 (send (bytes 10004))) (sent 9996 (placing 1004 0 8996 ∷ placing 4 8996 1000 ∷ []))
+    (told 0xFE2C_0002_01020304_0000_0003_000003EC_0000_0000_00000004_8000)
+    -- and the last 8 bytes, B off
+    ∷ gives (hears 0xFE2C_0002_0A0B0C0D_0000_0000_00000004_0000_0003_000003EC_0000) (heard 0 Active) none
+    ∷ gives (on 1 (send (bytes 8))) (sent 8 (placing 1004 0 8 ∷ []))
+    (told 0xFE2C_0003_01020304_0000_0003_000003F4_0000_0000_00000004_0000)
+    ∷ [])
+    -- B: an equal offset with another wrap number is a full element, and because B was on, the read is told
+    ∷ plays (hostB 10000 (cur 1004 1) (cur 1004 1) (cur 1004 1))
+    (gives (hears aFull) (heard 9996 Active) none ∷ gives (on 1 (read (bytes 10000))) (wasRead 9996) (told bFull) ∷ [])
+    -- THE MESSAGE. Every field different and every flag of ours on
+    ∷ plays (aGroup 1 300 (speaker ∷ []) (freshElement 300))
+    (gives (on 1 abort) accepted (told 0xFE2C_5566_11223344_0000_89EF_0000ABCD_0000_4567_00000123_80E0) ∷ [])
+    -- read, with P, U, F and all that is reserved on: nothing looks at them. R is on and T is C: no message
+    ∷ plays (aGroup 1 300 (listener ∷ []) (freshElement 300))
+    (gives (hears 0xFE2C_5566_11223344_FFFF_4568_00000122_FFFF_89EF_0000ABC0_FF9F) (heard 295 AppCloseWait1) none
+    ∷ slot 1 listened
+    ∷ [])
+    -- sequence 65,535 goes on to 0
+    ∷ plays (aGroup 1 8 (nextIs 65535 ∷ []) (freshElement 8))
+    (gives (on 1 shutdown) accepted (toB 65535 0x80) ∷ gives (on 1 abort) accepted (toB 0 0xA0) ∷ [])
+    -- WHEN ONE IS MADE. The R flag is answered where T differs from C, and not once T is C
+    ∷ plays (hostB 8 (cur 6 0) (cur 6 0) (cur 4 0))
+    (gives (hears 0xFE2C_0001_01020304_0000_0000_00000006_0000_0000_00000004_1000) (heard 0 Active)
+    (told 0xFE2C_0001_0A0B0C0D_0000_0000_00000004_0000_0000_00000006_0000)
+    ∷ gives (hears 0xFE2C_0002_01020304_0000_0000_00000006_0000_0000_00000004_1000) (heard 0 Active) none
+    ∷ [])
+    -- a read of one byte is told where B stood in the last message heard, or R, and else not; our own B, on here, is in each message
+    ∷ plays (aGroup 1 100 (stopped ∷ []) (freshElement 100))
+    (gives (hears 0xFE2C_0001_01020304_0000_0000_00000009_0000_0000_00000004_8000) (heard 5 Active) none
+    ∷ gives (on 1 (read (bytes 1))) (wasRead 1) (told 0xFE2C_0001_0A0B0C0D_0000_0001_00000004_0000_0000_00000005_8000)
+    ∷ gives (hears 0xFE2C_0002_01020304_0000_0000_00000009_0000_0000_00000004_1000) (heard 0 Active) none
+    ∷ gives (on 1 (read (bytes 1))) (wasRead 1) (told 0xFE2C_0002_0A0B0C0D_0000_0001_00000004_0000_0000_00000006_8000)
+    ∷ gives (hears 0xFE2C_0003_01020304_0000_0000_00000009_0000_0000_00000004_0000) (heard 0 Active) none
+    ∷ gives (on 1 (read (bytes 1))) (wasRead 1) none
+    ∷ [])
+    -- of two slots that were laid with one token, the lowest hears
+    ∷ plays (aGroup 2 8 (opened tokenB tokenA ∷ opened tokenB tokenA ∷ []) (freshElement 8 ++ freshElement 8))
+    (gives (hears 0xFE2C_0001_01020304_0000_0000_00000005_0000_0000_00000004_0000) (heard 1 Active) none
+    ∷ gives (on 1 (read (bytes 4))) (wasRead 1) none
+    ∷ gives (on 2 (read (bytes 4))) (wasRead 0) none
+    ∷ [])
+    -- AN ELEMENT'S BYTES. Open zeroes slot 2's element, which holds others, and writes the eye catcher; nothing else changes
+    ∷ plays (aGroup 2 8 (zeroRecord ∷ zeroRecord ∷ []) (replicate 16 0x55))
+    (gives (manage (openSlot 2 (given tokenA tokenB 8))) accepted none
+    ∷ memory (octets 16 0x55555555_55555555_E2D4C3D9_00000000)
+    ∷ slot 1 zeroRecord
+    ∷ slot 2 (opened tokenA tokenB)
+    ∷ [])
+    -- another last byte of the eye catcher: torn, an abort message, out untouched
+    ∷ plays (aGroup 1 8 (opened tokenA tokenB ∷ []) (octets 8 0xE2D4C3D8_00000000))
+    (hands (on 1 (read (0x11 ∷ 0x22 ∷ []))) torn (toB 1 0x20) (0x11 ∷ 0x22 ∷ []) ∷ [])
+    -- placed up to the end and from 4 on, read in that order; out beyond n stays
+    ∷ plays (hostB 16 (cur 15 0) (cur 15 0) (cur 15 0))
+    (gives (on 1 (place 15 (0xA1 ∷ []))) accepted none
+    ∷ gives (on 1 (place 4 (0xB2 ∷ 0xC3 ∷ []))) accepted none
+    ∷ memory (octets 16 0xE2D4C3D9_B2C30000_00000000_000000A1)
+    ∷ gives (hears 0xFE2C_0001_01020304_0000_0001_00000006_0000_0000_00000004_0000) (heard 3 Active) none
+    ∷ hands (on 1 (read (replicate 5 0xFF))) (wasRead 3) none (octets 5 0xA1B2C3FFFF)
+    ∷ [])
+    -- two bytes were read and the peer was not told: they are not free. No bytes: accepted at any offset
+    ∷ plays (hostB 8 (cur 6 0) (cur 6 0) (cur 4 0))
+    (gives (on 1 (place 4 (1 ∷ []))) (refusal 9) none
+    ∷ gives (on 1 (place 6 (1 ∷ 2 ∷ []))) accepted none
+    ∷ gives (on 1 (place 6 (1 ∷ 2 ∷ 3 ∷ []))) (refusal 9) none
+    ∷ gives (on 1 (place 3 (1 ∷ []))) (refusal 9) none
+    ∷ gives (on 1 (place 0 [])) accepted none
+    ∷ [])
+    -- FIGURE 22. Ours first
+    ∷ plays (hostA 8 start start)
+    (gives (fromB 0x00) (heard 0 Active) none
+    ∷ gives (on 1 shutdown) accepted (toB 1 0x80)
+    ∷ gives (fromB 0x00) (heard 0 PeerCloseWait1) none
+    ∷ gives (fromB 0x80) (heard 0 PeerCloseWait2) none
+    ∷ gives (on 1 close) accepted (toB 2 0xC0)
+    ∷ gives (fromB 0x00) (heard 0 PeerCloseWait2) none
+    ∷ gives (fromB 0x40) (heard 0 Closed) none
+    ∷ slot 1 zeroRecord
+    ∷ [])
+    -- theirs first
+    ∷ plays (hostA 8 start start)
+    (gives (fromB 0x80) (heard 0 AppCloseWait1) none
+    ∷ gives (on 1 shutdown) accepted (toB 1 0x80)
+    ∷ gives (fromB 0x00) (heard 0 AppCloseWait2) none
+    ∷ gives (fromB 0x40) (heard 0 AppCloseWait2) none
+    ∷ gives (on 1 close) accepted (toB 2 0xC0)
+    ∷ slot 1 zeroRecord
+    ∷ gives (fromB 0x00) (refusal 5) none
+    ∷ [])
+    -- C without D, then an abort of ours, and free
+    ∷ plays (hostA 8 start start)
+    (gives (on 1 close) accepted (toB 1 0x40)
+    ∷ gives (fromB 0x00) (heard 0 PeerCloseWait1) none
+    ∷ gives (fromB 0x80) (heard 0 PeerCloseWait2) none
+    ∷ gives (manage (freeSlot 1)) (refusal 7) none
+    ∷ gives (on 1 abort) accepted (toB 2 0x60)
+    ∷ gives (fromB 0x00) (heard 0 PeerAbortWait) none
+    ∷ gives (manage (freeSlot 1)) accepted none
+    ∷ slot 1 zeroRecord
+    ∷ [])
+    -- an abort of theirs is answered by one
+    ∷ plays (hostA 8 start start) (gives (fromB 0x20) (heard 0 Closed) (toB 1 0x20) ∷ slot 1 zeroRecord ∷ [])
+    -- LINK MESSAGES. The edges of the classes
+    ∷ plays (hostA 8 start start)
+    (gives (begins 0x04 0x2C) (refusal 14) none
+    ∷ gives (begins 0x05 0x2C) (refusal 4) none
+    ∷ gives (begins 0x06 0x2C) (refusal 14) none
+    ∷ gives (begins 0x09 0x2C) (refusal 14) none
+    ∷ gives (begins 0x0A 0x2C) (refusal 4) none
+    ∷ gives (begins 0x7F 0x2C) (refusal 4) none
+    ∷ gives (begins 0x80 0x2C) accepted none
+    ∷ gives (begins 0xBF 0x2C) accepted none
+    ∷ gives (begins 0xC0 0x2C) (refusal 4) none
+    ∷ gives (begins 0xFE 0x2C) (refusal 4) none
+    -- byte 1 is not 2C (optional aside)
+    ∷ gives (begins 0x04 0x2B) (refusal 4) none
+    ∷ gives (begins 0x80 0x2B) accepted none
+    -- TEST LINK is answered with the same 16 bytes; nothing follows a reply
+    ∷ gives (manage (linkMessage 1 (octets 20 0x072C0000_0102030405060708090A0B0C0D0E0F10 ++ replicate 24 0xFF))) accepted
+    (some (octets 20 0x072C0080_0102030405060708090A0B0C0D0E0F10 ++ replicate 24 0))
+    ∷ gives (manage (linkMessage 1 (octets 20 0x072C0080_0102030405060708090A0B0C0D0E0F10 ++ replicate 24 0))) accepted none
+    ∷ [])
+    ∷ []
+
+-- computed by the rules, every row is the row that stands there
+abbrev pub VectorsRight : Type 0
+VectorsRight = map found vectors ≡ vectors
