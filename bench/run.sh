@@ -1,7 +1,9 @@
 #!/bin/sh
-# Builds the proved static library and times it against Rust's own copies, both with optimization. Prints a table.
+# Builds the proved static libraries and times them against ordinary Rust, both with optimization. Prints two tables.
 set -eu
 cd "$(dirname "$0")/.."
 mkdir -p target
-rt staticlib element_c >target/bench.log 2>&1 || { cat target/bench.log; exit 1; }
+for name in element_c cursor_c; do
+    rt staticlib "$name" >target/bench.log 2>&1 || { cat target/bench.log; exit 1; }
+done
 RUSTFLAGS="-L native=$PWD/target/staticlib" CARGO_TARGET_DIR="$PWD/target/bench" cargo run --quiet --release --manifest-path bench/Cargo.toml

@@ -38,6 +38,37 @@ mod element {
     }
 }
 
+/// The cursor step: as it is, as it was before request 2026-02 (the wrap number by a remainder), and by dividing in ordinary Rust.
+mod cursor {
+    #[repr(C)]
+    #[derive(Clone, Copy, Debug, PartialEq)]
+    pub struct Cursor {
+        pub offset: u32,
+        pub wrap: u16,
+    }
+
+    #[link(name = "cursor_c", kind = "static")]
+    extern "C" {
+        fn cursor_step(n: u32, offset: u32, wrap: u16, k: u32) -> Cursor;
+        fn cursor_step_by_remainder(n: u32, offset: u32, wrap: u16, k: u32) -> Cursor;
+    }
+
+    pub fn after(n: u32, c: Cursor, k: u32) -> Cursor {
+        unsafe { cursor_step(n, c.offset, c.wrap, k) }
+    }
+
+    pub fn before(n: u32, c: Cursor, k: u32) -> Cursor {
+        unsafe { cursor_step_by_remainder(n, c.offset, c.wrap, k) }
+    }
+
+    #[inline(never)]
+    pub fn dividing(n: u32, c: Cursor, k: u32) -> Cursor {
+        let d = n - 4;
+        let x = c.offset - 4 + k;
+        Cursor { offset: 4 + x % d, wrap: ((c.wrap as u32 + x / d) % 65_536) as u16 }
+    }
+}
+
 /// The same in ordinary Rust, where a wrong index panics.
 mod step {
     #[inline(never)]
@@ -139,7 +170,34 @@ impl Table {
     }
 }
 
+/// Nanoseconds of one cursor step, each step from where the last one ended: the best of the rounds, the three by turns.
+fn cursor_steps() {
+    use cursor::{after, before, dividing, Cursor};
+    println!("| cursor step of | after, ns | before, ns | dividing in Rust, ns |");
+    println!("|---|---:|---:|---:|");
+    let ways: [fn(u32, Cursor, u32) -> Cursor; 3] = [after, before, dividing];
+    for (name, n, k) in [("1 of 65,536", 65_540, 1), ("1,000 of 9,996", 10_000, 1_000), ("D, every step wraps", 65_540, 65_536)] {
+        let steps = 200_000;
+        let mut best = [f64::MAX; 3];
+        for round in 0..ROUNDS {
+            let mut ends = [Cursor { offset: 4, wrap: 65_530 }; 3];
+            for turn in 0..3 {
+                let i = (round + turn) % 3;
+                let start = Instant::now();
+                for _ in 0..steps {
+                    ends[i] = ways[i](black_box(n), ends[i], black_box(k));
+                }
+                best[i] = best[i].min(start.elapsed().as_nanos() as f64 / steps as f64);
+            }
+            assert!(ends[0] == ends[1] && ends[0] == ends[2], "{name}: not the same cursor");
+        }
+        println!("| {name} | {:.2} | {:.2} | {:.2} |", best[0], best[1], best[2]);
+    }
+    println!();
+}
+
 fn main() {
+    cursor_steps();
     println!("| call | wrapped | bytes | ours, ns | step, ns | ratio | copy, ns | ratio |");
     println!("|---|---|---:|---:|---:|---:|---:|---:|");
     let mut table = Table { worst: 0.0 };

@@ -11,7 +11,7 @@ use lib.Dec.{leb}
 use lib.IntN.{pos}
 use borrow.Author.Tests.{le-leb, lt-leb}
 use Rattle.cursor.specs.declared.Cursor.{Cursor}
-use Rattle.cursor.specs.Cursor.{inRange, movedOf, stepOf, turnsOf, distanceOf, goodB, gapOf, leadOf, cursorAt}
+use Rattle.cursor.specs.Cursor.{inRange, movedOf, stepOf, turnsOf, distanceOf, goodB, gapOf, leadOf, cursorAt, dividedOf, nextWrap, StepDivides}
 use Rattle.cursor.proofs.Laws.{good-is, gap-is, lead-is, good-lead, lead-good, good-most, distance-good, range-is, is-range, step-in, moved-short, moved-over, turn-of, turn-sum, no-less}
 
 -- y is at most d after x: in the same turn of the ring, or in the next
@@ -191,3 +191,28 @@ module _ (d : ℕ) (full : 0 < d) where
       let b = cursorAt d (x + k) in
       one-gap (cursorAt d x) c b r (range-at (x + k)) w (wrap-at (x + k)) g (good-at x (x + k) (omega arith) (omega arith))
       (omega (arith, gap-at x (x + k) (omega arith) (omega arith)))
+
+-- the code's step, by a comparison and a subtraction, is the step by dividing
+pub step-divides : StepDivides
+unfolding dividedOf
+step-divides n c k r w most =
+    let o = range-is n c r in
+    let d = n - 4 in
+    let x = c .offset - 4 + k in
+    step-in n c k r (omega arith)
+    ∙ elim (decLt (c .offset + k) n) [
+      | yes h ↦
+          let q : x / d ≡ 0 = div-eq-of-lt (omega arith) in
+          let m : x % d ≡ x = mod-eq-of-lt (omega arith) in
+          let e : c .offset + k ≡ 4 + x % d = omega arith in
+          let f : c .wrap ≡ (c .wrap + x / d) % 65536 = rw q (omega arith) in
+          moved-short n c k h ∙ (λ i. record { offset = e i; wrap = f i })
+      | no h ↦
+          let s : x ≡ 1 * d + (x - d) = omega arith in
+          let q : x / d ≡ 1 =
+          ap (λ (y : ℕ). y / d) s ∙ mul-add-div-right (omega arith) 1 (x - d) ∙ ap (λ (y : ℕ). 1 + y) (div-eq-of-lt (omega arith)) in
+          let m : x % d ≡ x - d = ap (λ (y : ℕ). y % d) s ∙ mul-add-mod-self-right 1 d (x - d) ∙ mod-eq-of-lt (omega arith) in
+          let e : c .offset + k - n + 4 ≡ 4 + x % d = omega arith in
+          let f : nextWrap (c .wrap) ≡ (c .wrap + x / d) % 65536 = rw q in
+          moved-over n c k (omega arith) ∙ (λ i. record { offset = e i; wrap = f i })
+    ]

@@ -1,7 +1,8 @@
 -- Document 01, "The memory and the tables": cursors, a step, the distance from one cursor to another. A wrap number is a 16-bit number by
 -- the type of the code's field; no definition or law here needs it to be.
 -- Assumes nothing.
-use Prim.Native.Nat.{ℕ, _+_, _-_, _*_, _/_, _%_}
+use Prim.Native.Nat.{ℕ, _+_, _-_, _*_, _/_, _%_, _≤_, _<_}
+use mathlib.Core.Path.{_≡_}
 use mathlib.Core.Bool.{Bool, true, false, _&&_, cond}
 use lib.Dec.{ltb, leb, eqb}
 use lib.IntN.{ℤ, pos, negsuc, subℕ}
@@ -18,16 +19,32 @@ inRange n c = leb 4 (c .offset) && ltb (c .offset) n
 unfoldable pub sameB : Cursor → Cursor → Bool
 sameB a b = eqb (a .offset) (b .offset) && eqb (a .wrap) (b .wrap)
 
+-- the wrap number plus one, 65,535 going on to 0
+abbrev pub nextWrap : ℕ → ℕ
+nextWrap w = (w + 1) % 65536
+
 -- a step of k that reaches N gives 4 and the wrap number plus one, 65,535 going on to 0 (the subtraction is exact: N is reached)
 unfoldable pub movedOf : ℕ → Cursor → ℕ → Cursor
 movedOf n c k =
     cond (ltb (c .offset + k) n)
     (record { offset = c .offset + k; wrap = c .wrap })
-    (record { offset = c .offset + k - n + 4; wrap = (c .wrap + 1) % 65536 })
+    (record { offset = c .offset + k - n + 4; wrap = nextWrap (c .wrap) })
 
 -- the page gives a step a meaning for an offset in range and at most D bytes; elsewhere the cursor stays
 unfoldable pub stepOf : ℕ → Cursor → ℕ → Cursor
 stepOf n c k = cond (inRange n c && leb (k + 4) n) (movedOf n c k) c
+
+-- The same step by dividing: from the data's start, turns and rest of the sum by D (request 2026-02: the code divides nowhere, and the
+-- law `StepDivides` says that its step is this). The subtraction is exact: an offset in range is 4 or more
+unfoldable pub dividedOf : ℕ → Cursor → ℕ → Cursor
+dividedOf n c k =
+    let turns = (c .offset - 4 + k) / dataOf n in
+    let rest = (c .offset - 4 + k) % dataOf n in
+    record { offset = 4 + rest; wrap = (c .wrap + turns) % 65536 }
+
+-- for every cursor in range, any 16-bit wrap number, and every step up to D, the step is the step by dividing
+abbrev pub StepDivides : Type 0
+StepDivides = (n : ℕ) (c : Cursor) (k : ℕ) → inRange n c ≡ true → c .wrap < 65536 → k ≤ dataOf n → stepOf n c k ≡ dividedOf n c k
 
 -- z mod m, of an integer (exact: k % m is below m)
 abbrev pub modℤ : ℤ → ℕ → ℕ

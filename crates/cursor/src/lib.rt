@@ -1,7 +1,7 @@
 // Cursors of an RMB element: an offset and a 16-bit wrap number (document 01, "The memory and the tables").
 ghost use mathlib.Core.Path.{_≡_};
 ghost use Prim.Native.Nat.{_+_, _≤_, _<_};
-ghost use Rattle.cursor.specs.Cursor.{dataOf, inRange, sameB, turnsOf, leadOf, goodB, gapOf, movedOf, stepOf};
+ghost use Rattle.cursor.specs.Cursor.{dataOf, inRange, sameB, turnsOf, leadOf, goodB, gapOf, nextWrap, movedOf, stepOf};
 
 pub struct Cursor {
     pub offset: u32,
@@ -80,7 +80,6 @@ fn moved(n: u32, c: Cursor, k: u32) -> Cursor
 {
     let size = n as u64;
     let at = (c.offset as u64) + (k as u64);
-    let w = c.wrap as u32;
     if at < size {
         Cursor {
             offset: at as u32,
@@ -89,7 +88,14 @@ fn moved(n: u32, c: Cursor, k: u32) -> Cursor
     } else {
         Cursor {
             offset: (at - size + 4) as u32,
-            wrap: ((w + 1) % 65536) as u16,
+            wrap: next_wrap(c.wrap),
         }
     }
+}
+
+// The wrap number plus one, 65,535 going on to 0: by a comparison.
+fn next_wrap(w: u16) -> u16
+    ensures { λ r. ⌜ r ≡ nextWrap w ⌝ }
+{
+    if w == 65535 { 0 } else { w + 1 }
 }

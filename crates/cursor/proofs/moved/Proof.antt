@@ -11,23 +11,17 @@ cast-at c = search needs
 add-at : tie.Need-add-at
 add-at c = search needs
 
-cast-w : tie.Need-cast-w
-cast-w c = search needs
+cast-t10 : tie.Need-cast-t10
+cast-t10 c = search needs
 
-cast-t11 : tie.Need-cast-t11
-cast-t11 c = search needs
+add-t12 : tie.Need-add-t12
+add-t12 c = search needs
 
-add-t13 : tie.Need-add-t13
-add-t13 c = search needs
+cast-t13 : tie.Need-cast-t13
+cast-t13 c = search needs
 
-cast-t14 : tie.Need-cast-t14
-cast-t14 c = search needs
-
-add-t15 : tie.Need-add-t15
-add-t15 c = search needs
-
-cast-t17 : tie.Need-cast-t17
-cast-t17 c = search needs
+next-wrap-requires : tie.Need-next-wrap-requires
+next-wrap-requires c κs = search needs
 
 returns : tie.Need-returns
 unfolding movedOf
@@ -35,9 +29,9 @@ returns c = simp (lt-ltb _ _ (c .if1 .taken))
 
 returns-2 : tie.Need-returns-2
 unfolding movedOf
-returns-2 c = simp (le-ltb _ _ (c .if1 .left))
+returns-2 c = simp (le-ltb _ _ (c .before .if1 .left), c .next-wrap .ensures)
 
 pub moved-spec : {M : Type 1} → statement M
 moved-spec =
     tie.close
-    (tie.spec cast-at add-at cast-w cast-t11 add-t13 cast-t14 add-t15 cast-t17 returns returns-2)
+    (tie.spec cast-at add-at cast-t10 add-t12 cast-t13 next-wrap-requires returns returns-2)
