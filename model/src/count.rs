@@ -141,7 +141,7 @@ const HEAR_RULES: [&str; 11] = [
 ];
 
 /// The further cells, call by call.
-const FURTHER: [&str; 92] = [
+const FURTHER: [&str; 100] = [
     "group: line",
     "record: line",
     "poke: line",
@@ -215,11 +215,19 @@ const FURTHER: [&str; 92] = [
     "shutdown: ours first",
     "shutdown: after D heard",
     "shutdown: after C heard",
+    "shutdown: with unread bytes",
     "close: ours first",
     "close: after D sent",
     "close: after D heard",
     "close: C heard, slot closed",
-    "close: unread bytes dropped",
+    "close: all read, but not all told",
+    "close: reset",
+    "close: reset, one byte unread",
+    "close: reset, D unread, equal offsets",
+    "close: reset, D sent",
+    "close: reset, D heard",
+    "close: reset, C heard",
+    "close: reset, T moves",
     "abort: from no mark",
     "abort: after C sent",
     "abort: after C heard",
@@ -886,6 +894,24 @@ fn count_answer(cells: &mut Cells, line: &Line, answer: &Answer, group: &Group, 
             cells.hit_if(!c.done_heard && !c.closed_heard, "shutdown: ours first");
             cells.hit_if(c.done_heard && !c.closed_heard, "shutdown: after D heard");
             cells.hit_if(c.closed_heard, "shutdown: after C heard");
+            cells.hit_if(c.unread(before.n) > 0, "shutdown: with unread bytes");
+        }
+        (Line::Close { slot }, Answer::Made("reset", _)) => {
+            let c = &before.table[*slot as usize - 1];
+            let unread = c.unread(before.n);
+            cells.hit("close: reset");
+            cells.hit_if(unread == 1, "close: reset, one byte unread");
+            cells.hit_if(
+                unread == data_size(before.n),
+                "close: reset, D unread, equal offsets",
+            );
+            cells.hit_if(c.done_sent, "close: reset, D sent");
+            cells.hit_if(c.done_heard, "close: reset, D heard");
+            cells.hit_if(c.closed_heard, "close: reset, C heard");
+            cells.hit_if(c.told != c.consumer, "close: reset, T moves");
+            if state(&group.table[*slot as usize - 1]) != State::PeerAbortWait {
+                cells.fault("a close that reset left another state".to_string());
+            }
         }
         (Line::Close { slot }, _) => {
             let c = &before.table[*slot as usize - 1];
@@ -894,7 +920,10 @@ fn count_answer(cells: &mut Cells, line: &Line, answer: &Answer, group: &Group, 
             cells.hit_if(c.done_sent, "close: after D sent");
             cells.hit_if(c.done_heard && !c.closed_heard, "close: after D heard");
             cells.hit_if(c.closed_heard, "close: C heard, slot closed");
-            cells.hit_if(c.unread(before.n) > 0, "close: unread bytes dropped");
+            cells.hit_if(c.told != c.consumer, "close: all read, but not all told");
+            if c.unread(before.n) > 0 {
+                cells.fault("a close dropped unread bytes".to_string());
+            }
         }
         (Line::Abort { slot }, _) => {
             let c = &before.table[*slot as usize - 1];

@@ -321,6 +321,7 @@ fn describe(
         }
         (Line::Free { slot }, _) => ending(*slot, "free"),
         (Line::Shutdown { slot }, _) => ending(*slot, "shutdown"),
+        (Line::Close { slot }, Answer::Made("reset", _)) => ending(*slot, "close: reset"),
         (Line::Close { slot }, _) => ending(*slot, "close"),
         (Line::Abort { slot }, _) => ending(*slot, "abort"),
         (Line::Record { slot, .. }, _) => {

@@ -395,7 +395,11 @@ pub fn execute(group: &mut Group, line: &Line) -> Answer {
             Err(number) => Answer::Refused(number),
         },
         Line::Shutdown { slot } => made("shutdown", group.shutdown(*slot)),
-        Line::Close { slot } => made("close", group.close(*slot)),
+        Line::Close { slot } => match group.close(*slot) {
+            Ok(CloseAnswer::Closed(message)) => Answer::Made("close", message),
+            Ok(CloseAnswer::Reset(message)) => Answer::Made("reset", message),
+            Err(number) => Answer::Refused(number),
+        },
         Line::Abort { slot } => made("abort", group.abort(*slot)),
         Line::Record { slot, record } => {
             group.table[slot - 1] = *record;

@@ -352,8 +352,8 @@ fn make_message(c: &mut Connection) -> Bytes44 {
     message.write()
 }
 
-/// Torn, a heard abort and the call abort make an abort message: the abort mark
-/// is set, and the message carries it.
+/// Torn, reset, a heard abort and the call abort make an abort message: the abort
+/// mark is set, and the message carries it.
 fn make_abort_message(c: &mut Connection) -> Bytes44 {
     c.abort_sent = true;
     make_message(c)
@@ -483,6 +483,23 @@ pub enum ReadAnswer {
     },
 }
 
+/// What close answers, with the message it made.
+#[derive(Clone, Debug, PartialEq, Eq)]
+pub enum CloseAnswer {
+    /// C was sent; every byte had been read.
+    Closed(Bytes44),
+    /// Bytes were unread, so A was sent and no C.
+    Reset(Bytes44),
+}
+
+impl CloseAnswer {
+    pub fn message(&self) -> &Bytes44 {
+        match self {
+            CloseAnswer::Closed(message) | CloseAnswer::Reset(message) => message,
+        }
+    }
+}
+
 /// What hear answers.
 #[derive(Clone, Debug, PartialEq, Eq)]
 pub struct Heard {
@@ -592,13 +609,19 @@ impl Group {
         Ok(make_message(c))
     }
 
-    /// **Close** sends C, "and the slot is closed if C was heard; unread bytes
-    /// are dropped".
-    pub fn close(&mut self, slot: u32) -> Result<Bytes44, u8> {
+    /// **Close** sends C, "and the slot is closed if C was heard". 2026-03: "a
+    /// close with unread bytes makes an abort message, sets the abort mark and
+    /// answers "reset"; no C is sent, and the slot stays open in PeerAbortWait
+    /// even where C was heard. With none it is as before."
+    pub fn close(&mut self, slot: u32) -> Result<CloseAnswer, u8> {
         let index = self.test_slot(slot)?;
+        let n = self.n();
         let c = &mut self.table[index];
         if close_forbidden(c) {
             return Err(7);
+        }
+        if c.unread(n) > 0 {
+            return Ok(CloseAnswer::Reset(make_abort_message(c)));
         }
         mark_ours_first(c);
         c.closed_sent = true;
@@ -606,7 +629,7 @@ impl Group {
         if c.closed_heard {
             c.close_slot();
         }
-        Ok(message)
+        Ok(CloseAnswer::Closed(message))
     }
 
     /// **Abort** sends A.

@@ -161,6 +161,34 @@ fn what_calls_print() {
 }
 
 #[test]
+fn what_close_prints() {
+    // C (4,0), P (6,0), C heard: two bytes unread; then none.
+    let head = "link 1 1\nrecord 1 1 1 2 1 8";
+    let lines = answers(&format!(
+        "{head} 6 0 4 0 4 0 4 0 4 0 7 0 9\nclose 1\ntable\n"
+    ));
+    assert_eq!(
+        lines[2..4],
+        [
+            "reset message FE2C0007000000020000000000000004000000000000000400A0000000000000000000000000\
+             000000000000",
+            "slot 1 1 1 2 1 8 6 0 4 0 4 0 4 0 4 0 8 0 41",
+        ]
+    );
+    let lines = answers(&format!(
+        "{head} 4 0 4 0 4 0 4 0 4 0 7 0 9\nclose 1\ntable\n"
+    ));
+    assert_eq!(
+        lines[2..4],
+        [
+            "close message FE2C0007000000020000000000000004000000000000000400C0000000000000000000000000\
+             000000000000",
+            "slot 1 0 0 0 0 0 0 0 0 0 0 0 0 0 0 0 0 0 0",
+        ]
+    );
+}
+
+#[test]
 fn the_plate_example() {
     let folder = concat!(env!("CARGO_MANIFEST_DIR"), "/../examples");
     let input = std::fs::read(format!("{folder}/plate.txt")).unwrap();

@@ -103,7 +103,8 @@ fn number_3() {
     }
     assert_eq!(last(&format!("{}close 1", marked(10))), "refused 3");
     // The same cursors, coherent: T to C 2, C to P 2; a full turn is coherent.
-    assert!(last(&format!("{}close 1", marked(0))).starts_with("close message FE2C"));
+    assert!(last(&format!("{}close 1", marked(0))).starts_with("reset message FE2C"));
+    assert!(last(&format!("{START}close 1")).starts_with("close message FE2C"));
     let full = "record 1 1 5 6 1 16 6 1 6 0 6 0 4 1 4 0 1 0 0\n";
     assert_eq!(
         last(&format!("{START}{full}send 1 -")),

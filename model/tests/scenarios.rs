@@ -183,11 +183,80 @@ fn closing_both_ways() {
     assert_eq!(group.hear(&done).unwrap().state, State::PeerCloseWait2);
     let closed = group.close(2).unwrap();
     assert_eq!(state(&group.table[1]), State::PeerCloseWait2);
-    assert_eq!(group.hear(&closed).unwrap().state, State::AppCloseWait2);
+    assert_eq!(
+        group.hear(closed.message()).unwrap().state,
+        State::AppCloseWait2
+    );
     let closed = group.close(1).unwrap();
     assert_eq!(group.table[0], Connection::default());
-    assert_eq!(group.hear(&closed).unwrap().state, State::Closed);
+    assert_eq!(group.hear(closed.message()).unwrap().state, State::Closed);
     assert_eq!(group.table[1], Connection::default());
+}
+
+/// Host B has heard so many bytes and read none of them.
+fn unread_at_b(length: usize) -> Group {
+    let mut group = hosts();
+    let (_, message) = write(&mut group, 1, 2, &pattern(length, 5));
+    group.hear(&message.write()).unwrap();
+    group
+}
+
+#[test]
+fn close_with_unread_bytes_resets() {
+    // 2026-03, section 4.8.1, step 3A. Marks: none, D sent, D heard, C heard.
+    for (done_sent, done_heard, closed_heard) in [
+        (false, false, false),
+        (true, false, false),
+        (false, true, false),
+        (false, false, true),
+        (true, true, true),
+    ] {
+        for length in [1, 9_996] {
+            let mut group = unread_at_b(length);
+            group.table[1].done_sent = done_sent;
+            group.table[1].done_heard = done_heard;
+            group.table[1].closed_heard = closed_heard;
+            let before = group.table[1];
+            let answer = group.close(2).unwrap();
+            assert!(matches!(answer, CloseAnswer::Reset(_)));
+            let message = Message::read(answer.message()).unwrap();
+            assert!(message.abort && !message.closed);
+            assert_eq!(message.done, done_sent);
+            let after = Connection {
+                abort_sent: true,
+                told: before.consumer,
+                next_sequence: before.next_sequence + 1,
+                ..before
+            };
+            assert_eq!(group.table[1], after);
+            assert_eq!(state(&after), State::PeerAbortWait);
+            // It is an abort: nothing but a heard A or free follows.
+            assert_eq!(group.close(2), Err(7));
+            assert_eq!(group.abort(2), Err(7));
+            group.free(2).unwrap();
+            assert_eq!(group.table[1], Connection::default());
+        }
+    }
+}
+
+#[test]
+fn close_with_all_bytes_read_closes() {
+    let mut group = unread_at_b(700);
+    receive(&mut group, 2);
+    assert!(matches!(group.close(2), Ok(CloseAnswer::Closed(_))));
+    assert_eq!(state(&group.table[1]), State::PeerCloseWait1);
+    // One byte short of all of them, the same close resets.
+    let mut group = unread_at_b(700);
+    group.read(2, &mut [0; 699]).unwrap();
+    assert!(matches!(group.close(2), Ok(CloseAnswer::Reset(_))));
+}
+
+#[test]
+fn shutdown_does_not_look_at_unread_bytes() {
+    let mut group = unread_at_b(700);
+    let done = Message::read(&group.shutdown(2).unwrap()).unwrap();
+    assert!(done.done && !done.abort);
+    assert_eq!(state(&group.table[1]), State::PeerCloseWait1);
 }
 
 #[test]

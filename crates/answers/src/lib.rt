@@ -174,6 +174,7 @@ pub fn answer(o: &mut [u8; 65536], at: usize, command: Command, said: Answered, 
         Reply::Read(n) => was_read(o, at, n, said, out),
         Reply::Torn => torn(o, at, said, out),
         Reply::Heard(moved, s) => heard(o, at, moved, s, said),
+        Reply::Reset => with_message(o, at, b"reset message ", said),
     }
 }
 

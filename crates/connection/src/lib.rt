@@ -79,6 +79,8 @@ pub enum Reply {
     Read(u32),
     Torn,
     Heard(u64, State),
+    // a close with unread bytes
+    Reset,
 }
 
 // What a reply does with the bytes that the call was lent.
@@ -361,5 +363,6 @@ pub fn effect_of(reply: Reply) -> Effect
         Reply::Read(n) => Effect::Copies(n),
         Reply::Torn => Effect::Nothing,
         Reply::Heard(_, _) => Effect::Nothing,
+        Reply::Reset => Effect::Nothing,
     }
 }

@@ -1,6 +1,8 @@
 // Shutdown, close and abort, as steps of one record (document 01, "Calls of a connection").
 ghost use mathlib.Core.Path.{_≡_};
-ghost use Rattle.finish.specs.Finish.{shutdownForbids, shutdownOf, closeForbids, closeOf, abortOf};
+ghost use Rattle.finish.specs.Finish.{shutdownForbids, shutdownOf, closeForbids, resetOf, closingOf, closeOf, abortOf};
+ghost use Rattle.receive.specs.Receive.{unreadOf};
+ghost use lib.Dec.{ltb};
 use closing::Marks;
 use connection::Outcome;
 use connection::Record;
@@ -30,7 +32,34 @@ pub fn shutdown(n: u32, active: bool, rec: Record) -> Outcome
     connection::outcome_of(Reply::Accepted, true, done)
 }
 
-// Close sends C, and the slot is closed if C was heard.
+// Whether bytes are unread: the distance C to P is above 0.
+fn has_unread(n: u32, rec: Record) -> bool
+    ensures { λ r. ⌜ r ≡ ltb 0 (unreadOf n (rec .inbound)) ⌝ }
+{
+    let c = rec.inbound.consumer;
+    let p = rec.inbound.producer;
+    let d = cursor::data_size(n);
+    0 < cursor::gap(d, c, p)
+}
+
+// A close with unread bytes sends A, and the slot stays open.
+fn reset(rec: Record) -> Outcome
+    ensures { λ r. ⌜ r ≡ resetOf rec ⌝ }
+{
+    let aborted = connection::marks_to(rec, closing::abort_sent(rec.marks));
+    connection::outcome_of(Reply::Reset, true, aborted)
+}
+
+// With none it sends C, and the slot is closed if C was heard.
+fn finished(rec: Record) -> Outcome
+    ensures { λ r. ⌜ r ≡ closingOf rec ⌝ }
+{
+    let closed = connection::marks_to(rec, closing::closed_sent(rec.marks));
+    let o = connection::outcome_of(Reply::Accepted, true, closed);
+    connection::closed_if(rec.marks.heard.closed, o)
+}
+
+// Close looks at the unread bytes first: none is dropped in silence.
 pub fn close(n: u32, active: bool, rec: Record) -> Outcome
     ensures { λ r. ⌜ r ≡ closeOf n active rec ⌝ }
 {
@@ -38,9 +67,11 @@ pub fn close(n: u32, active: bool, rec: Record) -> Outcome
     if no != 0 {
         return connection::refused(no, rec);
     }
-    let closed = connection::marks_to(rec, closing::closed_sent(rec.marks));
-    let o = connection::outcome_of(Reply::Accepted, true, closed);
-    connection::closed_if(rec.marks.heard.closed, o)
+    if has_unread(n, rec) {
+        reset(rec)
+    } else {
+        finished(rec)
+    }
 }
 
 // Abort sends A.

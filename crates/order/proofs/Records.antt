@@ -24,7 +24,7 @@ use Rattle.connection.specs.Connection.{effectOf, zeroRecord, refusalOf, refuse
 use Rattle.transmit.specs.Transmit.{sendOf, sentOf, producedOf}
 use Rattle.receive.specs.Receive.{placeOf, mayPlace, placeForbids, readOf, takeOf, tornOf, consumedOf}
 use Rattle.hear.specs.Hear.{hearOf, abortedOf, followedOf, acceptedOf, heardRecord}
-use Rattle.finish.specs.Finish.{shutdownOf, closeOf, abortOf}
+use Rattle.finish.specs.Finish.{resetOf, closingOf, shutdownOf, closeOf, abortOf}
 use Rattle.rules.specs.Rules.{Request, send, place, read, shutdown, close, abort, Call, on, hear, manage, Turn, turnOf, requestTurn, hearTurn, placedIn}
 
 -- the record d is left of c
@@ -74,7 +74,7 @@ module _ (c : Record) where
   shutdown-keeps n a = search (by-test, refused, outcome) depth 9
 
   close-keeps : (n : ℕ) (a : Bool) → Keeps c (closeOf n a c)
-  unfolding closeOf marksTo
+  unfolding closeOf resetOf closingOf marksTo
   close-keeps n a = search (by-test, refused, outcome, shut) depth 9
 
   abort-keeps : (n : ℕ) (a : Bool) → Keeps c (abortOf n a c)

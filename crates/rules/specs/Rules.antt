@@ -25,7 +25,7 @@ use Rattle.element.specs.Element.{baseOf, elementOf, splice, intactB, freshElem
 use Rattle.connection.specs.declared.Record.{Record}
 use Rattle.connection.specs.declared.Opening.{Opening}
 use Rattle.connection.specs.declared.Reply.{Reply}
-use Rattle.connection.specs.declared.Reply.the-variants.{Refused, Accepted, Sent, Read, Torn, Heard}
+use Rattle.connection.specs.declared.Reply.the-variants.{Refused, Accepted, Sent, Read, Torn, Reset, Heard}
 use Rattle.connection.specs.declared.Effect.{Effect}
 use Rattle.connection.specs.declared.Effect.the-variants.{Nothing, Stores, Copies}
 use Rattle.connection.specs.declared.Outcome.{Outcome}
@@ -89,6 +89,7 @@ pub data Says : Type 0 where
   wasRead : ℕ → Says
   torn : Says
   heard : ℕ → State → Says
+  reset : Says
 
 -- 44 zeros stand in the place of a message where none is made
 pub record Answer : Type 0 where
@@ -110,6 +111,7 @@ saysOf (Sent n p) = sent n (placingList p)
 saysOf (Read n) = wasRead n
 saysOf Torn = torn
 saysOf (Heard moved state) = heard moved state
+saysOf Reset = reset
 
 -- ONE SLOT. A call of a connection, from N, whether its link is active, its record, its element's bytes and what is lent: its answer,
 -- the record and the bytes that it leaves. It sees nothing else.

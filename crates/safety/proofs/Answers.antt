@@ -6,14 +6,14 @@ use native.Mathlib.Omega.{arith}
 use Rattle.cdc.specs.declared.Message.{Message}
 use Rattle.connection.specs.declared.Record.{Record}
 use Rattle.connection.specs.declared.Reply.{Reply}
-use Rattle.connection.specs.declared.Reply.the-variants.{Refused, Accepted, Sent, Read, Torn, Heard}
+use Rattle.connection.specs.declared.Reply.the-variants.{Refused, Accepted, Sent, Read, Torn, Reset, Heard}
 use Rattle.connection.specs.declared.Outcome.{Outcome}
 use Rattle.connection.specs.Connection.{coherentB, refusalOf, refusedOf, outcomeOf, closedIf}
 use Rattle.transmit.specs.Transmit.{sendOf, sentOf}
 use Rattle.receive.specs.Receive.{placeOf, readOf, takeOf}
 use Rattle.hear.specs.Hear.{hearOf, abortedOf, followedOf, acceptedOf}
-use Rattle.finish.specs.Finish.{shutdownOf, closeOf, abortOf}
-use Rattle.rules.specs.Rules.{Says, refusal, accepted, sent, wasRead, torn, heard, saysOf}
+use Rattle.finish.specs.Finish.{resetOf, closingOf, shutdownOf, closeOf, abortOf}
+use Rattle.rules.specs.Rules.{Says, refusal, accepted, sent, wasRead, torn, reset, heard, saysOf}
 use Rattle.safety.specs.Statement.{acceptedB}
 
 -- from an equation of two constructors
@@ -28,6 +28,7 @@ Fair (Sent n p) = Unit {0}
 Fair (Read n) = Unit {0}
 Fair Torn = ⊥
 Fair (Heard moved state) = Unit {0}
+Fair Reset = Unit {0}
 
 pub fair-3 : (r : Reply) → Fair r → saysOf r ≡ refusal 3 → ⊥
 fair-3 (Refused k) f e = f (cc)
@@ -36,6 +37,7 @@ fair-3 (Sent n p) f e = clash (cc)
 fair-3 (Read n) f e = clash (cc)
 fair-3 Torn f e = f
 fair-3 (Heard moved state) f e = clash (cc)
+fair-3 Reset f e = clash (cc)
 
 pub fair-torn : (r : Reply) → Fair r → saysOf r ≡ torn → ⊥
 fair-torn (Refused k) f e = clash (cc)
@@ -44,6 +46,7 @@ fair-torn (Sent n p) f e = clash (cc)
 fair-torn (Read n) f e = clash (cc)
 fair-torn Torn f e = f
 fair-torn (Heard moved state) f e = clash (cc)
+fair-torn Reset f e = clash (cc)
 
 pub record Answers (o : Outcome) : Type 0 where
   pub fair : Fair (o .reply)
@@ -102,7 +105,7 @@ module _ (n : ℕ) (active : Bool) (c : Record) (ok : coherentB n c ≡ true) wh
   shutdown-answers = search (by-test, first, outcome) depth 9
 
   pub close-answers : Answers (closeOf n active c)
-  unfolding closeOf
+  unfolding closeOf resetOf closingOf
   close-answers = search (by-test, first, outcome, shut) depth 9
 
   pub abort-answers : Answers (abortOf n active c)
@@ -117,3 +120,4 @@ says-accepted (sent n p) e = absurd (false≢true e)
 says-accepted (wasRead n) e = absurd (false≢true e)
 says-accepted torn e = absurd (false≢true e)
 says-accepted (heard moved state) e = absurd (false≢true e)
+says-accepted reset e = absurd (false≢true e)

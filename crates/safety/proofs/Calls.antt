@@ -19,7 +19,7 @@ use Rattle.connection.proofs.Laws.{and-left, and-right, coherent-from}
 use Rattle.connection.specs.declared.Opening as Given
 use Rattle.connection.specs.Connection.{startCursor, openedRecord}
 use Rattle.table.specs.Table.{linkIn}
-use Rattle.rules.specs.Rules.{Group, Request, openSlot, freeSlot, linkChange, Call, on, hear, manage, refusal, accepted, torn, Turn, turnOf, requestTurn, hearTurn, Done, does, refuses, putTurn, recordOf, elementIn, linkOf}
+use Rattle.rules.specs.Rules.{Group, Request, openSlot, freeSlot, linkChange, Call, on, hear, manage, refusal, accepted, torn, reset, Turn, turnOf, requestTurn, hearTurn, Done, does, refuses, putTurn, recordOf, elementIn, linkOf}
 use Rattle.order.proofs.Records.{long-by}
 use Rattle.order.proofs.Slots.{slot-in, open-in, element-long, Put, put}
 use Rattle.safety.specs.Statement.{OpenAt, acceptedB, changedBy}

@@ -5,7 +5,7 @@ use mathlib.Core.Logic.{_⊎_, inl, inr}
 use mathlib.Core.Bool.{Bool, true, false, false≢true, _&&_, _||_, not, cond}
 use mathlib.Core.List.{List}
 use Prim.Native.Nat.{ℕ, _-_}
-use lib.Dec.{eqb}
+use lib.Dec.{ltb, eqb}
 use lib.ListN.{length}
 use borrow.Author.Tests.{eqb-true}
 use Rattle.cursor.specs.declared.Cursor.{Cursor}
@@ -20,10 +20,10 @@ use Rattle.connection.specs.declared.Outcome.{Outcome}
 use Rattle.connection.specs.Connection.{zeroRecord, refusalOf, refusedOf, outcomeOf, toldOf, toldIn, usedIn, closedIf, marksTo}
 use Rattle.connection.proofs.Laws.{Coherent, coherent-facts, refusal-none, tp-good, and-left, and-right, outcome-reply}
 use Rattle.transmit.specs.Transmit.{sendOf, sentOf, producedOf, producedOut}
-use Rattle.receive.specs.Receive.{placeOf, readOf, takeOf, tornOf, consumedOf, consumedIn}
+use Rattle.receive.specs.Receive.{unreadOf, placeOf, readOf, takeOf, tornOf, consumedOf, consumedIn}
 use Rattle.hear.specs.Hear.{producerB, consumerB, hearOf, abortedOf, followedOf, acceptedOf, heardRecord, heardIn, heardOut}
 use Rattle.hear.proofs.Laws.{Produces, Consumes, producer-rules, consumer-rules}
-use Rattle.finish.specs.Finish.{shutdownOf, closeForbids, closeOf, abortOf}
+use Rattle.finish.specs.Finish.{resetOf, closingOf, shutdownOf, closeForbids, closeOf, abortOf}
 use Rattle.rules.specs.Rules.{Request, send, place, read, shutdown, close, abort, Says, accepted, saysOf, turnOf, requestTurn, hearTurn, refusal, heard}
 use Rattle.safety.proofs.Cursors.{gap-front}
 use Rattle.safety.proofs.Answers.{clash}
@@ -116,13 +116,16 @@ module _ (n : ℕ) (a : Bool) (c : Record) where
     abort-leaves = search (by-test, refused, outcome, never q, other) depth 9
 
   close-leaves : Leaves n c (Why close) (closeOf n a c)
-  unfolding closeOf marksTo
+  unfolding closeOf resetOf closingOf marksTo
   close-leaves =
       by-test n c _ (never close) (eqb (refusalOf n a c (closeForbids (c .marks))) 0) _ _
       (λ e.
+      by-test n c _ (never close) (ltb 0 (unreadOf n (c .inbound))) _ _
+      (λ u. outcome n c _ (never close) _ _ _ (λ w. let z = w .1 in clash (cc)) refl refl refl)
+      (λ u.
       shut n c _ (never close) (c .marks .heard .closed) _
       (λ h. (refl, ap saysOf (outcome-reply Accepted true (marksTo c (closedSent (c .marks)))), h))
-      (λ h. outcome n c _ (never close) _ _ _ (λ w. false≢true (sym h ∙ w .2)) refl refl refl))
+      (λ h. outcome n c _ (never close) _ _ _ (λ w. false≢true (sym h ∙ w .2)) refl refl refl)))
       (λ e. refused n c _ (never close) _)
 
   pub request-course : (e : List ℕ) (q : Request)

@@ -30,14 +30,14 @@ use Rattle.connection.specs.Connection.{coherentB, refusalOf, refusedOf, outcom
 use Rattle.flow.specs.Flow.{windowOf}
 use Rattle.element.specs.Element.{allFree, intactB}
 use Rattle.transmit.specs.Transmit.{sendForbids, sendOf, sentOf}
-use Rattle.receive.specs.Receive.{placeForbids, mayPlace, placeOf, readForbids, readOf, takeOf, tornOf}
+use Rattle.receive.specs.Receive.{unreadOf, placeForbids, mayPlace, placeOf, readForbids, readOf, takeOf, tornOf}
 use Rattle.hear.specs.Hear.{producerB, consumerB, abortedOf, acceptedOf, followedOf, hearOf}
-use Rattle.finish.specs.Finish.{shutdownForbids, shutdownOf, closeForbids, closeOf, abortOf}
+use Rattle.finish.specs.Finish.{resetOf, closingOf, shutdownForbids, shutdownOf, closeForbids, closeOf, abortOf}
 use Rattle.connection.proofs.Laws.{outcome-reply, closed-reply}
 use Rattle.table.specs.Table.{sizesB, slotB, openB, activeB, findFrom}
 use Rattle.connection.specs.declared.Opening.{Opening}
 use Rattle.table.specs.Table.{linkIn}
-use Rattle.rules.specs.Rules.{Group, Request, send, place, read, shutdown, close, abort, openSlot, freeSlot, linkChange, linkMessage, Call, on, hear, manage, Says, refusal, accepted, sent, wasRead, torn, heard, saysOf, turnOf, requestTurn, hearTurn, Done, refuses, answer, sizesOk, recordOf, elementIn, linkOf, putTurn, onDoes, holderOf, hearAt, hearMessage, hearDoes, openRefusal, openDoes, freeRefusal, freeDoes, linkDoes, linkAnswer, linkMessageDoes, does}
+use Rattle.rules.specs.Rules.{Group, Request, send, place, read, shutdown, close, abort, openSlot, freeSlot, linkChange, linkMessage, Call, on, hear, manage, Says, refusal, accepted, sent, wasRead, torn, reset, heard, saysOf, turnOf, requestTurn, hearTurn, Done, refuses, answer, sizesOk, recordOf, elementIn, linkOf, putTurn, onDoes, holderOf, hearAt, hearMessage, hearDoes, openRefusal, openDoes, freeRefusal, freeDoes, linkDoes, linkAnswer, linkMessageDoes, does}
 use Rattle.safety.specs.Refusals.{outside, sizesWrong, slotOutside, slotClosed, incoherent, byteIs, malformedLink, tokenUnheld, connectionDown, linkDown, stateForbids, aborting, notAborting, producerBroken, consumerBroken, byteFree, unplaceable, alreadyOpen, tokenHeld, zeroOrOut, linkOutside, otherNamed, Test, _when_, placeTest, tests, firstOf, Exactly, ExactlyWhen}
 use Rattle.safety.proofs.Answers.{clash}
 
@@ -49,6 +49,7 @@ number (sent n p) = none
 number (wasRead n) = none
 number torn = none
 number (heard moved state) = none
+number reset = none
 
 number-is : (s : Says) (k : ℕ) → number s ≡ some k → s ≡ refusal k
 number-is (refusal j) k e = cc
@@ -57,6 +58,7 @@ number-is (sent n p) k e = cc
 number-is (wasRead n) k e = cc
 number-is torn k e = cc
 number-is (heard moved state) k e = cc
+number-is reset k e = cc
 
 unnumbered : (s : Says) → ((k : ℕ) → s ≡ refusal k → ⊥) → number s ≡ none
 unnumbered (refusal k) h = absurd (h k refl)
@@ -65,6 +67,7 @@ unnumbered (sent n p) h = refl
 unnumbered (wasRead n) h = refl
 unnumbered torn h = refl
 unnumbered (heard moved state) h = refl
+unnumbered reset h = refl
 
 -- TESTS. What F makes of the outcome of a test: where the test fails, its number; else what the tests after it give
 module _ {A : Type 0} (F : A → Option ℕ) (n : ℕ) (l : List Test) where
@@ -239,9 +242,9 @@ module _ (n : ℕ) (a : Bool) (c : Record) where
       first-tests n a c t (shutdownForbids (c .marks)) o [] e (then-accepts o (search accepted-all))
 
   close-first : (t : Bool) → t ≡ closeForbids (c .marks) → number (saysOf (closeOf n a c .reply)) ≡ firstOf (from3 t [])
-  unfolding closeOf
+  unfolding closeOf resetOf closingOf
   close-first t e =
-      let o = closedIf (c .marks .heard .closed) (outcomeOf Accepted true (marksTo c (closedSent (c .marks)))) in
+      let o = cond (ltb 0 (unreadOf n (c .inbound))) (resetOf c) (closingOf c) in
       first-tests n a c t (closeForbids (c .marks)) o [] e (then-accepts o (search accepted-all))
 
   abort-first : number (saysOf (abortOf n a c .reply)) ≡ firstOf (from3 (c .marks .abort) [])
@@ -305,8 +308,8 @@ module _ (n : ℕ) (c : Record) (m : Message) where
       let ok = producerB n c (m .producer) && consumerB c (m .consumer) in
       let s = outcomeOf (Heard 0 PeerAbortWait) false c in
       first-two n a c (cond (m .flags .abort) (abortedOf c) (followedOf n c m)) _
-      (by-abort (m .flags .abort) (c .marks .abort) ok _ (abortedOf c) s (acceptedOf n c m) cursors-are (search accepted-all) (search accepted-all)
-      (search accepted-all))
+      (by-abort (m .flags .abort) (c .marks .abort) ok _ (abortedOf c) s (acceptedOf n c m) cursors-are (search accepted-all)
+      (search accepted-all) (search accepted-all))
 
 -- a request's turn
 request-first : (g : Group) (k : ℕ) (q : Request)

@@ -16,8 +16,8 @@ use Rattle.transmit.specs.Transmit.{sendOf, sentOf, producedOf}
 use Rattle.receive.specs.Receive.{placeOf, readOf, takeOf, tornOf, consumedOf, consumedIn, unreadOf}
 use Rattle.hear.specs.Hear.{hearOf, heardRecord, abortedOf, followedOf, acceptedOf, heardIn}
 use Rattle.hear.proofs.Laws.{Produces, aborted-shut, repliedTo, hear-cases, accepted-is}
-use Rattle.finish.specs.Finish.{shutdownOf, closeOf, abortOf}
-use Rattle.rules.specs.Rules.{Says, saysOf, refusal, accepted, Request, read, turnOf, requestTurn, send, place, shutdown, close, abort, hearTurn, heard, torn, sent, wasRead, Turn}
+use Rattle.finish.specs.Finish.{resetOf, closingOf, shutdownOf, closeOf, abortOf}
+use Rattle.rules.specs.Rules.{Says, saysOf, refusal, accepted, Request, read, turnOf, requestTurn, send, place, shutdown, close, abort, hearTurn, heard, torn, reset, sent, wasRead, Turn}
 use Rattle.flow.specs.Flow.{takenOf}
 use Rattle.connection.specs.declared.Inbound.{Inbound}
 use Rattle.closing.specs.declared.State.the-variants.{PeerAbortWait}
@@ -100,7 +100,7 @@ module _ (n : ℕ) (c : Record) (New : Cursor → Type 0) where
     abort-goes = search (by-test, refused, outcome, quiet) depth 9
 
     close-goes : Goes n c New (closeOf n a c)
-    unfolding closeOf marksTo
+    unfolding closeOf resetOf closingOf marksTo
     close-goes = search (by-test, refused, outcome, shut, quiet) depth 9
 
     taken : (k : ℕ) → Goes n c New (takeOf n c k)
@@ -177,7 +177,7 @@ module _ (n : ℕ) (a : Bool) (c : Record) where
   shutdown-unread = search (either, refuses, replies) depth 9
 
   close-unread : Unread (closeOf n a c)
-  unfolding closeOf
+  unfolding closeOf resetOf closingOf
   close-unread = search (either, refuses, replies, closes) depth 9
 
   abort-unread : Unread (abortOf n a c)
@@ -199,6 +199,7 @@ module _ (n : ℕ) (a : Bool) (c : Record) where
   reader q out p (wasRead k) = inr (out, p, refl)
   reader q out p torn = inl refl
   reader q out p (heard moved state) = inl refl
+  reader q out p reset = inl refl
 
   pub request-reader : (e : List ℕ) (q : Request) → Reader q (requestTurn n a c e q .answer .says)
   unfolding requestTurn turnOf

@@ -2,7 +2,7 @@
 -- claims of specs/Changes; `Exactly`, `Refusals`, those of specs/Refusals.
 -- Of groups that calls leave: the `Invariant`; `Answers`, `Changed`, `Turns`, `Calls`, what one call keeps of it; `Sound`, that all have it.
 -- `OnSlot`, `Held`, `Bytes`, `Reader`, `Own`: a call on a slot, what an element holds, where each byte came from, what a read hands out, whose
--- bytes a call touches and sees. `Theorem`, `Progress`: the claims of specs/Statement.
+-- bytes a call touches and sees. `Theorem`, `Progress`, `Dropped`: the claims of specs/Statement.
 -- Of positions: `Places`, `Inbound`, `Journals`, what is said of a slot and its record and element over one turn; `Noted`, `Followed`, over each
 -- call, and all; `HandedOut`, how what is said grows. `Positions`, `Unwritten`: the claims of specs/Positions.
 pub mod Lists
@@ -26,6 +26,7 @@ pub mod Reader
 pub mod Own
 pub mod Theorem
 pub mod Progress
+pub mod Dropped
 pub mod Exactly
 pub mod Places
 pub mod Inbound

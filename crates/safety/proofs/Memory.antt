@@ -13,7 +13,7 @@ use Rattle.element.proofs.Elements.{base-end, element-in}
 use Rattle.element.proofs.Others.{splice-length, splice-below, splice-in, splice-above}
 use Rattle.connection.specs.declared.Record.{Record}
 use Rattle.connection.specs.declared.Reply.{Reply}
-use Rattle.connection.specs.declared.Reply.the-variants.{Refused, Accepted, Sent, Read, Torn, Heard}
+use Rattle.connection.specs.declared.Reply.the-variants.{Refused, Accepted, Sent, Read, Torn, Reset, Heard}
 use Rattle.receive.specs.Receive.{placeOf}
 use Rattle.receive.proofs.Laws.{Placeable, place-accepted}
 use Rattle.connection.specs.Connection.{effectOf}
@@ -58,6 +58,7 @@ module _ (n : ℕ) (a : Bool) (c : Record) (e : List ℕ) where
       go (Read k) h = inl refl
       go Torn h = inl refl
       go (Heard moved state) h = inl refl
+      go Reset h = inl refl
   puts-in (read out) = inl refl
   puts-in shutdown = inl refl
   puts-in close = inl refl

@@ -22,7 +22,7 @@ use Rattle.cursor.specs.declared.Cursor.{Cursor}
 use Rattle.cdc.specs.declared.Message.{Message}
 use Rattle.connection.specs.declared.Record.{Record}
 use Rattle.connection.specs.declared.Reply.{Reply}
-use Rattle.connection.specs.declared.Reply.the-variants.{Accepted, Heard, Refused, Read, Sent, Torn}
+use Rattle.connection.specs.declared.Reply.the-variants.{Accepted, Heard, Refused, Read, Sent, Torn, Reset}
 use Rattle.connection.specs.Connection.{zeroRecord, noMessage}
 use Rattle.receive.specs.Receive.{placeOf}
 use Rattle.cdc.specs.declared.Decoded.the-variants.{Good}
@@ -81,6 +81,7 @@ module _ (n : ℕ) (a : Bool) (c : Record) (e : List ℕ) where
       go (Read k) h = keeps-all (λ x. refl) refl
       go Torn h = keeps-all (λ x. refl) refl
       go (Heard moved state) h = keeps-all (λ x. refl) refl
+      go Reset h = keeps-all (λ x. refl) refl
   request-stores (read out) = stores-none n c e _
   request-stores shutdown = stores-none n c e _
   request-stores close = stores-none n c e _

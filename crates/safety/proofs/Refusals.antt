@@ -21,9 +21,9 @@ use Rattle.connection.proofs.Laws.{outcome-reply, closed-reply}
 use Rattle.transmit.specs.Transmit.{sendOf, sentOf}
 use Rattle.receive.specs.Receive.{placeOf, readOf, takeOf, tornOf}
 use Rattle.hear.specs.Hear.{hearOf, abortedOf, followedOf, acceptedOf}
-use Rattle.finish.specs.Finish.{shutdownOf, closeOf, abortOf}
+use Rattle.finish.specs.Finish.{resetOf, closingOf, shutdownOf, closeOf, abortOf}
 use Rattle.table.specs.Table.{recordAt, withRecord}
-use Rattle.rules.specs.Rules.{Group, Request, send, place, read, shutdown, close, abort, openSlot, freeSlot, linkChange, linkMessage, Call, on, hear, manage, Says, refusal, accepted, sent, wasRead, torn, heard, saysOf, turnOf, placedIn, readInto, requestTurn, hearTurn, Done, refuses, recordOf, elementIn, linkOf, putTurn, outOf, onDoes, holderOf, hearAt, hearMessage, hearDoes, openDoes, freeDoes, linkDoes, linkAnswer, linkMessageDoes, does}
+use Rattle.rules.specs.Rules.{Group, Request, send, place, read, shutdown, close, abort, openSlot, freeSlot, linkChange, linkMessage, Call, on, hear, manage, Says, refusal, accepted, sent, wasRead, torn, reset, heard, saysOf, turnOf, placedIn, readInto, requestTurn, hearTurn, Done, refuses, recordOf, elementIn, linkOf, putTurn, outOf, onDoes, holderOf, hearAt, hearMessage, hearDoes, openDoes, freeDoes, linkDoes, linkAnswer, linkMessageDoes, does}
 use Rattle.safety.specs.Refusals.{lentOut, RefusedKeeps}
 
 -- PUTTING BACK WHAT WAS THERE changes nothing, whatever the table and the memory
@@ -54,6 +54,7 @@ refusalB (sent n p) = false
 refusalB (wasRead n) = false
 refusalB torn = false
 refusalB (heard moved state) = false
+refusalB reset = false
 
 -- what x does, by F: where it refuses, it does no more than that
 module _ {A : Type 0} (g : Group) (out : List ℕ) (F : A → Done) where
@@ -110,7 +111,7 @@ module _ (g : Group) (j : ℕ) where
   quiet o p = settled g j [] (λ r. e) (λ r. []) (λ k. (refl, refl)) o p
 
   request : (q : Request) → Refuses g (outOf q) (λ d. d) (putTurn g j (requestTurn (g .N) (linkOf g j) (recordOf g j) e q))
-  unfolding requestTurn sendOf sentOf placeOf readOf takeOf tornOf shutdownOf closeOf abortOf
+  unfolding requestTurn sendOf sentOf placeOf readOf takeOf tornOf shutdownOf closeOf resetOf closingOf abortOf
   request (send b) = quiet _ (search walk depth 9)
   request (place at b) = settled g j [] (λ r. placedIn (effectOf r) e at b) (λ r. []) (λ k. (refl, refl)) _ (search walk depth 9)
   request (read out) =

@@ -12,7 +12,7 @@ use Rattle.element.specs.Element.{splice, intactB}
 use Rattle.element.proofs.Others.{intact-kept}
 use Rattle.connection.specs.declared.Record.{Record}
 use Rattle.connection.specs.declared.Reply.{Reply}
-use Rattle.connection.specs.declared.Reply.the-variants.{Refused, Accepted, Sent, Read, Torn, Heard}
+use Rattle.connection.specs.declared.Reply.the-variants.{Refused, Accepted, Sent, Read, Torn, Reset, Heard}
 use Rattle.connection.specs.declared.Outcome.{Outcome}
 use Rattle.connection.specs.Connection.{effectOf, coherentB, zeroRecord}
 use Rattle.transmit.specs.Transmit.{sendOf}
@@ -23,7 +23,7 @@ use Rattle.hear.specs.Hear.{hearOf}
 use Rattle.hear.proofs.Laws.{hear-coherent}
 use Rattle.finish.specs.Finish.{shutdownOf, closeOf, abortOf}
 use Rattle.finish.proofs.Laws.{shutdown-coherent, close-coherent, abort-coherent}
-use Rattle.rules.specs.Rules.{Request, send, place, read, shutdown, close, abort, refusal, torn, saysOf, Turn, turnOf, requestTurn, hearTurn, placedIn}
+use Rattle.rules.specs.Rules.{Request, send, place, read, shutdown, close, abort, refusal, torn, reset, saysOf, Turn, turnOf, requestTurn, hearTurn, placedIn}
 use Rattle.safety.specs.Statement.{acceptedB, placedBy}
 use Rattle.safety.proofs.Answers.{Answers, fair-3, fair-torn, send-answers, place-answers, read-answers, hear-answers, shutdown-answers, close-answers, abort-answers}
 use Rattle.safety.proofs.Lists.{splice-none}
@@ -63,6 +63,7 @@ module _ (n : ℕ) (a : Bool) (c : Record) (e : List ℕ) (long : length e ≡ n
   placed-held (Read k) at b = refl
   placed-held Torn at b = refl
   placed-held (Heard moved state) at b = refl
+  placed-held Reset at b = refl
 
   placed-eye : (r : Reply) (at : ℕ) (b : List ℕ) → (r ≡ Accepted → Placeable n (c .inbound) at (length b))
       → intactB (placedIn (effectOf r) e at b) ≡ true
@@ -76,6 +77,7 @@ module _ (n : ℕ) (a : Bool) (c : Record) (e : List ℕ) (long : length e ≡ n
   placed-eye (Read k) at b h = eye
   placed-eye Torn at b h = eye
   placed-eye (Heard moved state) at b h = eye
+  placed-eye Reset at b h = eye
 
   pub request : (q : Request) → Kept n (cond (acceptedB (requestTurn n a c e q .answer .says)) (placedBy q e) e) (requestTurn n a c e q)
   unfolding requestTurn turnOf

@@ -18,7 +18,7 @@ use Rattle.cdc.specs.declared.Flags.{Flags}
 use Rattle.cdc.specs.Cdc.{encodeOf, decodeOf}
 use Rattle.connection.specs.Connection.{zeroRecord}
 use Rattle.connection.specs.Connection.{startCursor}
-use Rattle.rules.specs.Rules.{Group, Request, send, place, read, shutdown, close, abort, openSlot, freeSlot, linkChange, linkMessage, Call, on, hear, manage, Says, refusal, accepted, sent, wasRead, torn, heard, Answer, answer, next, recordOf, elementIn, Fresh}
+use Rattle.rules.specs.Rules.{Group, Request, send, place, read, shutdown, close, abort, openSlot, freeSlot, linkChange, linkMessage, Call, on, hear, manage, Says, refusal, accepted, sent, wasRead, torn, reset, heard, Answer, answer, next, recordOf, elementIn, Fresh}
 use Rattle.order.specs.Statement.{leaves, answers, At}
 use Rattle.safety.specs.Statement.{OpenAt, acceptedB, Opens}
 
@@ -52,6 +52,7 @@ movedIn (sent n p) = 0
 movedIn (wasRead n) = 0
 movedIn torn = 0
 movedIn (heard moved state) = moved
+movedIn reset = 0
 
 abbrev pub readIn : Says → ℕ
 readIn (refusal k) = 0
@@ -60,6 +61,7 @@ readIn (sent n p) = 0
 readIn (wasRead n) = n
 readIn torn = 0
 readIn (heard moved state) = 0
+readIn reset = 0
 
 -- the bytes that a call places, and their offset; of other calls, none
 pub record Placed : Type 0 where

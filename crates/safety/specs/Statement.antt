@@ -16,7 +16,7 @@ use Rattle.connection.specs.Connection.{coherentB}
 use Rattle.transmit.specs.Transmit.{sendForbids}
 use Rattle.receive.specs.Receive.{readForbids, unreadOf}
 use Rattle.table.specs.Table.{slotB, openB}
-use Rattle.rules.specs.Rules.{Group, Request, send, place, read, shutdown, close, abort, openSlot, freeSlot, linkChange, linkMessage, Call, on, hear, manage, Says, refusal, accepted, sent, wasRead, torn, heard, Answer, answer, next, sizesOk, recordOf, elementIn, linkOf, holderOf, Fresh}
+use Rattle.rules.specs.Rules.{Group, Request, send, place, read, shutdown, close, abort, openSlot, freeSlot, linkChange, linkMessage, Call, on, hear, manage, Says, refusal, accepted, sent, wasRead, torn, reset, heard, Answer, answer, next, sizesOk, recordOf, elementIn, linkOf, holderOf, Fresh}
 use Rattle.order.specs.Statement.{leaves, At}
 
 -- whatever calls are made of a fresh group, this holds of the group that they leave
@@ -66,6 +66,7 @@ acceptedB (sent n p) = false
 acceptedB (wasRead n) = false
 acceptedB torn = false
 acceptedB (heard moved state) = false
+acceptedB reset = false
 
 abbrev pub placedBy : Request → List ℕ → List ℕ
 placedBy (send b) e = e
@@ -228,3 +229,9 @@ OneRead =
     (h : Group) (k : ℕ) (out : List ℕ) → sizesOk h ≡ true → OpenAt h k → coherentB (h .N) (recordOf h k) ≡ true
     → readForbids (recordOf h k .marks) ≡ false → intactB (elementIn h k) ≡ true → linkOf h k ≡ true
     → Hands h k out (answer h (on k (read out)))
+
+-- NOTHING IS DROPPED IN SILENCE. A close that answers anything but a refusal or "reset" found every byte read, on any group.
+abbrev pub NothingDropped : Type 0
+NothingDropped =
+    (g : Group) (k : ℕ) → ((j : ℕ) → answer g (on k close) .says ≡ refusal j → ⊥) → (answer g (on k close) .says ≡ reset → ⊥)
+    → unreadOf (g .N) (recordOf g k .inbound) ≡ 0

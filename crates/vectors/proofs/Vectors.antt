@@ -10,7 +10,7 @@ use Rattle.connection.specs.Connection.{zeroRecord, numbersOk, offsetsOk, dista
 use Rattle.transmit.specs.Transmit.{sendForbids, nOf, producedOut, producedOf, tellsOf, sentOf, sendOf}
 use Rattle.receive.specs.Receive.{placeForbids, mayPlace, placeOf, readForbids, unreadOf, consumedIn, consumedOf, updateOf, tornOf, takeOf, readOf}
 use Rattle.hear.specs.Hear.{abortedOf, producerB, consumerB, heardIn, heardOut, heardRecord, answersB, acceptedOf, followedOf, hearOf}
-use Rattle.finish.specs.Finish.{shutdownForbids, shutdownOf, closeForbids, closeOf, abortOf}
+use Rattle.finish.specs.Finish.{resetOf, closingOf, shutdownForbids, shutdownOf, closeForbids, closeOf, abortOf}
 use Rattle.table.specs.Table.{sizesB, slotB, recordAt, openB, activeB, holdsB, lowest, findFrom, withRecord, withLink}
 use Rattle.connection.specs.Connection.{openedRecord}
 use Rattle.rules.specs.Rules.{turnOf, requestTurn, hearTurn, refuses, putTurn, onDoes, hearAt, hearDoes, openRefusal, openDoes, freeRefusal, freeDoes, linkDoes, linkMessageDoes}
@@ -27,7 +27,7 @@ unfolding inRange sameB movedOf stepOf turnsOf distanceOf goodB gapOf
     sendForbids nOf producedOut producedOf tellsOf sentOf sendOf
     placeForbids mayPlace placeOf readForbids unreadOf consumedIn consumedOf updateOf tornOf takeOf readOf
     abortedOf producerB consumerB heardIn heardOut heardRecord answersB acceptedOf followedOf hearOf
-    shutdownForbids shutdownOf closeForbids closeOf abortOf
+    shutdownForbids shutdownOf closeForbids closeOf resetOf closingOf abortOf
     sizesB slotB recordAt openB activeB holdsB lowest findFrom withRecord withLink
     turnOf requestTurn hearTurn refuses putTurn onDoes hearAt hearDoes openedRecord openRefusal openDoes freeRefusal freeDoes linkDoes
     linkMessageDoes

@@ -22,7 +22,7 @@ use Rattle.connection.specs.declared.Outbound.{Outbound}
 use Rattle.connection.specs.declared.Record.{Record}
 use Rattle.connection.specs.declared.Opening.{Opening}
 use Rattle.connection.specs.Connection.{zeroRecord, noMarks}
-use Rattle.rules.specs.Rules.{Group, Request, send, place, read, shutdown, close, abort, openSlot, freeSlot, linkChange, linkMessage, Call, on, hear, manage, Says, refusal, accepted, sent, wasRead, torn, heard, Answer, answer, next, recordOf}
+use Rattle.rules.specs.Rules.{Group, Request, send, place, read, shutdown, close, abort, openSlot, freeSlot, linkChange, linkMessage, Call, on, hear, manage, Says, refusal, accepted, sent, wasRead, torn, reset, heard, Answer, answer, next, recordOf}
 
 -- WHAT A ROW LAYS. An offset and a wrap number
 abbrev pub cur : ℕ → ℕ → Cursor
@@ -141,6 +141,7 @@ named (sent n p) = some n
 named (wasRead n) = some n
 named torn = none
 named (heard moved state) = none
+named reset = none
 
 abbrev pub messageIn : Answer → Option (List ℕ)
 messageIn a = cond (a .made) (some (a .message)) none
@@ -210,7 +211,10 @@ speaker =
     (record { sent = record { done = true; closed = true }; heard = noMarks; first = true; abort = false })
 
 abbrev pub listener : Record
-listener = laid 0x11223344 0xA1A2A3A4 65540 (inwards wide wide wide) (outwards (cur 0xABCD 0x89EF) (cur 0xAB00 0x89EF)) unmarked
+listener =
+    laid 0x11223344 0xA1A2A3A4 65540
+    (record { producer = wide; consumer = wide; told = wide; last = 0x5565; blocked = false; request = false })
+    (outwards (cur 0xABCD 0x89EF) (cur 0xAB00 0x89EF)) unmarked
 
 abbrev pub listened : Record
 listened =
@@ -233,9 +237,9 @@ stopped =
     laid tokenB tokenA 8 (inwards start start start)
     (record { producer = cur 4 1; consumer = start; next = 1; blocked = true }) unmarked
 
--- B's messages to A with byte 25 as given: 80 D, 40 C, 20 A; and A's to B, with a sequence number
-abbrev pub fromB : ℕ → Call
-fromB l = hears (0xFE2C_0001_0A0B0C0D_0000_0000_00000004_0000_0000_00000004_0000 + l)
+-- B's messages to A, with a sequence number and byte 25 as given: 80 D, 40 C, 20 A; and A's to B
+abbrev pub fromB : ℕ → ℕ → Call
+fromB s l = hears (0xFE2C_0000_0A0B0C0D_0000_0000_00000004_0000_0000_00000004_0000 + s * 256 ^ 22 + l)
 
 abbrev pub toB : ℕ → ℕ → Option (List ℕ)
 toB s l = told (0xFE2C_0000_01020304_0000_0000_00000004_0000_0000_00000004_0000 + s * 256 ^ 22 + l)
@@ -375,38 +379,51 @@ vectors =
     ∷ [])
     -- FIGURE 22. Ours first
     ∷ plays (hostA 8 start start)
-    (gives (fromB 0x00) (heard 0 Active) none
+    (gives (fromB 1 0x00) (heard 0 Active) none
     ∷ gives (on 1 shutdown) accepted (toB 1 0x80)
-    ∷ gives (fromB 0x00) (heard 0 PeerCloseWait1) none
-    ∷ gives (fromB 0x80) (heard 0 PeerCloseWait2) none
+    ∷ gives (fromB 2 0x00) (heard 0 PeerCloseWait1) none
+    ∷ gives (fromB 3 0x80) (heard 0 PeerCloseWait2) none
     ∷ gives (on 1 close) accepted (toB 2 0xC0)
-    ∷ gives (fromB 0x00) (heard 0 PeerCloseWait2) none
-    ∷ gives (fromB 0x40) (heard 0 Closed) none
+    ∷ gives (fromB 4 0x00) (heard 0 PeerCloseWait2) none
+    ∷ gives (fromB 5 0x40) (heard 0 Closed) none
     ∷ slot 1 zeroRecord
     ∷ [])
     -- theirs first
     ∷ plays (hostA 8 start start)
-    (gives (fromB 0x80) (heard 0 AppCloseWait1) none
+    (gives (fromB 1 0x80) (heard 0 AppCloseWait1) none
     ∷ gives (on 1 shutdown) accepted (toB 1 0x80)
-    ∷ gives (fromB 0x00) (heard 0 AppCloseWait2) none
-    ∷ gives (fromB 0x40) (heard 0 AppCloseWait2) none
+    ∷ gives (fromB 2 0x00) (heard 0 AppCloseWait2) none
+    ∷ gives (fromB 3 0x40) (heard 0 AppCloseWait2) none
     ∷ gives (on 1 close) accepted (toB 2 0xC0)
     ∷ slot 1 zeroRecord
-    ∷ gives (fromB 0x00) (refusal 5) none
+    ∷ gives (fromB 4 0x00) (refusal 5) none
     ∷ [])
     -- C without D, then an abort of ours, and free
     ∷ plays (hostA 8 start start)
     (gives (on 1 close) accepted (toB 1 0x40)
-    ∷ gives (fromB 0x00) (heard 0 PeerCloseWait1) none
-    ∷ gives (fromB 0x80) (heard 0 PeerCloseWait2) none
+    ∷ gives (fromB 1 0x00) (heard 0 PeerCloseWait1) none
+    ∷ gives (fromB 2 0x80) (heard 0 PeerCloseWait2) none
     ∷ gives (manage (freeSlot 1)) (refusal 7) none
     ∷ gives (on 1 abort) accepted (toB 2 0x60)
-    ∷ gives (fromB 0x00) (heard 0 PeerAbortWait) none
+    ∷ gives (fromB 3 0x00) (heard 0 PeerAbortWait) none
     ∷ gives (manage (freeSlot 1)) accepted none
     ∷ slot 1 zeroRecord
     ∷ [])
     -- an abort of theirs is answered by one
-    ∷ plays (hostA 8 start start) (gives (fromB 0x20) (heard 0 Closed) (toB 1 0x20) ∷ slot 1 zeroRecord ∷ [])
+    ∷ plays (hostA 8 start start) (gives (fromB 1 0x20) (heard 0 Closed) (toB 1 0x20) ∷ slot 1 zeroRecord ∷ [])
+    -- CLOSE WITH AN UNREAD BYTE: A is sent and C is not, and the slot stays open though C was heard
+    ∷ plays (hostB 8 (cur 5 0) (cur 4 0) (cur 4 0))
+    (gives (hears 0xFE2C_0001_01020304_0000_0000_00000005_0000_0000_00000004_0040) (heard 0 AppCloseWait1) none
+    ∷ gives (on 1 close) reset (told 0xFE2C_0001_0A0B0C0D_0000_0000_00000004_0000_0000_00000004_0020)
+    ∷ gives (on 1 (read (bytes 1))) (refusal 7) none
+    ∷ gives (manage (freeSlot 1)) accepted none
+    ∷ slot 1 zeroRecord
+    ∷ [])
+    -- shutdown does not look at unread bytes; D is carried where it was sent
+    ∷ plays (hostB 8 (cur 5 0) (cur 4 0) (cur 4 0))
+    (gives (on 1 shutdown) accepted (told 0xFE2C_0001_0A0B0C0D_0000_0000_00000004_0000_0000_00000004_0080)
+    ∷ gives (on 1 close) reset (told 0xFE2C_0002_0A0B0C0D_0000_0000_00000004_0000_0000_00000004_00A0)
+    ∷ [])
     -- LINK MESSAGES. The edges of the classes
     ∷ plays (hostA 8 start start)
     (gives (begins 0x04 0x2C) (refusal 14) none

@@ -116,6 +116,10 @@ fn close_marks_called(list: &mut List, random: &mut Random) {
         list.record(1, c);
         list.close(1);
         list.table();
+        c.consumer = c.peer_producer;
+        list.record(1, c);
+        list.close(1);
+        list.table();
         list.record(1, c);
         list.abort(1);
     }

@@ -431,8 +431,21 @@ impl World {
             }
             return;
         }
+        let unread = record.unread(i64::from(self.group_of(end).size));
         match self.random.below(12) {
             0..=3 => self.end_call(which, side, |slot| Line::Shutdown { slot }),
+            // Who closes in order reads first; a close with unread bytes resets.
+            4..=9 if unread > 0 && self.random.chance(3, 4) => {
+                let room = unread as usize;
+                self.call_at(
+                    which,
+                    side,
+                    Line::Read {
+                        slot: end.slot,
+                        room,
+                    },
+                );
+            }
             4..=9 => self.end_call(which, side, |slot| Line::Close { slot }),
             _ => self.end_call(which, side, |slot| Line::Abort { slot }),
         }

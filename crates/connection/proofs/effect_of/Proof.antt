@@ -24,6 +24,9 @@ enum-told-4 c = search needs
 enum-told-5 : tie.Need-enum-told-5
 enum-told-5 c = search needs
 
+enum-told-6 : tie.Need-enum-told-6
+enum-told-6 c = search needs
+
 returns : tie.Need-returns
 returns c = sym (ap effectOf (c .enum-told .given .1))
 
@@ -42,6 +45,9 @@ returns-5 c = sym (ap effectOf (c .enum-told4 .given .1))
 returns-6 : tie.Need-returns-6
 returns-6 c = sym (ap effectOf (c .enum-told5 .given .1))
 
+returns-7 : tie.Need-returns-7
+returns-7 c = sym (ap effectOf (c .enum-told6 .given .1))
+
 pub effect-of-spec : {M : Type 1} → statement M
 effect-of-spec =
     tie.close
@@ -52,9 +58,11 @@ effect-of-spec =
     enum-known-reply
     enum-told-4
     enum-told-5
+    enum-told-6
     returns
     returns-2
     returns-3
     returns-4
     returns-5
-    returns-6)
+    returns-6
+    returns-7)

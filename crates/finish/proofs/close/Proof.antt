@@ -21,34 +21,43 @@ returns c =
     let r = b .before in
     simp (← (r .before .close-forbids .ensures), ← (r .refusal .ensures), ne-eqb _ _ (b .if1 .taken), c .refused .ensures)
 
-closed-sent-requires : tie.Need-closed-sent-requires
-closed-sent-requires c κs = search needs
+has-unread-requires : tie.Need-has-unread-requires
+has-unread-requires c κs = search needs
 
-marks-to-requires : tie.Need-marks-to-requires
-marks-to-requires c κs = search needs
+reset-requires : tie.Need-reset-requires
+reset-requires c κs = search needs
 
-outcome-of-requires : tie.Need-outcome-of-requires
-outcome-of-requires c κs = search needs
-
-closed-if-requires : tie.Need-closed-if-requires
-closed-if-requires c κs = search needs
+finished-requires : tie.Need-finished-requires
+finished-requires c κs = search needs
 
 returns-2 : tie.Need-returns-2
 unfolding closeOf
 returns-2 c =
-    let o = c .before in
-    let m = o .before in
-    let a = m .before in
-    let e = a .before in
+    let u = c .before .before in
+    let e = u .before in
     let r = e .before in
     simp (
       ← (r .before .close-forbids .ensures),
       ← (r .refusal .ensures),
       eq-eqb _ _ (e .if1 .left),
-      c .closed-if .ensures,
-      o .outcome-of .ensures,
-      m .marks-to .ensures,
-      a .closed-sent .ensures,
+      ← (u .has-unread .ensures),
+      c .before .if2 .taken,
+      c .reset .ensures,
+    )
+
+returns-3 : tie.Need-returns-3
+unfolding closeOf
+returns-3 c =
+    let u = c .before .before in
+    let e = u .before in
+    let r = e .before in
+    simp (
+      ← (r .before .close-forbids .ensures),
+      ← (r .refusal .ensures),
+      eq-eqb _ _ (e .if1 .left),
+      ← (u .has-unread .ensures),
+      c .before .if2 .left,
+      c .finished .ensures,
     )
 
 pub close-spec : {M : Type 1} → statement M
@@ -59,8 +68,8 @@ close-spec =
     refusal-requires
     refused-requires
     returns
-    closed-sent-requires
-    marks-to-requires
-    outcome-of-requires
-    closed-if-requires
-    returns-2)
+    has-unread-requires
+    reset-requires
+    finished-requires
+    returns-2
+    returns-3)

@@ -1,7 +1,7 @@
 //! Cursors, bytes and lengths just inside and just outside each rule, full
 //! turns, and any marks at all.
 
-use super::calls::SLOT_CALLS;
+use super::calls::{allowing_marks, SlotCall, SLOT_CALLS};
 use super::records::{step_back, step_far, with_marks};
 use super::Bench;
 use crate::replay::set_marks;
@@ -237,6 +237,62 @@ impl Bench {
                         self.list.table();
                     }
                 }
+            }
+        }
+    }
+
+    /// Closes with nothing, one byte and the whole element unread, and what
+    /// follows a reset.
+    pub(super) fn close_boundaries(&mut self) {
+        let (elements, size) = self.small_group(true);
+        let n = i64::from(size);
+        let d = data_size(n);
+        self.list.all_links_up();
+        for &marks in allowing_marks(SlotCall::Close) {
+            for unread in [0, 1, d - 1, d] {
+                let slot = self.any_slot(elements);
+                let c = self.coherent_record(n);
+                let untold = self.part(d - unread);
+                let consumer = step(c.told, untold, n);
+                let c = Connection {
+                    consumer,
+                    peer_producer: step(consumer, unread, n),
+                    ..with_marks(c, marks + (self.random.below(8) * 64) as u16)
+                };
+                self.list.record(slot as usize, c);
+                if self.random.chance(1, 4) {
+                    self.list.shutdown(slot);
+                }
+                self.list.close(slot);
+                if self.random.chance(1, 3) {
+                    self.list.table();
+                }
+                match self.random.below(6) {
+                    0 => {
+                        self.list.close(slot);
+                    }
+                    1 => {
+                        self.list.read(slot, 3);
+                    }
+                    2 => {
+                        let message = self.fitting_message(&c, n);
+                        self.hear(&message);
+                    }
+                    3 => {
+                        let message = self.fitting_message(&c, n);
+                        let closed = self.random.chance(1, 2);
+                        self.hear(&Message {
+                            closed,
+                            abort: !closed,
+                            ..message
+                        });
+                    }
+                    4 => {
+                        self.list.free(slot);
+                    }
+                    _ => {}
+                }
+                self.look();
             }
         }
     }

@@ -50,6 +50,7 @@ pub fn list(seed: u64, count: Option<usize>) -> Vec<u8> {
         Bench::place_boundaries,
         Bench::send_boundaries,
         Bench::read_boundaries,
+        Bench::close_boundaries,
         Bench::full_turns,
         Bench::random_marks,
         Bench::bad_lines,
