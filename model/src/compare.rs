@@ -6,7 +6,7 @@ use std::thread;
 use std::time::{Duration, Instant};
 
 use crate::generate::{exhaust, hostile, orders, traffic};
-use crate::replay::{answer_line, first_group, lines};
+use crate::replay::{lines, Replay};
 
 /// How long to compare.
 #[derive(Clone, Copy, Debug)]
@@ -27,11 +27,11 @@ struct Answered {
 
 /// Each line that is not skipped, with the text of its answer.
 fn answer_each(input: &[u8]) -> Answered {
-    let mut group = first_group();
+    let mut replay = Replay::new();
     let mut calls = Vec::new();
     for line in lines(input) {
         let mut out = Vec::new();
-        answer_line(&mut group, line, &mut out);
+        replay.answer_line(line, &mut out);
         if !out.is_empty() {
             calls.push((line.to_vec(), out));
         }

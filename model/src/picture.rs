@@ -10,7 +10,7 @@ mod svg;
 use std::ops::Range;
 
 use crate::generate::message_of;
-use crate::replay::{execute, first_group, lines, parse, push_hex, skipped, Answer, Line};
+use crate::replay::{lines, push_hex, skipped, Answer, Line, Replay};
 use crate::smcr::*;
 
 /// One thing to draw, from the top down.
@@ -78,14 +78,14 @@ fn replayed(
     input: &[u8],
     mut each: impl FnMut(&[u8], Option<(&Line, &Answer)>, &[Connection], &Group),
 ) {
-    let mut group = first_group();
+    let mut replay = Replay::new();
     for line in lines(input) {
-        let before = group.table.to_vec();
+        let before = replay.group.table.to_vec();
         if skipped(line) {
-            each(line, None, &before, &group);
-        } else if let Ok(call) = parse(line, group.memory.len()) {
-            let answer = execute(&mut group, &call);
-            each(line, Some((&call, &answer)), &before, &group);
+            each(line, None, &before, &replay.group);
+        } else if let Ok(call) = replay.parse(line) {
+            let answer = replay.execute(&call);
+            each(line, Some((&call, &answer)), &before, &replay.group);
         }
     }
 }

@@ -570,7 +570,7 @@ impl Group {
         Ok(self.copy_and_update(index, out))
     }
 
-    /// **Hear**, message bytes. Tests 1, 4, 5, 3, 6, 8 in this order.
+    /// **Hear**, message bytes. Tests 1, 4, 5, 3, 6, 16, 8 in this order.
     pub fn hear(&mut self, bytes: &[u8]) -> Result<Heard, u8> {
         if self.sizes_wrong() {
             return Err(1);
@@ -590,6 +590,9 @@ impl Group {
         }
         if c.abort_sent {
             return Ok(heard_without_change(c));
+        }
+        if not_next(c, &message) {
+            return Err(16);
         }
         if cursor_rule_broken(c, &message, n) {
             return Err(8);
@@ -782,6 +785,13 @@ fn heard_without_change(c: &Connection) -> Heard {
         state: state(c),
         message: None,
     }
+}
+
+/// 16 (2026-07): "A message heard must carry the last number heard plus one,
+/// 65,535 going on to 0, the first being 1." Open sets the last heard to 0, so
+/// the first is no case of its own.
+pub fn not_next(c: &Connection, message: &Message) -> bool {
+    message.sequence != c.heard_sequence.wrapping_add(1)
 }
 
 /// 8: "a cursor rule of hear is broken".

@@ -245,6 +245,85 @@ fn number_8() {
 }
 
 #[test]
+fn number_16() {
+    // The last number heard and the one in the message; T (6,0), P (10,0).
+    let heard = |last: u16, marks: u16| {
+        format!("{START}record 1 1 5 6 1 16 10 0 8 0 6 0 4 0 4 0 1 {last} {marks}\n")
+    };
+    let hear = |sequence: u16, producer: (u32, u16), flags: u16| {
+        let one = message(producer, (4, 0), flags);
+        format!("hear FE2C{sequence:04X}{}", &one[8..])
+    };
+    for (last_number, number, next) in [
+        (0, 1, true),
+        (0, 0, false),
+        (0, 2, false),
+        (0, 65_535, false),
+        (7, 8, true),
+        (7, 7, false),
+        (7, 6, false),
+        (7, 9, false),
+        (65_534, 65_535, true),
+        (65_534, 0, false),
+        (65_535, 0, true),
+        (65_535, 1, false),
+        (65_535, 65_535, false),
+    ] {
+        let answer = last(&format!(
+            "{}{}",
+            heard(last_number, 0),
+            hear(number, (10, 0), 0)
+        ));
+        let expected = if next {
+            "hear 0 Active message -"
+        } else {
+            "refused 16"
+        };
+        assert_eq!(answer, expected, "{last_number} {number}");
+        // Before 8, after 6.
+        let answer = last(&format!(
+            "{}{}",
+            heard(last_number, 0),
+            hear(number, (3, 0), 0)
+        ));
+        assert_eq!(answer, if next { "refused 8" } else { "refused 16" });
+        let down = format!("{}link 1 0\n", heard(last_number, 0));
+        let answer = last(&format!("{down}{}", hear(number, (3, 0), 0)));
+        assert_eq!(answer, "refused 6");
+        // A is exempt, and so is any message after our A.
+        let answer = last(&format!(
+            "{}{}",
+            heard(last_number, 0),
+            hear(number, (3, 0), 0x20)
+        ));
+        assert!(answer.starts_with("hear 0 Closed message FE2C"));
+        for (flags, state) in [(0, "PeerAbortWait"), (0x20, "Closed")] {
+            let laid = heard(last_number, 32);
+            let answer = last(&format!("{laid}{}", hear(number, (3, 0), flags)));
+            assert_eq!(answer, format!("hear 0 {state} message -"));
+        }
+    }
+}
+
+#[test]
+fn a_refused_number_changes_nothing() {
+    let table = |calls: &str| {
+        let answers = answer_all(format!("{START}{calls}table\n").as_bytes());
+        let lines = String::from_utf8(answers).unwrap();
+        lines[lines.find("slot 1 ").unwrap()..].to_string()
+    };
+    let before = table("");
+    for sequence in ["0000", "0002", "FFFF"] {
+        let one = message((4, 0), (4, 0), 0).replacen("FE2C0001", &format!("FE2C{sequence}"), 1);
+        assert_eq!(last(&format!("{START}hear {one}")), "refused 16");
+        assert_eq!(table(&format!("hear {one}\n")), before);
+        let next = message((4, 0), (4, 0), 0);
+        let after = last(&format!("{START}hear {one}\nhear {next}"));
+        assert_eq!(after, "hear 0 Active message -");
+    }
+}
+
+#[test]
 fn number_9() {
     // D 12, T to P 4, so eight bytes are free: 10 to 15, then 4 and 5.
     for (place, answer) in [

@@ -21,7 +21,7 @@ use Rattle.connection.specs.declared.Reply.the-variants.{Heard}
 use Rattle.connection.specs.declared.Outcome.{Outcome}
 use Rattle.connection.specs.Connection.{zeroRecord, coherentB, refusalOf, outcomeOf, refusedOf, closedIf, marksTo}
 use Rattle.connection.proofs.Laws.{and-left, and-right, holds, Coherent, coherent-facts, coherent-from, tp-good, refusal-0, outcome-reply, outcome-id, outcome-coherent, refused-after, closed-reply, closed-after, closed-not}
-use Rattle.hear.specs.Hear.{producerB, consumerB, heardIn, heardOut, heardRecord, answersB, abortedOf, acceptedOf, followedOf, hearOf}
+use Rattle.hear.specs.Hear.{producerB, consumerB, heardIn, heardOut, heardRecord, answersB, abortedOf, acceptedOf, ruledOf, nextB, followedOf, hearOf}
 
 -- the rules that a heard producer p keeps
 pub record Produces (n : ℕ) (rec : Record) (p : Cursor) : Type 0 where
@@ -159,11 +159,12 @@ module _ (n : ℕ) (active : Bool) (rec : Record) (m : Message) (P : Outcome →
 
   pub hear-cases : ((k : ℕ) → P (refusedOf k rec)) → P (abortedOf rec) → P (outcomeOf (Heard 0 PeerAbortWait) false rec)
       → (Produces n rec (m .producer) → Consumes rec (m .consumer) → P (acceptedOf n rec m)) → P (hearOf n active rec m)
-  unfolding hearOf followedOf
+  unfolding hearOf followedOf ruledOf
   hear-cases refused aborted waiting accepted =
       let ok = producerB n rec (m .producer) && consumerB rec (m .consumer) in
       let ruled = pick ok _ _ (λ e. let h = both-rules n rec m e in accepted (h .0) (h .1)) (refused 8) in
-      let followed = pick (rec .marks .abort) _ _ (λ e. waiting) ruled in
+      let next = pick (nextB rec m) _ _ (λ e. ruled) (refused 16) in
+      let followed = pick (rec .marks .abort) _ _ (λ e. waiting) next in
       let answered = pick (m .flags .abort) _ _ (λ e. aborted) followed in
       pick (eqb (refusalOf n active rec false) 0) _ _ (λ e. answered) (refused (refusalOf n active rec false))
 
@@ -189,11 +190,11 @@ hear-keeps-id n active rec m =
 
 -- hear accepts a message without A whose cursors keep the rules, and the answer names how much further P is from T
 module _ (n : ℕ) (active : Bool) (rec : Record) (m : Message) (k : coherentB n rec ≡ true) (up : active ≡ true)
-    (a : m .flags .abort ≡ false) (b : rec .marks .abort ≡ false) (p : producerB n rec (m .producer) ≡ true)
+    (a : m .flags .abort ≡ false) (b : rec .marks .abort ≡ false) (s : nextB rec m ≡ true) (p : producerB n rec (m .producer) ≡ true)
     (r : consumerB rec (m .consumer) ≡ true) where
   pub hear-accepts : hearOf n active rec m ≡ acceptedOf n rec m
-  unfolding hearOf followedOf
-  hear-accepts = simp (refusal-0 n active rec false k up refl, a, b, p, r)
+  unfolding hearOf followedOf ruledOf
+  hear-accepts = simp (refusal-0 n active rec false k up refl, a, b, s, p, r)
 
   pub hear-names :
       hearOf n active rec m .reply

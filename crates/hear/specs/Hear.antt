@@ -15,8 +15,8 @@ use Rattle.connection.specs.declared.Outbound.{Outbound}
 use Rattle.connection.specs.declared.Record.{Record}
 use Rattle.connection.specs.declared.Reply.the-variants.{Heard}
 use Rattle.connection.specs.declared.Outcome.{Outcome}
-use Rattle.connection.specs.Connection.{pTo, lastTo, flagsTo, rTo, inboundTo, outboundTo, marksTo}
-use Rattle.connection.specs.Connection.{every, refusalOf, refusedOf, outcomeOf, closedIf}
+use Rattle.connection.specs.Connection.{sequenceAfter, pTo, lastTo, flagsTo, rTo, inboundTo, outboundTo, marksTo}
+use Rattle.connection.specs.Connection.{sequenceAfter, every, refusalOf, refusedOf, outcomeOf, closedIf}
 
 -- With A: if we had not sent A, one abort message is made; the slot is then closed, cursors not looked at. P isn't replaced: 0.
 -- The state named is the slot's after the call: Closed
@@ -45,8 +45,7 @@ consumerB rec r =
     let old = rec .outbound .consumer in
     every (inRange N' r ∷ goodB D' r q ∷ leb (gapOf D' r q) (gapOf D' old q) ∷ [])
 
--- then P, R, sequence, B and R flag are replaced; a D or C mark once heard stays; flags P, U and F are not looked at. The sequence
--- number is stored, not tested
+-- then P, R, sequence, B and R flag are replaced; a D or C mark once heard stays; flags P, U and F are not looked at
 unfoldable pub heardIn : Inbound → Message → Inbound
 heardIn i m = flagsTo (lastTo (pTo i (m .producer)) (m .sequence)) (m .flags .blocked) (m .flags .request)
 
@@ -75,13 +74,23 @@ acceptedOf N rec m =
     closedIf (next .marks .heard .closed && next .marks .sent .closed)
     (outcomeOf (Heard moved (stateOf (next .marks))) (answersB (rec .inbound) m) next)
 
--- if we had sent A and this has none: accepted, no change; otherwise the cursors' rules, or 8
+-- the cursors' rules, or 8
+unfoldable pub ruledOf : ℕ → Record → Message → Outcome
+ruledOf N rec m =
+    cond (producerB N rec (m .producer) && consumerB rec (m .consumer)) (acceptedOf N rec m) (refusedOf 8 rec)
+
+-- a message heard must carry the last number heard plus one, 65,535 going on to 0, the first being 1 (request 2026-07): open sets the
+-- last number heard to 0
+unfoldable pub nextB : Record → Message → Bool
+nextB rec m = eqb (m .sequence) (sequenceAfter (rec .inbound .last))
+
+-- if we had sent A and this has none: accepted, no change, whatever its number; otherwise the number is next, or 16, tested before 8
 unfoldable pub followedOf : ℕ → Record → Message → Outcome
 followedOf N rec m =
     cond (rec .marks .abort) (outcomeOf (Heard 0 PeerAbortWait) false rec)
-    (cond (producerB N rec (m .producer) && consumerB rec (m .consumer)) (acceptedOf N rec m) (refusedOf 8 rec))
+    (cond (nextB rec m) (ruledOf N rec m) (refusedOf 16 rec))
 
--- hear gives no 7
+-- hear gives no 7; a message with A is exempt from 16 and 8
 unfoldable pub hearOf : ℕ → Bool → Record → Message → Outcome
 hearOf N active rec m =
     let no = refusalOf N active rec false in

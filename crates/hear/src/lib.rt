@@ -1,7 +1,7 @@
 // Hear, as a step of one record (document 01, "Calls of a connection").
 ghost use mathlib.Core.Path.{_≡_};
 ghost use Rattle.hear.specs.Hear.{producerB, consumerB, heardIn, heardOut, heardRecord};
-ghost use Rattle.hear.specs.Hear.{answersB, abortedOf, acceptedOf, followedOf, hearOf};
+ghost use Rattle.hear.specs.Hear.{answersB, abortedOf, acceptedOf, ruledOf, nextB, followedOf, hearOf};
 use cdc::Message;
 use closing::State;
 use connection::Inbound;
@@ -110,13 +110,32 @@ fn accepted(n: u32, rec: Record, m: Message) -> Outcome
     connection::closed_if(shut, o)
 }
 
-// A message without A.
+// Whether the message carries the last number heard plus one, 65,535 going on to 0.
+fn is_next(rec: Record, m: Message) -> bool
+    ensures { λ r. ⌜ r ≡ nextB rec m ⌝ }
+{
+    let next = ((rec.inbound.last as u32 + 1) % 65536) as u16;
+    m.sequence == next
+}
+
+// A message without A, before our A.
 fn followed(n: u32, rec: Record, m: Message) -> Outcome
     ensures { λ r. ⌜ r ≡ followedOf n rec m ⌝ }
 {
     if rec.marks.abort {
         return connection::outcome_of(Reply::Heard(0, State::PeerAbortWait), false, rec);
     }
+    if is_next(rec, m) {
+        ruled(n, rec, m)
+    } else {
+        connection::refused(16, rec)
+    }
+}
+
+// A message whose number is next: its cursors keep the rules, or not.
+fn ruled(n: u32, rec: Record, m: Message) -> Outcome
+    ensures { λ r. ⌜ r ≡ ruledOf n rec m ⌝ }
+{
     let p = m.producer;
     let r = m.consumer;
     let ok = producer_ok(n, rec, p) & consumer_ok(rec, r);

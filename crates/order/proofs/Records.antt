@@ -23,7 +23,7 @@ use Rattle.connection.specs.declared.Outcome.{Outcome}
 use Rattle.connection.specs.Connection.{effectOf, zeroRecord, refusalOf, refusedOf, outcomeOf, toldOf, closedIf, marksTo}
 use Rattle.transmit.specs.Transmit.{sendOf, sentOf, producedOf}
 use Rattle.receive.specs.Receive.{placeOf, mayPlace, placeForbids, readOf, takeOf, tornOf, consumedOf}
-use Rattle.hear.specs.Hear.{hearOf, abortedOf, followedOf, acceptedOf, heardRecord}
+use Rattle.hear.specs.Hear.{ruledOf, hearOf, abortedOf, followedOf, acceptedOf, heardRecord}
 use Rattle.finish.specs.Finish.{resetOf, closingOf, shutdownOf, closeOf, abortOf}
 use Rattle.rules.specs.Rules.{Request, send, place, read, shutdown, close, abort, Call, on, hear, manage, Turn, turnOf, requestTurn, hearTurn, placedIn}
 
@@ -66,7 +66,7 @@ module _ (c : Record) where
   read-keeps n a t k = search (by-test, refused, outcome) depth 9
 
   hear-keeps : (n : ℕ) (a : Bool) (m : Message) → Keeps c (hearOf n a c m)
-  unfolding hearOf abortedOf followedOf acceptedOf heardRecord marksTo
+  unfolding hearOf abortedOf followedOf ruledOf acceptedOf heardRecord marksTo
   hear-keeps n a m = search (by-test, refused, outcome, shut) depth 9
 
   shutdown-keeps : (n : ℕ) (a : Bool) → Keeps c (shutdownOf n a c)

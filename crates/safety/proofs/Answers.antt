@@ -11,7 +11,7 @@ use Rattle.connection.specs.declared.Outcome.{Outcome}
 use Rattle.connection.specs.Connection.{coherentB, refusalOf, refusedOf, outcomeOf, closedIf}
 use Rattle.transmit.specs.Transmit.{sendOf, sentOf}
 use Rattle.receive.specs.Receive.{placeOf, readOf, takeOf}
-use Rattle.hear.specs.Hear.{hearOf, abortedOf, followedOf, acceptedOf}
+use Rattle.hear.specs.Hear.{ruledOf, hearOf, abortedOf, followedOf, acceptedOf}
 use Rattle.finish.specs.Finish.{resetOf, closingOf, shutdownOf, closeOf, abortOf}
 use Rattle.rules.specs.Rules.{Says, refusal, accepted, sent, wasRead, torn, reset, heard, saysOf}
 use Rattle.safety.specs.Statement.{acceptedB}
@@ -70,6 +70,10 @@ module _ (n : ℕ) (active : Bool) (c : Record) (ok : coherentB n c ≡ true) wh
   unfolding refusedOf
   cursors = record { fair = λ e. omega (arith, e) }
 
+  number : Answers (refusedOf 16 c)
+  unfolding refusedOf
+  number = record { fair = λ e. omega (arith, e) }
+
   outside : Answers (refusedOf 9 c)
   unfolding refusedOf
   outside = record { fair = λ e. omega (arith, e) }
@@ -97,8 +101,8 @@ module _ (n : ℕ) (active : Bool) (c : Record) (ok : coherentB n c ≡ true) wh
   read-answers k = search (by-test, first, outcome) depth 9
 
   pub hear-answers : (m : Message) → Answers (hearOf n active c m)
-  unfolding hearOf abortedOf followedOf acceptedOf
-  hear-answers m = search (by-test, first, cursors, outcome, shut) depth 9
+  unfolding hearOf abortedOf followedOf ruledOf acceptedOf
+  hear-answers m = search (by-test, first, number, cursors, outcome, shut) depth 9
 
   pub shutdown-answers : Answers (shutdownOf n active c)
   unfolding shutdownOf

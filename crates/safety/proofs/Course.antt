@@ -21,7 +21,7 @@ use Rattle.connection.specs.Connection.{zeroRecord, refusalOf, refusedOf, outco
 use Rattle.connection.proofs.Laws.{Coherent, coherent-facts, refusal-none, tp-good, and-left, and-right, outcome-reply}
 use Rattle.transmit.specs.Transmit.{sendOf, sentOf, producedOf, producedOut}
 use Rattle.receive.specs.Receive.{unreadOf, placeOf, readOf, takeOf, tornOf, consumedOf, consumedIn}
-use Rattle.hear.specs.Hear.{producerB, consumerB, hearOf, abortedOf, followedOf, acceptedOf, heardRecord, heardIn, heardOut}
+use Rattle.hear.specs.Hear.{ruledOf, nextB, producerB, consumerB, hearOf, abortedOf, followedOf, acceptedOf, heardRecord, heardIn, heardOut}
 use Rattle.hear.proofs.Laws.{Produces, Consumes, producer-rules, consumer-rules}
 use Rattle.finish.specs.Finish.{resetOf, closingOf, shutdownOf, closeForbids, closeOf, abortOf}
 use Rattle.rules.specs.Rules.{Request, send, place, read, shutdown, close, abort, Says, accepted, saysOf, turnOf, requestTurn, hearTurn, refusal, heard}
@@ -196,7 +196,7 @@ module _ (n : ℕ) (a : Bool) (c : Record) (m : Message) where
   was-heard r moved s e k p = let q : heard moved s ≡ refusal k = sym (ap saysOf e) ∙ p in clash (cc)
 
   hear-leaves : Leaves n c Ends (hearOf n a c m)
-  unfolding hearOf abortedOf followedOf acceptedOf heardRecord marksHeard marksTo
+  unfolding hearOf abortedOf followedOf ruledOf acceptedOf heardRecord marksHeard marksTo
   hear-leaves =
       by-test n c Ends unheard (eqb (refusalOf n a c false) 0) _ _
       (λ e.
@@ -207,13 +207,16 @@ module _ (n : ℕ) (a : Bool) (c : Record) (m : Message) where
       by-test n c Ends unheard (c .marks .abort) _ _
       (λ s. outcome n c Ends unheard _ _ _ (neither _ h (λ x y. false≢true (sym y ∙ s))) refl refl refl)
       (λ s.
+      by-test n c Ends unheard (nextB c m) _ _
+      (λ z.
       by-test n c Ends unheard (producerB n c (m .producer) && consumerB c (m .consumer)) _ _
       (λ r.
       let p = producer-rules n c (m .producer) (and-left (producerB n c (m .producer)) _ r) in
       let q = consumer-rules c (m .consumer) (and-right (producerB n c (m .producer)) _ r) in
       shut n c Ends unheard _ _ (λ w. (was-heard _ _ _ (outcome-reply _ _ _), inr (w, s)))
       (λ w. told n c Ends unheard _ _ _ (neither _ h (λ x y. false≢true (sym w ∙ x))) (heard-ahead ok p q)))
-      (λ r. refused n c Ends unheard 8))))
+      (λ r. refused n c Ends unheard 8))
+      (λ z. refused n c Ends unheard 16))))
       (λ e. refused n c Ends unheard _)
 
   pub hear-course : (e : List ℕ) → Course n c (EndsSlot c m (hearTurn n a c e m .answer .says)) (hearTurn n a c e m .after)

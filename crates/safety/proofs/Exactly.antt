@@ -26,12 +26,12 @@ use Rattle.connection.specs.declared.Record.{Record}
 use Rattle.connection.specs.declared.Reply.{Reply}
 use Rattle.connection.specs.declared.Reply.the-variants.{Accepted, Sent, Heard}
 use Rattle.connection.specs.declared.Outcome.{Outcome}
-use Rattle.connection.specs.Connection.{coherentB, refusalOf, refusedOf, outcomeOf, closedIf, marksTo}
+use Rattle.connection.specs.Connection.{sequenceAfter, coherentB, refusalOf, refusedOf, outcomeOf, closedIf, marksTo}
 use Rattle.flow.specs.Flow.{windowOf}
 use Rattle.element.specs.Element.{allFree, intactB}
 use Rattle.transmit.specs.Transmit.{sendForbids, sendOf, sentOf}
 use Rattle.receive.specs.Receive.{unreadOf, placeForbids, mayPlace, placeOf, readForbids, readOf, takeOf, tornOf}
-use Rattle.hear.specs.Hear.{producerB, consumerB, abortedOf, acceptedOf, followedOf, hearOf}
+use Rattle.hear.specs.Hear.{ruledOf, nextB, producerB, consumerB, abortedOf, acceptedOf, followedOf, hearOf}
 use Rattle.finish.specs.Finish.{resetOf, closingOf, shutdownForbids, shutdownOf, closeForbids, closeOf, abortOf}
 use Rattle.connection.proofs.Laws.{outcome-reply, closed-reply}
 use Rattle.table.specs.Table.{sizesB, slotB, openB, activeB, findFrom}
@@ -288,27 +288,30 @@ module _ (n : ℕ) (c : Record) (m : Message) where
   cursors-are : producerBroken n c m || consumerBroken c m ≡ not (producerB n c (m .producer) && consumerB c (m .consumer))
   cursors-are = rw (producer-is, consumer-is) (sym (not-and (producerB n c (m .producer)) (consumerB c (m .consumer))))
 
-  by-abort : (a s ok t : Bool) (x y z : Outcome) → t ≡ not ok → Accepts x → Accepts y → Accepts z
-      → number (saysOf (cond a x (cond s y (cond ok z (refusedOf 8 c))) .reply)) ≡ firstOf (8 when (not a && (not s && t)) ∷ [])
+  by-abort : (a s w ok t : Bool) (x y z : Outcome) → t ≡ not ok → Accepts x → Accepts y → Accepts z
+      → number (saysOf (cond a x (cond s y (cond w (cond ok z (refusedOf 8 c)) (refusedOf 16 c))) .reply))
+      ≡ firstOf (16 when (not a && (not s && not w)) ∷ 8 when (not a && (not s && t)) ∷ [])
   unfolding firstOf refusedOf
-  by-abort true s ok t x y z e h i j = h .none-given
-  by-abort false true ok t x y z e h i j = i .none-given
-  by-abort false false true t x y z e h i j = rw e (j .none-given)
-  by-abort false false false t x y z e h i j = rw e
+  by-abort true s w ok t x y z e h i j = h .none-given
+  by-abort false true w ok t x y z e h i j = i .none-given
+  by-abort false false false ok t x y z e h i j = refl
+  by-abort false false true true t x y z e h i j = rw e (j .none-given)
+  by-abort false false true false t x y z e h i j = rw e
 
   hear-first : (a : Bool)
       → number (saysOf (hearOf n a c m .reply))
       ≡ firstOf
       (3 when not (coherentB n c)
       ∷ 6 when not a
+      ∷ 16 when (not (m .flags .abort) && (not (c .marks .abort) && not (eqb (m .sequence) (sequenceAfter (c .inbound .last)))))
       ∷ 8 when (not (m .flags .abort) && (not (c .marks .abort) && (producerBroken n c m || consumerBroken c m)))
       ∷ [])
-  unfolding hearOf followedOf abortedOf acceptedOf
+  unfolding hearOf followedOf ruledOf nextB abortedOf acceptedOf
   hear-first a =
       let ok = producerB n c (m .producer) && consumerB c (m .consumer) in
       let s = outcomeOf (Heard 0 PeerAbortWait) false c in
       first-two n a c (cond (m .flags .abort) (abortedOf c) (followedOf n c m)) _
-      (by-abort (m .flags .abort) (c .marks .abort) ok _ (abortedOf c) s (acceptedOf n c m) cursors-are (search accepted-all)
+      (by-abort (m .flags .abort) (c .marks .abort) (nextB c m) ok _ (abortedOf c) s (acceptedOf n c m) cursors-are (search accepted-all)
       (search accepted-all) (search accepted-all))
 
 -- a request's turn

@@ -14,7 +14,7 @@ use Rattle.connection.specs.declared.Outcome.{Outcome}
 use Rattle.connection.specs.Connection.{zeroRecord, refusedOf, outcomeOf, toldOf, toldIn, closedIf, marksTo}
 use Rattle.transmit.specs.Transmit.{sendOf, sentOf, producedOf}
 use Rattle.receive.specs.Receive.{placeOf, readOf, takeOf, tornOf, consumedOf, consumedIn, unreadOf}
-use Rattle.hear.specs.Hear.{hearOf, heardRecord, abortedOf, followedOf, acceptedOf, heardIn}
+use Rattle.hear.specs.Hear.{ruledOf, hearOf, heardRecord, abortedOf, followedOf, acceptedOf, heardIn}
 use Rattle.hear.proofs.Laws.{Produces, aborted-shut, repliedTo, hear-cases, accepted-is}
 use Rattle.finish.specs.Finish.{resetOf, closingOf, shutdownOf, closeOf, abortOf}
 use Rattle.rules.specs.Rules.{Says, saysOf, refusal, accepted, Request, read, turnOf, requestTurn, send, place, shutdown, close, abort, hearTurn, heard, torn, reset, sent, wasRead, Turn}
@@ -185,7 +185,7 @@ module _ (n : ℕ) (a : Bool) (c : Record) where
   abort-unread = search (either, refuses, replies) depth 9
 
   hear-unread : (m : Message) → Unread (hearOf n a c m)
-  unfolding hearOf abortedOf followedOf acceptedOf
+  unfolding hearOf abortedOf followedOf ruledOf acceptedOf
   hear-unread m = search (either, refuses, replies, closes) depth 9
 
   -- a request that names a number read is a read

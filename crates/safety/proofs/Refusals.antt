@@ -20,7 +20,7 @@ use Rattle.connection.specs.Connection.{effectOf, zeroRecord, refusedOf, outcom
 use Rattle.connection.proofs.Laws.{outcome-reply, closed-reply}
 use Rattle.transmit.specs.Transmit.{sendOf, sentOf}
 use Rattle.receive.specs.Receive.{placeOf, readOf, takeOf, tornOf}
-use Rattle.hear.specs.Hear.{hearOf, abortedOf, followedOf, acceptedOf}
+use Rattle.hear.specs.Hear.{ruledOf, hearOf, abortedOf, followedOf, acceptedOf}
 use Rattle.finish.specs.Finish.{resetOf, closingOf, shutdownOf, closeOf, abortOf}
 use Rattle.table.specs.Table.{recordAt, withRecord}
 use Rattle.rules.specs.Rules.{Group, Request, send, place, read, shutdown, close, abort, openSlot, freeSlot, linkChange, linkMessage, Call, on, hear, manage, Says, refusal, accepted, sent, wasRead, torn, reset, heard, saysOf, turnOf, placedIn, readInto, requestTurn, hearTurn, Done, refuses, recordOf, elementIn, linkOf, putTurn, outOf, onDoes, holderOf, hearAt, hearMessage, hearDoes, openDoes, freeDoes, linkDoes, linkAnswer, linkMessageDoes, does}
@@ -121,7 +121,7 @@ module _ (g : Group) (j : ℕ) where
   request abort = quiet _ (search walk depth 9)
 
   hears : (m : Message) → Refuses g [] (λ d. d) (putTurn g j (hearTurn (g .N) (linkOf g j) (recordOf g j) e m))
-  unfolding hearTurn hearOf abortedOf followedOf acceptedOf
+  unfolding hearTurn hearOf abortedOf followedOf ruledOf acceptedOf
   hears m = quiet _ (search walk depth 9)
 
 -- EVERY CALL

@@ -14,12 +14,12 @@ use Rattle.connection.specs.Connection.{openedRecord}
 use Rattle.rules.specs.Rules.{turnOf, requestTurn, putTurn, hearTurn, onDoes, hearAt, hearDoes, openRefusal, openDoes, linkDoes}
 use Rattle.closing.specs.Closing.{marksHeard}
 use Rattle.receive.specs.Receive.{placeOf, readOf, takeOf, consumedOf, consumedIn, unreadOf, mayPlace, placeForbids, readForbids, updateOf}
-use Rattle.hear.specs.Hear.{producerB, consumerB, hearOf, followedOf, acceptedOf, heardRecord, heardIn, heardOut, answersB}
+use Rattle.hear.specs.Hear.{ruledOf, nextB, producerB, consumerB, hearOf, followedOf, acceptedOf, heardRecord, heardIn, heardOut, answersB}
 use Rattle.cdc.specs.Cdc.{decodeOf, fieldsOf, num2, cursorOf, encodeOf, num4, highByte, lowByte, flagsOf}
 use Rattle.flow.specs.Flow.{takenOf, windowOf, updateDue}
 
 pub peer-announced-unwritten : PeerAnnouncedUnwritten
-unfolding sizesB slotB recordAt openB activeB zeroRecord journalFrom answers afterCall onDoes hearDoes hearAt putTurn linkDoes openDoes openRefusal openedRecord findFrom lowest holdsB withRecord withLink splice part elementOf freshElement requestTurn hearTurn turnOf placeOf readOf takeOf consumedOf consumedIn updateOf updateDue windowOf unreadOf takenOf gapOf distanceOf turnsOf stepOf movedOf inRange goodB coherentB numbersOk offsetsOk distancesOk refusalOf placeForbids readForbids mayPlace allFree intactB outcomeOf toldOf toldIn usedIn hearOf followedOf acceptedOf producerB consumerB heardRecord heardIn heardOut answersB sameB closedIf marksHeard marksTo encodeOf highByte lowByte cursorAt decodeOf fieldsOf cursorOf num2 num4 flagsOf ringFrom unread
+unfolding sizesB slotB recordAt openB activeB zeroRecord journalFrom answers afterCall onDoes hearDoes hearAt putTurn linkDoes openDoes openRefusal openedRecord findFrom lowest holdsB withRecord withLink splice part elementOf freshElement requestTurn hearTurn turnOf placeOf readOf takeOf consumedOf consumedIn updateOf updateDue windowOf unreadOf takenOf gapOf distanceOf turnsOf stepOf movedOf inRange goodB coherentB numbersOk offsetsOk distancesOk refusalOf placeForbids readForbids mayPlace allFree intactB outcomeOf toldOf toldIn usedIn hearOf followedOf acceptedOf producerB consumerB heardRecord heardIn heardOut answersB sameB closedIf marksHeard marksTo ruledOf nextB encodeOf highByte lowByte cursorAt decodeOf fieldsOf cursorOf num2 num4 flagsOf ringFrom unread
 peer-announced-unwritten = (
   record { sizes = refl; enough = omega arith; closed = shut; down = off; zeros = refl },
   record { handed-8 = refl; announced-8 = refl; first-again = refl; placed-once = refl; not-again = refl },

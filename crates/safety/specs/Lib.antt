@@ -2,3 +2,4 @@ pub mod Statement
 pub mod Refusals
 pub mod Changes
 pub mod Positions
+pub mod Numbers

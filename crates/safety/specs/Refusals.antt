@@ -20,7 +20,7 @@ use Rattle.closing.specs.Closing.{marked, stateOf}
 use Rattle.flow.specs.Flow.{windowOf}
 use Rattle.element.specs.Element.{freeB}
 use Rattle.connection.specs.declared.Record.{Record}
-use Rattle.connection.specs.Connection.{noMessage, coherentB}
+use Rattle.connection.specs.Connection.{noMessage, coherentB, sequenceAfter}
 use Rattle.table.specs.Table.{activeB, findFrom}
 use Rattle.rules.specs.Rules.{Group, Request, send, place, read, shutdown, close, abort, openSlot, freeSlot, linkChange, linkMessage, Call, on, hear, manage, refusal, answer, next, outOf, recordOf, linkOf, holderOf}
 
@@ -112,6 +112,13 @@ consumerBroken c m =
     || not (goodB d (m .consumer) (c .outbound .producer))
     || ltb (gapOf d (c .outbound .consumer) (c .outbound .producer)) (gapOf d (m .consumer) (c .outbound .producer))
 
+-- 16: a message heard carries another number than the last one heard plus one, 65,535 going on to 0 (request 2026-07). A message with A is
+-- exempt, as is any heard after we sent A
+abbrev pub notNext : Group → ℕ → Message → Bool
+notNext g k m =
+    not (m .flags .abort)
+    && (not (recordOf g k .marks .abort) && not (eqb (m .sequence) (sequenceAfter (recordOf g k .inbound .last))))
+
 -- with A in the message cursors are not looked at, and after A sent nothing is
 abbrev pub cursorBroken : Group → ℕ → Message → Bool
 cursorBroken g k m =
@@ -162,7 +169,7 @@ placeTest g k shutdown = []
 placeTest g k close = []
 placeTest g k abort = []
 
--- Connection calls test 1, then 2 (hear: 4, 5), 3, 6, 7, 8, 9. Hear finds the lowest slot with the token and gives no 7. Open: 1, 2, 10, 12, 13,
+-- Connection calls test 1, then 2 (hear: 4, 5), 3, 6, 7, 16, 8, 9. Hear finds the lowest slot with the token and gives no 7. Open: 1, 2, 10, 12, 13,
 -- 6, 11. Free: 1, 2, 3, 7. Link change: 13. Link message: 13, 6, length 44, then optional, else 4, 14
 abbrev pub tests : Group → Call → List Test
 tests g (on k q) =
@@ -180,6 +187,7 @@ tests g (hear b) =
     ∷ 5 when tokenUnheld g (m .token)
     ∷ 3 when incoherent g k
     ∷ 6 when connectionDown g k
+    ∷ 16 when notNext g k m
     ∷ 8 when cursorBroken g k m
     ∷ []
 tests g (manage (openSlot k o)) =

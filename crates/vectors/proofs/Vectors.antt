@@ -9,7 +9,7 @@ use Rattle.element.specs.Element.{part, elementOf, splice, intactB, freshElemen
 use Rattle.connection.specs.Connection.{zeroRecord, numbersOk, offsetsOk, distancesOk, coherentB, refusalOf, messageOf, toldIn, usedIn, toldOf, outcomeOf, refusedOf, closedIf, marksTo}
 use Rattle.transmit.specs.Transmit.{sendForbids, nOf, producedOut, producedOf, tellsOf, sentOf, sendOf}
 use Rattle.receive.specs.Receive.{placeForbids, mayPlace, placeOf, readForbids, unreadOf, consumedIn, consumedOf, updateOf, tornOf, takeOf, readOf}
-use Rattle.hear.specs.Hear.{abortedOf, producerB, consumerB, heardIn, heardOut, heardRecord, answersB, acceptedOf, followedOf, hearOf}
+use Rattle.hear.specs.Hear.{ruledOf, nextB, abortedOf, producerB, consumerB, heardIn, heardOut, heardRecord, answersB, acceptedOf, followedOf, hearOf}
 use Rattle.finish.specs.Finish.{resetOf, closingOf, shutdownForbids, shutdownOf, closeForbids, closeOf, abortOf}
 use Rattle.table.specs.Table.{sizesB, slotB, recordAt, openB, activeB, holdsB, lowest, findFrom, withRecord, withLink}
 use Rattle.connection.specs.Connection.{openedRecord}
@@ -26,7 +26,7 @@ unfolding inRange sameB movedOf stepOf turnsOf distanceOf goodB gapOf
     zeroRecord numbersOk offsetsOk distancesOk coherentB refusalOf messageOf toldIn usedIn toldOf outcomeOf refusedOf closedIf marksTo
     sendForbids nOf producedOut producedOf tellsOf sentOf sendOf
     placeForbids mayPlace placeOf readForbids unreadOf consumedIn consumedOf updateOf tornOf takeOf readOf
-    abortedOf producerB consumerB heardIn heardOut heardRecord answersB acceptedOf followedOf hearOf
+    abortedOf producerB consumerB heardIn heardOut heardRecord answersB acceptedOf followedOf ruledOf nextB hearOf
     shutdownForbids shutdownOf closeForbids closeOf resetOf closingOf abortOf
     sizesB slotB recordAt openB activeB holdsB lowest findFrom withRecord withLink
     turnOf requestTurn hearTurn refuses putTurn onDoes hearAt hearDoes openedRecord openRefusal openDoes freeRefusal freeDoes linkDoes

@@ -237,6 +237,13 @@ stopped =
     laid tokenB tokenA 8 (inwards start start start)
     (record { producer = cur 4 1; consumer = start; next = 1; blocked = true }) unmarked
 
+-- a connection that heard this number last
+abbrev pub lastIs : ℕ → Record
+lastIs s =
+    laid tokenA tokenB 8
+    (record { producer = start; consumer = start; told = start; last = s; blocked = false; request = false })
+    (outwards start start) unmarked
+
 -- B's messages to A, with a sequence number and byte 25 as given: 80 D, 40 C, 20 A; and A's to B
 abbrev pub fromB : ℕ → ℕ → Call
 fromB s l = hears (0xFE2C_0000_0A0B0C0D_0000_0000_00000004_0000_0000_00000004_0000 + s * 256 ^ 22 + l)
@@ -411,6 +418,27 @@ vectors =
     ∷ [])
     -- an abort of theirs is answered by one
     ∷ plays (hostA 8 start start) (gives (fromB 1 0x20) (heard 0 Closed) (toB 1 0x20) ∷ slot 1 zeroRecord ∷ [])
+    -- THE NUMBER IS NEXT. The first is 1; none is taken twice, and none is passed over
+    ∷ plays (hostA 8 start start)
+    (gives (fromB 0 0x00) (refusal 16) none
+    ∷ gives (fromB 2 0x00) (refusal 16) none
+    ∷ gives (fromB 1 0x00) (heard 0 Active) none
+    ∷ gives (fromB 1 0x00) (refusal 16) none
+    ∷ gives (fromB 3 0x00) (refusal 16) none
+    ∷ gives (fromB 2 0x00) (heard 0 Active) none
+    ∷ [])
+    -- 65,535 goes on to 0
+    ∷ plays (aGroup 1 8 (lastIs 65535 ∷ []) (freshElement 8))
+    (gives (fromB 1 0x00) (refusal 16) none ∷ gives (fromB 0 0x00) (heard 0 Active) none ∷ [])
+    -- 16 is tested before 8: here P is out of range too
+    ∷ plays (hostA 8 start start)
+    (gives (hears 0xFE2C_0002_0A0B0C0D_0000_0000_00000008_0000_0000_00000004_0000) (refusal 16) none
+    ∷ gives (hears 0xFE2C_0001_0A0B0C0D_0000_0000_00000008_0000_0000_00000004_0000) (refusal 8) none
+    ∷ [])
+    -- a message with A is exempt, and any heard after our A
+    ∷ plays (hostA 8 start start) (gives (fromB 9 0x20) (heard 0 Closed) (toB 1 0x20) ∷ [])
+    ∷ plays (hostA 8 start start)
+    (gives (on 1 abort) accepted (toB 1 0x20) ∷ gives (fromB 9 0x00) (heard 0 PeerAbortWait) none ∷ [])
     -- CLOSE WITH AN UNREAD BYTE: A is sent and C is not, and the slot stays open though C was heard
     ∷ plays (hostB 8 (cur 5 0) (cur 4 0) (cur 4 0))
     (gives (hears 0xFE2C_0001_01020304_0000_0000_00000005_0000_0000_00000004_0040) (heard 0 AppCloseWait1) none

@@ -234,12 +234,11 @@ fn soundings(list: &mut List, random: &mut Random) {
 
     list.comment("(9999,0) plus 1 and (9999,65535) plus 1");
     for wrap in [0, 65_535] {
-        let mut c = resting(10_000, 5, 6, cursor(9999, wrap));
+        let c = resting(10_000, 5, 6, cursor(9999, wrap));
         list.record(1, c);
         list.send(1, random.bytes(1));
         let mut message = message_to(&c);
         message.producer = step(cursor(9999, wrap), 1, 10_000);
-        c.heard_sequence = 65_535;
         list.hear(message.write().to_vec());
         list.read(1, 2);
         list.table();
@@ -295,7 +294,7 @@ fn window_examples(list: &mut List, random: &mut Random) {
         list.link(1, true);
         list.open(1, 5, 6, 1, 65_540);
         let unread = 65_536 - window;
-        let c = list.group.table[0];
+        let c = list.replay.group.table[0];
         let message = Message {
             producer: step(c.peer_producer, unread, 65_540),
             ..message_to(&c)
@@ -366,10 +365,10 @@ fn scenario_4(list: &mut List, random: &mut Random) {
     list.comment("scenario 4");
     two_hosts(list);
     let start = cursor(1004, 1);
-    let mut host_a = list.group.table[0];
+    let mut host_a = list.replay.group.table[0];
     host_a.producer = start;
     host_a.peer_consumer = start;
-    let mut host_b = list.group.table[1];
+    let mut host_b = list.replay.group.table[1];
     host_b.peer_producer = start;
     host_b.consumer = start;
     host_b.told = start;

@@ -5,14 +5,14 @@ pub mod hostile;
 pub mod orders;
 pub mod traffic;
 
-use crate::replay::{execute, first_group, parse, print_line, Answer, Line};
+use crate::replay::{print_line, Answer, Line, Replay};
 use crate::smcr::*;
 
-/// A list under construction. Every line is also run on a group of the list's
-/// own, so that later lines can be built from earlier answers.
+/// A list under construction. Every line is also run by the list itself, so
+/// that later lines can be built from earlier answers.
 pub struct List {
     pub text: Vec<u8>,
-    pub group: Group,
+    pub replay: Replay,
     pub count: usize,
 }
 
@@ -26,7 +26,7 @@ impl List {
     pub fn new() -> List {
         List {
             text: Vec::new(),
-            group: first_group(),
+            replay: Replay::new(),
             count: 0,
         }
     }
@@ -35,7 +35,7 @@ impl List {
         print_line(&mut self.text, &line);
         self.text.push(b'\n');
         self.count += 1;
-        execute(&mut self.group, &line)
+        self.replay.execute(&line)
     }
 
     /// A line as it stands, which may be bad.
@@ -43,8 +43,8 @@ impl List {
         self.text.extend_from_slice(line);
         self.text.push(b'\n');
         self.count += 1;
-        if let Ok(call) = parse(line, self.group.memory.len()) {
-            execute(&mut self.group, &call);
+        if let Ok(call) = self.replay.parse(line) {
+            self.replay.execute(&call);
         }
     }
 
@@ -144,7 +144,7 @@ impl List {
 
     /// The whole memory, in pieces that the format allows.
     pub fn whole_memory(&mut self) {
-        let length = self.group.memory.len();
+        let length = self.replay.group.memory.len();
         let mut at = 0;
         while at < length {
             let count = (length - at).min(65_600);

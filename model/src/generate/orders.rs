@@ -10,7 +10,7 @@ use std::collections::VecDeque;
 use super::traffic::{Habits, World};
 use super::List;
 use crate::random::Random;
-use crate::replay::{lines, parse, print_line, set_marks, Line};
+use crate::replay::{lines, print_line, set_marks, Line};
 use crate::smcr::*;
 
 /// How many calls a pair has unless asked otherwise.
@@ -137,14 +137,14 @@ fn second_order(random: &mut Random, first: Vec<u8>) -> Pair {
         lines(&first)
             .into_iter()
             .map(|line| {
-                let call = parse(line, list.group.memory.len()).expect("a list of good lines");
+                let call = list.replay.parse(line).expect("a list of good lines");
                 list.add(call.clone());
                 call
             })
             .collect()
     };
     let mut shadow = List::new();
-    let mut span_start = shadow.group.clone();
+    let mut span_start = shadow.replay.group.clone();
     let mut order: Vec<usize> = Vec::new();
     let mut span: Vec<(usize, Owner)> = Vec::new();
     for (place, line) in all.iter().enumerate() {
@@ -158,7 +158,7 @@ fn second_order(random: &mut Random, first: Vec<u8>) -> Pair {
                 span.clear();
                 order.push(place);
                 shadow.add(line.clone());
-                span_start = shadow.group.clone();
+                span_start = shadow.replay.group.clone();
             }
         }
     }

@@ -7,7 +7,7 @@ use std::collections::VecDeque;
 
 use super::{message_of, List};
 use crate::random::Random;
-use crate::replay::{execute, Answer, Line};
+use crate::replay::{Answer, Line, Replay};
 use crate::smcr::*;
 
 /// How many lines a list has unless asked otherwise.
@@ -51,7 +51,7 @@ pub struct Habits {
 
 pub struct World {
     pub list: List,
-    far: Group,
+    far: Replay,
     pairs: Vec<Pair>,
     random: Random,
     habits: Habits,
@@ -93,8 +93,9 @@ impl World {
         let mut list = List::new();
         list.group(elements, size);
         let far_size = random.between(8, 48) as u32;
-        let mut far = Group::fresh(16, far_size, 16 * far_size as usize);
-        far.links = [true; 4];
+        let mut far = Replay::new();
+        far.group = Group::fresh(16, far_size, 16 * far_size as usize);
+        far.group.links = [true; 4];
         let next_token = random.between(1, 1_000_000_000) as u32;
         let mut world = World {
             list,
@@ -190,9 +191,9 @@ impl World {
 
     fn group_of(&self, end: End) -> &Group {
         if end.far {
-            &self.far
+            &self.far.group
         } else {
-            &self.list.group
+            &self.list.replay.group
         }
     }
 
@@ -210,7 +211,7 @@ impl World {
     /// Makes a call at an end: in the list, or behind the scenes.
     fn call(&mut self, end: End, line: Line) -> Answer {
         if end.far {
-            execute(&mut self.far, &line)
+            self.far.execute(&line)
         } else {
             self.list.add(line)
         }
@@ -367,7 +368,7 @@ impl World {
         }
     }
 
-    /// A message heard a second time.
+    /// A message heard a second time, out of step now unless it is an abort.
     fn hear_again(&mut self, which: usize, side: usize) {
         if !self.random.chance(1, 10) {
             return;
@@ -453,7 +454,7 @@ impl World {
 
     fn flap_link(&mut self) {
         let link = self.random.between(1, 4) as u8;
-        let up = !self.list.group.links[usize::from(link) - 1] || self.random.chance(1, 4);
+        let up = !self.list.replay.group.links[usize::from(link) - 1] || self.random.chance(1, 4);
         self.list.link(link, up);
         if !up {
             for _ in 0..self.random.between(0, 12) {
@@ -474,7 +475,7 @@ impl World {
     }
 
     fn look_at_memory(&mut self) {
-        let length = self.list.group.memory.len();
+        let length = self.list.replay.group.memory.len();
         let at = self.random.below(length as u64) as usize;
         let count = self.random.below((length - at).min(400) as u64 + 1) as usize;
         self.list.memory(at, count);
@@ -482,17 +483,53 @@ impl World {
 
     /// Something writes over an eye catcher.
     fn damage(&mut self) {
-        let slot = self.random.below(u64::from(self.list.group.elements)) as usize;
-        let at = slot * self.list.group.size as usize + self.random.below(4) as usize;
+        let slot = self
+            .random
+            .below(u64::from(self.list.replay.group.elements)) as usize;
+        let at = slot * self.list.replay.group.size as usize + self.random.below(4) as usize;
         let bytes = self.random.bytes(1);
         self.list.poke(at, bytes);
+    }
+
+    /// A message that is not accepted, unless A was sent: malformed, to nobody,
+    /// with a number that is not next, or with an offset outside.
+    fn message_out_of_step(&mut self, token: u32) -> Vec<u8> {
+        let size = i64::from(self.list.replay.group.size);
+        let next = match self.list.replay.group.slot_with_token(token) {
+            Some(index) => self.list.replay.group.table[index]
+                .heard_sequence
+                .wrapping_add(1),
+            None => 1,
+        };
+        let mut message = Message {
+            sequence: next,
+            token,
+            producer: cursor(self.random.between(4, size - 1) as u32, 0),
+            consumer: cursor(self.random.between(4, size - 1) as u32, 0),
+            ..Message::default()
+        };
+        if self.random.chance(1, 3) {
+            message.producer.offset = *self.random.pick(&[3, size as u32]);
+        } else {
+            let off = *self.random.pick(&[1, 2, 3, 65_535, 65_534, 32_768]);
+            message.sequence = next.wrapping_add(off);
+        }
+        let mut bytes = message.write().to_vec();
+        match self.random.below(4) {
+            0 => bytes[0] = self.random.draw() as u8 & 0x7F,
+            1 => {
+                bytes.pop();
+            }
+            _ => {}
+        }
+        bytes
     }
 
     /// Calls that nobody owns and calls that are refused, the open, free and
     /// link calls among them.
     fn noise(&mut self) {
-        let elements = self.list.group.elements;
-        let size = self.list.group.size;
+        let elements = self.list.replay.group.elements;
+        let size = self.list.replay.group.size;
         let slot = match self.random.below(6) {
             0 => 0,
             1 => elements + 1,
@@ -505,7 +542,7 @@ impl World {
         let token = match self.random.below(3) {
             0 => 0,
             1 => self.random.draw() as u32,
-            _ => self.list.group.table[self.random.below(16) as usize].own_token,
+            _ => self.list.replay.group.table[self.random.below(16) as usize].own_token,
         };
         match self.random.below(20) {
             0..=2 => {
@@ -520,21 +557,7 @@ impl World {
                 self.list.read(slot, room);
             }
             7..=10 => {
-                let mut message = Message {
-                    token,
-                    producer: cursor(self.random.between(3, i64::from(size)) as u32, 0),
-                    consumer: cursor(self.random.between(3, i64::from(size)) as u32, 0),
-                    ..Message::default()
-                }
-                .write()
-                .to_vec();
-                match self.random.below(4) {
-                    0 => message[0] = self.random.draw() as u8,
-                    1 => {
-                        message.pop();
-                    }
-                    _ => {}
-                }
+                let message = self.message_out_of_step(token);
                 self.list.hear(message);
             }
             11 if elements < slot || slot == 0 => {

@@ -12,14 +12,11 @@ returns : tie.Need-returns
 unfolding followedOf
 returns c = simp (c .before .if1 .taken, c .outcome-of .ensures)
 
-producer-ok-requires : tie.Need-producer-ok-requires
-producer-ok-requires c κs = search needs
+is-next-requires : tie.Need-is-next-requires
+is-next-requires c κs = search needs
 
-consumer-ok-requires : tie.Need-consumer-ok-requires
-consumer-ok-requires c κs = search needs
-
-accepted-requires : tie.Need-accepted-requires
-accepted-requires c κs = search needs
+ruled-requires : tie.Need-ruled-requires
+ruled-requires c κs = search needs
 
 refused-requires : tie.Need-refused-requires
 refused-requires c κs = search needs
@@ -27,26 +24,14 @@ refused-requires c κs = search needs
 returns-2 : tie.Need-returns-2
 unfolding followedOf
 returns-2 c =
-    let b = c .before .before in
-    simp (
-      b .before .before .before .before .if1 .left,
-      ← (b .consumer-ok .ensures),
-      ← (b .before .producer-ok .ensures),
-      c .before .if2 .taken,
-      c .accepted .ensures,
-    )
+    let n = c .before .before in
+    simp (n .before .if1 .left, ← (n .is-next .ensures), c .before .if2 .taken, c .ruled .ensures)
 
 returns-3 : tie.Need-returns-3
 unfolding followedOf
 returns-3 c =
-    let b = c .before .before in
-    simp (
-      b .before .before .before .before .if1 .left,
-      ← (b .consumer-ok .ensures),
-      ← (b .before .producer-ok .ensures),
-      c .before .if2 .left,
-      c .refused .ensures,
-    )
+    let n = c .before .before in
+    simp (n .before .if1 .left, ← (n .is-next .ensures), c .before .if2 .left, c .refused .ensures)
 
 pub followed-spec : {M : Type 1} → statement M
 followed-spec =
@@ -54,9 +39,8 @@ followed-spec =
     (tie.spec
     outcome-of-requires
     returns
-    producer-ok-requires
-    consumer-ok-requires
-    accepted-requires
+    is-next-requires
+    ruled-requires
     refused-requires
     returns-2
     returns-3)

@@ -90,7 +90,7 @@ impl Bench {
     fn try_cursors(&mut self, slot: usize, c: &Connection, producer: Cursor, consumer: Cursor) {
         self.list.record(slot, *c);
         let message = Message {
-            sequence: self.wrap(),
+            sequence: c.heard_sequence.wrapping_add(1),
             token: c.own_token,
             producer,
             consumer,
@@ -333,7 +333,7 @@ impl Bench {
             };
             for c in [empty, unread, untold, full] {
                 let still = Message {
-                    sequence: self.wrap(),
+                    sequence: c.heard_sequence.wrapping_add(1),
                     token: c.own_token,
                     producer: c.peer_producer,
                     consumer: c.peer_consumer,

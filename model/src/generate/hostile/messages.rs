@@ -84,6 +84,57 @@ impl Bench {
         }
     }
 
+    /// Numbers that are next, equal, older and too far, around 65,535 and after
+    /// an open, with A and after our A, with cursors that fit and that do not.
+    pub(super) fn sequence_numbers(&mut self) {
+        let (elements, size) = self.small_group(true);
+        let n = i64::from(size);
+        self.list.all_links_up();
+        let other = self.random.draw() as u16;
+        for heard in [0, 1, 255, 256, 65_534, 65_535, other] {
+            let next = heard.wrapping_add(1);
+            let mut numbers = vec![next, heard, heard.wrapping_sub(1), next.wrapping_add(1)];
+            numbers.extend([0, 1, 65_535, next.swap_bytes(), next.wrapping_add(32_768)]);
+            for (place, sequence) in numbers.into_iter().enumerate() {
+                let marks = *self.random.pick(&[0, 0, 4, 8, 1, 2, 32, 33, 40]);
+                let slot = self.any_slot(elements) as usize;
+                let c = Connection {
+                    heard_sequence: heard,
+                    ..with_marks(self.coherent_record(n), marks)
+                };
+                self.list.record(slot, c);
+                let mut message = Message {
+                    sequence,
+                    abort: place > 0 && self.random.chance(1, 6),
+                    ..self.fitting_message(&c, n)
+                };
+                if self.random.chance(1, 4) {
+                    message.consumer.offset = 3;
+                }
+                self.hear(&message);
+                if self.random.chance(1, 4) {
+                    // The same once more, and the one after it.
+                    self.hear(&message);
+                    message.sequence = sequence.wrapping_add(1);
+                    self.hear(&message);
+                }
+                self.look();
+            }
+        }
+        // From an open on: 0, 2, 65,535, then 1, 1 again, 3, 2, 3.
+        let slot = self.any_slot(elements);
+        self.list.record(slot as usize, Connection::default());
+        let own = self.random.between(1, 0xFFFF_FFFF) as u32;
+        self.list.open(slot, own, 5, 1, 8);
+        for sequence in [0, 2, 65_535, 1, 1, 3, 2, 3] {
+            self.hear(&Message {
+                sequence,
+                ..resting_message(own)
+            });
+        }
+        self.list.table();
+    }
+
     /// Tokens that several slots hold, tokens of closed slots, the token 0.
     pub(super) fn shared_tokens(&mut self) {
         let elements = self.random.between(4, 8) as u32;

@@ -46,6 +46,7 @@ pub fn list(seed: u64, count: Option<usize>) -> Vec<u8> {
         Bench::malformed_messages,
         Bench::flags,
         Bench::shared_tokens,
+        Bench::sequence_numbers,
         Bench::hear_boundaries,
         Bench::place_boundaries,
         Bench::send_boundaries,
@@ -133,14 +134,14 @@ impl Bench {
         if self.random.chance(1, 12) {
             self.list.table();
         }
-        if self.random.chance(1, 24) && self.list.group.memory.len() <= 400 {
+        if self.random.chance(1, 24) && self.list.replay.group.memory.len() <= 400 {
             self.list.whole_memory();
         }
     }
 
     fn right_eye_catcher(&mut self, slot: u32, size: u32) {
         let at = (slot as usize - 1) * size as usize;
-        if at + 4 <= self.list.group.memory.len() {
+        if at + 4 <= self.list.replay.group.memory.len() {
             self.list.poke(at, EYE_CATCHER.to_vec());
         }
     }

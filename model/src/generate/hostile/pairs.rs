@@ -73,9 +73,9 @@ impl Bench {
         self.look();
     }
 
-    /// Pairs among 1, 4, 5, 3, 6 and 8.
+    /// Pairs among 1, 4, 5, 3, 6, 16 and 8.
     pub(super) fn pairs_of_hear(&mut self) {
-        for spoiled in subsets(&[1, 4, 5, 3, 6, 8]) {
+        for spoiled in subsets(&[1, 4, 5, 3, 6, 16, 8]) {
             let times = if spoiled.len() > 2 { 2 } else { 6 };
             for _ in 0..times {
                 self.spoiled_hear(&spoiled);
@@ -101,7 +101,7 @@ impl Bench {
             c = with_marks(c, marks + (self.random.below(8) * 64) as u16);
         }
         self.links_around(c.link, !has(6), 2);
-        if has(5) && (has(3) || has(6) || has(8)) {
+        if has(5) && (has(3) || has(6) || has(16) || has(8)) {
             // The token 0, held by an open slot.
             c.own_token = 0;
         }
@@ -115,6 +115,11 @@ impl Bench {
                 2 => c.own_token.swap_bytes() ^ 0x0100_0001,
                 _ => c.peer_token ^ 0x8000_0000,
             };
+        }
+        message.sequence = c.heard_sequence.wrapping_add(1);
+        if has(16) {
+            let off = *self.random.pick(&[1, 65_535, 65_534, 256, 32_768]);
+            message.sequence = message.sequence.wrapping_add(off);
         }
         if has(8) {
             match self.random.below(4) {
@@ -200,12 +205,12 @@ impl Bench {
                 .random
                 .pick(&[0, elements + 1, 16, 17, u32::MAX, 0x8000_0000 | slot]);
             if has(10) && (slot == 16 || slot == elements + 1) {
-                let held = self.list.group.table[before as usize - 1];
+                let held = self.list.replay.group.table[before as usize - 1];
                 self.list.record(slot as usize, held);
             }
         }
         // An element that held something before, to see it zeroed or left.
-        let length = self.list.group.memory.len();
+        let length = self.list.replay.group.memory.len();
         let bytes = self.random.bytes(length.min(200));
         self.list.poke(0, bytes);
         self.list.open(slot, own, peer, link, peer_size);

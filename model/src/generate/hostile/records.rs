@@ -214,7 +214,7 @@ impl Bench {
         record
     }
 
-    /// A message to a record that its cursor rules accept.
+    /// A message to a record that is next and that its cursor rules accept.
     pub(super) fn fitting_message(&mut self, c: &Connection, n: i64) -> Message {
         let ahead = if c.done_heard || c.closed_heard {
             0
@@ -223,7 +223,7 @@ impl Bench {
         };
         let consumed = self.part(data_size(c.n_peer()) - c.room());
         Message {
-            sequence: self.wrap(),
+            sequence: c.heard_sequence.wrapping_add(1),
             token: c.own_token,
             producer: step(c.peer_producer, ahead, n),
             consumer: step(c.peer_consumer, consumed, c.n_peer()),

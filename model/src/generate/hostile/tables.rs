@@ -86,7 +86,7 @@ impl Bench {
             let c = self.coherent_record(n);
             self.list.record(beyond as usize, c);
         }
-        let token_beyond = self.list.group.table[15].own_token;
+        let token_beyond = self.list.replay.group.table[15].own_token;
         self.hear(&resting_message(token_beyond));
         for slot in [
             0,

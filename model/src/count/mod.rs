@@ -1,0 +1,135 @@
+//! Counts what a list of calls reaches, cell by cell.
+//!
+//! Every cell is declared before the list is run. A cell that cannot arise
+//! stands in a table here with its reason; any other that stays at zero is
+//! named at the end. On the way the order of refusals is checked against
+//! `ORDERS`: the refusal given must be the first of those that hold.
+
+mod answers;
+mod cells;
+mod order;
+mod refusals;
+mod tables;
+
+pub use cells::Cells;
+
+use answers::count_answer;
+use order::{count_order, holding};
+use refusals::count_refusal;
+
+use crate::replay::{lines, skipped, Answer, Line, Replay};
+use crate::smcr::*;
+
+fn row_name(row: u16) -> String {
+    let names = ["D sent", "C sent", "D heard", "C heard", "ours first"];
+    let on: Vec<&str> = (0..5)
+        .filter(|bit| row & (1 << bit) != 0)
+        .map(|bit| names[bit])
+        .collect();
+    if on.is_empty() {
+        "none".to_string()
+    } else {
+        on.join(", ")
+    }
+}
+
+/// Runs a list and counts.
+pub fn count(input: &[u8]) -> Cells {
+    let mut cells = Cells::new();
+    let mut replay = Replay::new();
+    for line in lines(input) {
+        if skipped(line) {
+            cells.hit(if line.is_empty() {
+                "skipped: empty line"
+            } else {
+                "skipped: comment"
+            });
+            continue;
+        }
+        cells.calls += 1;
+        match replay.parse(line) {
+            Err(reason) => cells.hit(&format!("bad line: {}", reason.name())),
+            Ok(call) => count_call(&mut cells, &mut replay, &call),
+        }
+    }
+    cells
+}
+
+fn count_call(cells: &mut Cells, replay: &mut Replay, line: &Line) {
+    let word = word_of(line);
+    match line {
+        Line::Group { .. } | Line::Record { .. } | Line::Poke { .. } => {
+            cells.hit(&format!("{word}: line"));
+            replay.execute(line);
+            return;
+        }
+        Line::Table => return cells.hit("table: line"),
+        Line::Memory { count, .. } => {
+            cells.hit_if(*count == 0, "memory: no bytes");
+            return cells.hit("memory: line");
+        }
+        _ => {}
+    }
+    let group = &replay.group;
+    let holding = holding(group, line);
+    let table = group.table;
+    let element_used = match line {
+        Line::Open { slot, .. } if !group.sizes_wrong() && !group.slot_outside(*slot) => {
+            let n = group.size as usize;
+            let start = (*slot as usize - 1) * n;
+            group.memory[start..start + n].iter().any(|&byte| byte != 0)
+        }
+        _ => false,
+    };
+    let details = Details {
+        table,
+        n: group.n(),
+        s: group.s(),
+        length: group.memory.len() as i64,
+        element_used,
+    };
+    let answer = replay.execute(line);
+    let refusal = match &answer {
+        Answer::Refused(number) | Answer::RefusedRead(number, _) => Some(*number),
+        _ => None,
+    };
+    count_order(cells, word, &holding, refusal);
+    match refusal {
+        Some(number) => count_refusal(cells, word, number, line, &details),
+        None => count_answer(cells, line, &answer, &replay.group, &details),
+    }
+}
+
+/// What stood before the call.
+struct Details {
+    table: [Connection; SLOTS],
+    n: i64,
+    s: i64,
+    length: i64,
+    element_used: bool,
+}
+
+fn word_of(line: &Line) -> &'static str {
+    match line {
+        Line::Group { .. } => "group",
+        Line::Open { .. } => "open",
+        Line::Free { .. } => "free",
+        Line::Link { .. } => "link",
+        Line::LinkMsg { .. } => "linkmsg",
+        Line::Send { .. } => "send",
+        Line::Place { .. } => "place",
+        Line::Read { .. } => "read",
+        Line::Hear { .. } => "hear",
+        Line::Shutdown { .. } => "shutdown",
+        Line::Close { .. } => "close",
+        Line::Abort { .. } => "abort",
+        Line::Record { .. } => "record",
+        Line::Poke { .. } => "poke",
+        Line::Table => "table",
+        Line::Memory { .. } => "memory",
+    }
+}
+
+fn row(c: &Connection) -> u16 {
+    crate::replay::marks(c) & 31
+}

@@ -1,0 +1,229 @@
+//! Why a call was refused.
+
+use super::cells::Cells;
+use super::order::{lowest_holder, token_in};
+use super::Details;
+use crate::replay::Line;
+use crate::smcr::*;
+
+pub(super) fn count_refusal(
+    cells: &mut Cells,
+    word: &str,
+    number: u8,
+    line: &Line,
+    before: &Details,
+) {
+    match (number, line) {
+        (1, _) => {
+            cells.hit_if(!(1..=16).contains(&before.s), "refused 1: S");
+            cells.hit_if(!size_in_range(before.n), "refused 1: N");
+            let sizes_right = (1..=16).contains(&before.s) && size_in_range(before.n);
+            let length_right = sizes_right && before.length == before.s * before.n;
+            cells.hit_if(sizes_right && !length_right, "refused 1: LEN");
+        }
+        (3, Line::Hear { bytes }) => {
+            if let Some(c) =
+                token_in(bytes).and_then(|token| lowest_holder(&before.table, before.s, token))
+            {
+                count_coherence(cells, c, before.n);
+            }
+        }
+        (
+            3,
+            Line::Send { slot, .. }
+            | Line::Place { slot, .. }
+            | Line::Read { slot, .. }
+            | Line::Shutdown { slot }
+            | Line::Close { slot }
+            | Line::Abort { slot }
+            | Line::Free { slot },
+        ) => count_coherence(cells, &before.table[*slot as usize - 1], before.n),
+        (4, Line::Hear { bytes }) => {
+            let name = if bytes.len() != MESSAGE_BYTES {
+                "length"
+            } else if bytes[0] != CDC_TYPE {
+                "byte 0"
+            } else {
+                "byte 1"
+            };
+            cells.hit(&format!("hear: refused 4, {name}"));
+        }
+        (4, Line::LinkMsg { bytes, .. }) => {
+            let name = if bytes.len() != MESSAGE_BYTES {
+                "length"
+            } else {
+                match llc_class(bytes[0]) {
+                    LlcClass::Unknown => "unknown first byte",
+                    LlcClass::Cdc => "FE",
+                    _ => "byte 1",
+                }
+            };
+            cells.hit(&format!("linkmsg: refused 4, {name}"));
+        }
+        (5, Line::Hear { bytes }) => {
+            let token = token_in(bytes).unwrap_or(0);
+            let held = |c: &Connection| c.open && c.own_token == token;
+            let within = before.s as usize;
+            cells.hit_if(
+                token != 0 && before.table[within..].iter().any(held),
+                "hear: token beyond S only, 5",
+            );
+            cells.hit_if(
+                token == 0 && before.table[..within].iter().any(held),
+                "hear: token 0 held by an open slot, 5",
+            );
+        }
+        (8, Line::Hear { bytes }) => count_hear_rules(cells, bytes, before),
+        (16, Line::Hear { bytes }) => count_not_next(cells, bytes, before),
+        (
+            9,
+            Line::Place {
+                slot,
+                offset,
+                bytes,
+            },
+        ) => {
+            let c = &before.table[*slot as usize - 1];
+            count_barred(cells, c, i64::from(*offset), bytes.len() as i64, before.n);
+        }
+        (14, Line::LinkMsg { bytes, .. }) => {
+            cells.hit(&format!("{word}: refused 14, kind {:02X}", bytes[0]));
+        }
+        _ => {}
+    }
+}
+
+/// Which clause of coherence is broken: it alone, or several.
+fn count_coherence(cells: &mut Cells, c: &Connection, n: i64) {
+    let mut broken: Vec<&str> = Vec::new();
+    let mut check = |on: bool, name: &'static str| {
+        if on {
+            broken.push(name);
+        }
+    };
+    let above = |at: Cursor, size: i64| i64::from(at.offset) > size - 1;
+    let n_peer = c.n_peer();
+    check(c.own_token == 0, "own token 0");
+    check(c.peer_token == 0, "peer token 0");
+    check(!link_in_range(c.link), "link");
+    check(n_peer < MIN_SIZE, "N' below 8");
+    check(n_peer > MAX_SIZE, "N' above 65,540");
+    check(c.peer_producer.offset < 4, "P below 4");
+    check(above(c.peer_producer, n), "P above N-1");
+    check(c.consumer.offset < 4, "C below 4");
+    check(above(c.consumer, n), "C above N-1");
+    check(c.told.offset < 4, "T below 4");
+    check(above(c.told, n), "T above N-1");
+    check(c.producer.offset < 4, "Q below 4");
+    check(above(c.producer, n_peer), "Q above N'-1");
+    check(c.peer_consumer.offset < 4, "R below 4");
+    check(above(c.peer_consumer, n_peer), "R above N'-1");
+    let told_to_consumer = distance(c.told, c.consumer, n);
+    let consumer_to_producer = distance(c.consumer, c.peer_producer, n);
+    let written = distance(c.peer_consumer, c.producer, n_peer);
+    check(told_to_consumer < 0, "T to C below zero");
+    check(told_to_consumer > data_size(n), "T to C above D");
+    check(consumer_to_producer < 0, "C to P below zero");
+    check(consumer_to_producer > data_size(n), "C to P above D");
+    check(
+        told_to_consumer + consumer_to_producer > data_size(n),
+        "sum above D",
+    );
+    check(written < 0, "R to Q below zero");
+    check(written > data_size(n_peer), "R to Q above D'");
+    check(c.closed_sent && c.closed_heard, "both C");
+    match broken[..] {
+        [one] => cells.hit(&format!("refused 3: {one}")),
+        _ => cells.hit("refused 3: several clauses"),
+    }
+}
+
+/// In which way a number is not next.
+fn count_not_next(cells: &mut Cells, bytes: &[u8], before: &Details) {
+    let Some(message) = Message::read(bytes) else {
+        return;
+    };
+    let Some(c) = lowest_holder(&before.table, before.s, message.token) else {
+        return;
+    };
+    let heard = c.heard_sequence;
+    let ahead = message.sequence.wrapping_sub(heard);
+    cells.hit_if(ahead == 0, "refused 16: equal to the last");
+    cells.hit_if(ahead == 65_535, "refused 16: one older than the last");
+    cells.hit_if(ahead == 2, "refused 16: one too far");
+    let after_the_last = heard == 65_535;
+    cells.hit_if(
+        after_the_last && message.sequence == 1,
+        "refused 16: 65,535 going on to 1",
+    );
+    cells.hit_if(
+        heard == 0 && message.sequence == 0,
+        "refused 16: 0 where 1 is the first",
+    );
+}
+
+/// Which rule of hear is broken: it alone, or several.
+fn count_hear_rules(cells: &mut Cells, bytes: &[u8], before: &Details) {
+    let Some(message) = Message::read(bytes) else {
+        return;
+    };
+    let Some(c) = lowest_holder(&before.table, before.s, message.token) else {
+        return;
+    };
+    let (n, n_peer) = (before.n, c.n_peer());
+    let mut broken: Vec<&str> = Vec::new();
+    let mut check = |on: bool, name: &'static str| {
+        if on {
+            broken.push(name);
+        }
+    };
+    check(message.producer.offset < 4, "P's offset below 4");
+    check(
+        i64::from(message.producer.offset) >= n,
+        "P's offset above N-1",
+    );
+    check(message.consumer.offset < 4, "R's offset below 4");
+    check(
+        i64::from(message.consumer.offset) >= n_peer,
+        "R's offset above N'-1",
+    );
+    let new_p = distance(c.told, message.producer, n);
+    check(new_p < 0, "P before T");
+    check(new_p > data_size(n), "P more than D from T");
+    check(new_p < c.told_to_producer(n), "P less far than before");
+    let new_r = distance(message.consumer, c.producer, n_peer);
+    check(new_r < 0, "R beyond Q");
+    check(new_r > data_size(n_peer), "R more than D' before Q");
+    check(
+        new_r > distance(c.peer_consumer, c.producer, n_peer),
+        "R farther than before",
+    );
+    let moves = message.producer != c.peer_producer;
+    check(
+        moves && c.done_heard && !c.closed_heard,
+        "P moves after D heard",
+    );
+    check(moves && c.closed_heard, "P moves after C heard");
+    match broken[..] {
+        [one] => cells.hit(&format!("refused 8: {one}")),
+        _ => cells.hit("refused 8: several rules"),
+    }
+}
+
+fn count_barred(cells: &mut Cells, c: &Connection, offset: i64, length: i64, n: i64) {
+    let last = offset + length - 1;
+    cells.hit_if(offset < 4, "place: refused 9, below 4");
+    cells.hit_if(last > n - 1, "place: refused 9, above N-1");
+    if 4 <= offset && last < n {
+        cells.hit("place: refused 9, not free");
+        // The error that document 01 names: room measured from C.
+        let from_consumer = Connection {
+            told: c.consumer,
+            ..*c
+        };
+        cells.hit_if(
+            !placing_barred(&from_consumer, offset, length, n),
+            "place: refused 9, free from C but not from T",
+        );
+    }
+}

@@ -1,0 +1,124 @@
+//! The lines that parse, the reasons why others do not, and the answers.
+
+use crate::smcr::*;
+
+/// A line that parsed.
+#[derive(Clone, Debug, PartialEq, Eq)]
+pub enum Line {
+    Group {
+        elements: u32,
+        size: u32,
+        length: usize,
+    },
+    Open {
+        slot: u32,
+        own: u32,
+        peer: u32,
+        link: u8,
+        size: u32,
+    },
+    Free {
+        slot: u32,
+    },
+    Link {
+        link: u8,
+        up: bool,
+    },
+    LinkMsg {
+        link: u8,
+        bytes: Vec<u8>,
+    },
+    Send {
+        slot: u32,
+        bytes: Vec<u8>,
+    },
+    Place {
+        slot: u32,
+        offset: u32,
+        bytes: Vec<u8>,
+    },
+    Read {
+        slot: u32,
+        room: usize,
+    },
+    Hear {
+        bytes: Vec<u8>,
+    },
+    Shutdown {
+        slot: u32,
+    },
+    Close {
+        slot: u32,
+    },
+    Abort {
+        slot: u32,
+    },
+    Record {
+        slot: usize,
+        record: Connection,
+    },
+    Poke {
+        at: usize,
+        bytes: Vec<u8>,
+    },
+    Table,
+    Memory {
+        at: usize,
+        count: usize,
+    },
+}
+
+/// Why a line did not parse. The answer is `bad line` for each.
+#[derive(Clone, Copy, Debug, PartialEq, Eq, PartialOrd, Ord)]
+pub enum BadLine {
+    Word,
+    WordCount,
+    Number,
+    NumberRange,
+    HexDigit,
+    OddHex,
+    LongHex,
+    LeavesMemory,
+}
+
+impl BadLine {
+    pub const ALL: [BadLine; 8] = [
+        BadLine::Word,
+        BadLine::WordCount,
+        BadLine::Number,
+        BadLine::NumberRange,
+        BadLine::HexDigit,
+        BadLine::OddHex,
+        BadLine::LongHex,
+        BadLine::LeavesMemory,
+    ];
+
+    pub fn name(self) -> &'static str {
+        match self {
+            BadLine::Word => "unknown word",
+            BadLine::WordCount => "wrong count of words",
+            BadLine::Number => "no number",
+            BadLine::NumberRange => "number does not fit",
+            BadLine::HexDigit => "bad hex digit",
+            BadLine::OddHex => "odd count of hex digits",
+            BadLine::LongHex => "over 70,000 bytes of hex",
+            BadLine::LeavesMemory => "poke or memory leaves LEN",
+        }
+    }
+}
+
+/// What a line answered.
+#[derive(Clone, Debug, PartialEq, Eq)]
+pub enum Answer {
+    Bad,
+    Refused(u8),
+    RefusedRead(u8, Vec<u8>),
+    Word(&'static str),
+    Sent(Sent),
+    Read(ReadAnswer, Vec<u8>),
+    Heard(Heard),
+    Made(&'static str, Bytes44),
+    Reply(Option<Bytes44>),
+    Table,
+    Memory { at: usize, count: usize },
+}

@@ -1,0 +1,166 @@
+//! The replay format: one call to a line in, its answer out.
+//!
+//! `parse` reads a line, `print_line` writes one, `execute` makes the call and
+//! `print_answer` writes what it answered.
+
+mod line;
+mod parse;
+mod print;
+
+pub use line::{Answer, BadLine, Line};
+pub use parse::{marks, set_marks, skipped};
+pub use print::{print_line, push_hex};
+
+use crate::smcr::*;
+use std::io::{self, BufRead, Write};
+
+/// Every byte of an out buffer before a read.
+pub const OUT_FILL: u8 = 0xA5;
+
+/// What the lines work on.
+#[derive(Clone, Debug, PartialEq, Eq)]
+pub struct Replay {
+    pub group: Group,
+}
+
+impl Default for Replay {
+    fn default() -> Replay {
+        Replay::new()
+    }
+}
+
+impl Replay {
+    /// "Before the first `group` line the group is `group 1 8 8`."
+    pub fn new() -> Replay {
+        Replay {
+            group: Group::fresh(1, 8, 8),
+        }
+    }
+
+    /// Makes the call that a line names.
+    pub fn execute(&mut self, line: &Line) -> Answer {
+        let group = &mut self.group;
+        match line {
+            Line::Group {
+                elements,
+                size,
+                length,
+            } => {
+                *group = Group::fresh(*elements, *size, *length);
+                Answer::Word("group")
+            }
+            Line::Open {
+                slot,
+                own,
+                peer,
+                link,
+                size,
+            } => done("open", group.open(*slot, *own, *peer, *link, *size)),
+            Line::Free { slot } => done("free", group.free(*slot)),
+            Line::Link { link, up } => done("link", group.link_change(*link, *up)),
+            Line::LinkMsg { link, bytes } => {
+                answered(group.link_message(*link, bytes), Answer::Reply)
+            }
+            Line::Send { slot, bytes } => answered(group.send(*slot, bytes), Answer::Sent),
+            Line::Place {
+                slot,
+                offset,
+                bytes,
+            } => done("place", group.place(*slot, *offset, bytes)),
+            Line::Read { slot, room } => {
+                let mut out = vec![OUT_FILL; *room];
+                match group.read(*slot, &mut out) {
+                    Ok(answer) => Answer::Read(answer, out),
+                    Err(number) => Answer::RefusedRead(number, out),
+                }
+            }
+            Line::Hear { bytes } => answered(group.hear(bytes), Answer::Heard),
+            Line::Shutdown { slot } => made("shutdown", group.shutdown(*slot)),
+            Line::Close { slot } => answered(group.close(*slot), |answer| match answer {
+                CloseAnswer::Closed(message) => Answer::Made("close", message),
+                CloseAnswer::Reset(message) => Answer::Made("reset", message),
+            }),
+            Line::Abort { slot } => made("abort", group.abort(*slot)),
+            Line::Record { slot, record } => {
+                group.table[slot - 1] = *record;
+                Answer::Word("record")
+            }
+            Line::Poke { at, bytes } => {
+                group.memory[*at..at + bytes.len()].copy_from_slice(bytes);
+                Answer::Word("poke")
+            }
+            Line::Table => Answer::Table,
+            Line::Memory { at, count } => Answer::Memory {
+                at: *at,
+                count: *count,
+            },
+        }
+    }
+
+    /// Answers one line, which may be skipped or bad; the text of the answer
+    /// goes to `out`.
+    pub fn answer_line(&mut self, line: &[u8], out: &mut Vec<u8>) {
+        if skipped(line) {
+            return;
+        }
+        let answer = match self.parse(line) {
+            Ok(call) => self.execute(&call),
+            Err(_) => Answer::Bad,
+        };
+        self.print_answer(out, &answer);
+    }
+}
+
+fn answered<T>(answer: Result<T, u8>, then: impl FnOnce(T) -> Answer) -> Answer {
+    match answer {
+        Ok(value) => then(value),
+        Err(number) => Answer::Refused(number),
+    }
+}
+
+fn done(word: &'static str, answer: Result<(), u8>) -> Answer {
+    answered(answer, |()| Answer::Word(word))
+}
+
+fn made(word: &'static str, answer: Result<Bytes44, u8>) -> Answer {
+    answered(answer, |message| Answer::Made(word, message))
+}
+
+/// The lines of a whole input: parted by `\n`, a last line without it counts.
+pub fn lines(input: &[u8]) -> Vec<&[u8]> {
+    let mut all: Vec<&[u8]> = input.split(|&byte| byte == b'\n').collect();
+    if all.last().is_some_and(|last| last.is_empty()) {
+        all.pop();
+    }
+    all
+}
+
+/// Answers a whole input.
+pub fn answer_all(input: &[u8]) -> Vec<u8> {
+    let mut replay = Replay::new();
+    let mut out = Vec::new();
+    for line in lines(input) {
+        replay.answer_line(line, &mut out);
+    }
+    out
+}
+
+/// `model run`: answers standard input line by line.
+pub fn run(mut input: impl BufRead, mut output: impl Write) -> io::Result<()> {
+    let mut replay = Replay::new();
+    let mut line = Vec::new();
+    let mut out = Vec::new();
+    loop {
+        line.clear();
+        if input.read_until(b'\n', &mut line)? == 0 {
+            break;
+        }
+        if line.last() == Some(&b'\n') {
+            line.pop();
+        }
+        out.clear();
+        replay.answer_line(&line, &mut out);
+        output.write_all(&out)?;
+    }
+    output.flush()
+}

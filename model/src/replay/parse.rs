@@ -1,0 +1,223 @@
+//! Reading a line.
+
+use super::{BadLine, Line, Replay};
+use crate::smcr::*;
+
+pub const MAX_HEX_BYTES: usize = 70_000;
+pub const MAX_LENGTH: u64 = 1_048_704;
+pub const MAX_ROOM: u64 = 65_600;
+pub const MAX_COUNT: u64 = 65_600;
+pub const MAX_MARKS: u64 = 511;
+
+/// "Empty lines and lines whose first character is `#` are skipped."
+pub fn skipped(line: &[u8]) -> bool {
+    line.is_empty() || line[0] == b'#'
+}
+
+/// A number of decimal digits, leading zeros allowed, at most `most`.
+fn number(word: &[u8], most: u64) -> Result<u64, BadLine> {
+    if word.is_empty() || !word.iter().all(u8::is_ascii_digit) {
+        return Err(BadLine::Number);
+    }
+    let mut value: u64 = 0;
+    for digit in word {
+        value = value * 10 + u64::from(digit - b'0');
+        if value > most {
+            return Err(BadLine::NumberRange);
+        }
+    }
+    Ok(value)
+}
+
+fn number32(word: &[u8]) -> Result<u32, BadLine> {
+    number(word, u64::from(u32::MAX)).map(|value| value as u32)
+}
+
+fn number16(word: &[u8]) -> Result<u16, BadLine> {
+    number(word, u64::from(u16::MAX)).map(|value| value as u16)
+}
+
+fn number8(word: &[u8]) -> Result<u8, BadLine> {
+    number(word, u64::from(u8::MAX)).map(|value| value as u8)
+}
+
+fn zero_or_one(word: &[u8]) -> Result<bool, BadLine> {
+    number(word, 1).map(|value| value == 1)
+}
+
+fn hex_digit(digit: u8) -> Result<u8, BadLine> {
+    match digit {
+        b'0'..=b'9' => Ok(digit - b'0'),
+        b'A'..=b'F' => Ok(digit - b'A' + 10),
+        _ => Err(BadLine::HexDigit),
+    }
+}
+
+/// Upper-case hexadecimal, two digits a byte; `-` stands for no bytes.
+fn hex(word: &[u8]) -> Result<Vec<u8>, BadLine> {
+    if word == b"-" {
+        return Ok(Vec::new());
+    }
+    if word.is_empty() {
+        return Err(BadLine::HexDigit);
+    }
+    if word.len() % 2 != 0 {
+        return Err(BadLine::OddHex);
+    }
+    if word.len() / 2 > MAX_HEX_BYTES {
+        return Err(BadLine::LongHex);
+    }
+    word.chunks_exact(2)
+        .map(|pair| Ok(hex_digit(pair[0])? * 16 + hex_digit(pair[1])?))
+        .collect()
+}
+
+/// How many words a line has, its first word included.
+fn word_count(first: &[u8]) -> Option<usize> {
+    Some(match first {
+        b"table" => 1,
+        b"free" | b"hear" | b"shutdown" | b"close" | b"abort" => 2,
+        b"link" | b"linkmsg" | b"send" | b"read" | b"poke" | b"memory" => 3,
+        b"group" | b"place" => 4,
+        b"open" => 6,
+        b"record" => 20,
+        _ => return None,
+    })
+}
+
+impl Replay {
+    /// Parses a line that is not skipped. `poke` and `memory` must stay within the
+    /// memory's present length.
+    pub fn parse(&self, line: &[u8]) -> Result<Line, BadLine> {
+        let length = self.group.memory.len();
+        let words: Vec<&[u8]> = line.splitn(22, |&byte| byte == b' ').collect();
+        let count = word_count(words[0]).ok_or(BadLine::Word)?;
+        if words.len() != count {
+            return Err(BadLine::WordCount);
+        }
+        Ok(match words[0] {
+            b"group" => Line::Group {
+                elements: number32(words[1])?,
+                size: number32(words[2])?,
+                length: number(words[3], MAX_LENGTH)? as usize,
+            },
+            b"open" => Line::Open {
+                slot: number32(words[1])?,
+                own: number32(words[2])?,
+                peer: number32(words[3])?,
+                link: number8(words[4])?,
+                size: number32(words[5])?,
+            },
+            b"free" => Line::Free {
+                slot: number32(words[1])?,
+            },
+            b"link" => Line::Link {
+                link: number8(words[1])?,
+                up: zero_or_one(words[2])?,
+            },
+            b"linkmsg" => Line::LinkMsg {
+                link: number8(words[1])?,
+                bytes: hex(words[2])?,
+            },
+            b"send" => Line::Send {
+                slot: number32(words[1])?,
+                bytes: hex(words[2])?,
+            },
+            b"place" => Line::Place {
+                slot: number32(words[1])?,
+                offset: number32(words[2])?,
+                bytes: hex(words[3])?,
+            },
+            b"read" => Line::Read {
+                slot: number32(words[1])?,
+                room: number(words[2], MAX_ROOM)? as usize,
+            },
+            b"hear" => Line::Hear {
+                bytes: hex(words[1])?,
+            },
+            b"shutdown" => Line::Shutdown {
+                slot: number32(words[1])?,
+            },
+            b"close" => Line::Close {
+                slot: number32(words[1])?,
+            },
+            b"abort" => Line::Abort {
+                slot: number32(words[1])?,
+            },
+            b"record" => parse_record(&words)?,
+            b"poke" => {
+                let at = number(words[1], MAX_LENGTH)? as usize;
+                let bytes = hex(words[2])?;
+                if at + bytes.len() > length {
+                    return Err(BadLine::LeavesMemory);
+                }
+                Line::Poke { at, bytes }
+            }
+            b"table" => Line::Table,
+            b"memory" => {
+                let at = number(words[1], MAX_LENGTH)? as usize;
+                let count = number(words[2], MAX_COUNT)? as usize;
+                if at + count > length {
+                    return Err(BadLine::LeavesMemory);
+                }
+                Line::Memory { at, count }
+            }
+            _ => return Err(BadLine::Word),
+        })
+    }
+}
+
+fn parse_record(words: &[&[u8]]) -> Result<Line, BadLine> {
+    let slot = number(words[1], SLOTS as u64)? as usize;
+    if slot == 0 {
+        return Err(BadLine::NumberRange);
+    }
+    let cursor_at = |at: usize| -> Result<Cursor, BadLine> {
+        Ok(cursor(number32(words[at])?, number16(words[at + 1])?))
+    };
+    let mut record = Connection {
+        open: zero_or_one(words[2])?,
+        own_token: number32(words[3])?,
+        peer_token: number32(words[4])?,
+        link: number8(words[5])?,
+        peer_size: number32(words[6])?,
+        peer_producer: cursor_at(7)?,
+        consumer: cursor_at(9)?,
+        told: cursor_at(11)?,
+        producer: cursor_at(13)?,
+        peer_consumer: cursor_at(15)?,
+        next_sequence: number16(words[17])?,
+        heard_sequence: number16(words[18])?,
+        ..Connection::default()
+    };
+    set_marks(&mut record, number(words[19], MAX_MARKS)? as u16);
+    Ok(Line::Record { slot, record })
+}
+
+/// "MARKS [...] the sum of: 1 D sent, 2 C sent, 4 D heard, 8 C heard, 16 ours
+/// first, 32 A sent, 64 B [...], 128 B in the last message heard, 256 R in the
+/// last message heard."
+pub fn set_marks(c: &mut Connection, marks: u16) {
+    c.done_sent = marks & 1 != 0;
+    c.closed_sent = marks & 2 != 0;
+    c.done_heard = marks & 4 != 0;
+    c.closed_heard = marks & 8 != 0;
+    c.ours_first = marks & 16 != 0;
+    c.abort_sent = marks & 32 != 0;
+    c.blocked = marks & 64 != 0;
+    c.peer_blocked = marks & 128 != 0;
+    c.update_requested = marks & 256 != 0;
+}
+
+pub fn marks(c: &Connection) -> u16 {
+    let mark = |on: bool, value: u16| if on { value } else { 0 };
+    mark(c.done_sent, 1)
+        + mark(c.closed_sent, 2)
+        + mark(c.done_heard, 4)
+        + mark(c.closed_heard, 8)
+        + mark(c.ours_first, 16)
+        + mark(c.abort_sent, 32)
+        + mark(c.blocked, 64)
+        + mark(c.peer_blocked, 128)
+        + mark(c.update_requested, 256)
+}

@@ -1,0 +1,187 @@
+//! Writing lines and answers.
+
+use super::parse::marks;
+use super::{Answer, Line, Replay};
+use crate::smcr::*;
+
+const DIGITS: &[u8; 16] = b"0123456789ABCDEF";
+
+pub fn push_hex(out: &mut Vec<u8>, bytes: &[u8]) {
+    if bytes.is_empty() {
+        out.push(b'-');
+        return;
+    }
+    out.reserve(2 * bytes.len());
+    for &byte in bytes {
+        out.push(DIGITS[usize::from(byte >> 4)]);
+        out.push(DIGITS[usize::from(byte & 15)]);
+    }
+}
+
+fn push_message(out: &mut Vec<u8>, message: Option<&Bytes44>) {
+    match message {
+        Some(bytes) => push_hex(out, bytes),
+        None => out.push(b'-'),
+    }
+}
+
+fn push(out: &mut Vec<u8>, text: &str) {
+    out.extend_from_slice(text.as_bytes());
+}
+
+fn push_record(out: &mut Vec<u8>, c: &Connection) {
+    let fields = [
+        u32::from(c.open),
+        c.own_token,
+        c.peer_token,
+        u32::from(c.link),
+        c.peer_size,
+        c.peer_producer.offset,
+        u32::from(c.peer_producer.wrap),
+        c.consumer.offset,
+        u32::from(c.consumer.wrap),
+        c.told.offset,
+        u32::from(c.told.wrap),
+        c.producer.offset,
+        u32::from(c.producer.wrap),
+        c.peer_consumer.offset,
+        u32::from(c.peer_consumer.wrap),
+        u32::from(c.next_sequence),
+        u32::from(c.heard_sequence),
+        u32::from(marks(c)),
+    ];
+    for field in fields {
+        push(out, &format!(" {field}"));
+    }
+}
+
+impl Replay {
+    /// Writes an answer with its line ends, after the call.
+    pub fn print_answer(&self, out: &mut Vec<u8>, answer: &Answer) {
+        let group = &self.group;
+        match answer {
+            Answer::Bad => push(out, "bad line"),
+            Answer::Refused(number) => push(out, &format!("refused {number}")),
+            Answer::RefusedRead(number, buffer) => {
+                push(out, &format!("refused {number} out "));
+                push_hex(out, buffer);
+            }
+            Answer::Word(word) => push(out, word),
+            Answer::Sent(sent) => {
+                push(out, &format!("send {} placings ", sent.taken));
+                if sent.placings.is_empty() {
+                    out.push(b'-');
+                }
+                for (place, placing) in sent.placings.iter().enumerate() {
+                    if place > 0 {
+                        out.push(b';');
+                    }
+                    push(
+                        out,
+                        &format!("{},{},{}", placing.offset, placing.start, placing.length),
+                    );
+                }
+                push(out, " message ");
+                push_message(out, sent.message.as_ref());
+            }
+            Answer::Read(ReadAnswer::Read { taken, message }, buffer) => {
+                push(out, &format!("read {taken} out "));
+                push_hex(out, buffer);
+                push(out, " message ");
+                push_message(out, message.as_ref());
+            }
+            Answer::Read(ReadAnswer::Torn { message }, buffer) => {
+                push(out, "torn out ");
+                push_hex(out, buffer);
+                push(out, " message ");
+                push_hex(out, message);
+            }
+            Answer::Heard(heard) => {
+                push(
+                    out,
+                    &format!("hear {} {} message ", heard.moved, heard.state.name()),
+                );
+                push_message(out, heard.message.as_ref());
+            }
+            Answer::Made(word, message) => {
+                push(out, word);
+                push(out, " message ");
+                push_hex(out, message);
+            }
+            Answer::Reply(reply) => {
+                push(out, "linkmsg reply ");
+                push_message(out, reply.as_ref());
+            }
+            Answer::Table => {
+                for (index, record) in group.table.iter().enumerate() {
+                    push(out, &format!("slot {}", index + 1));
+                    push_record(out, record);
+                    out.push(b'\n');
+                }
+                push(out, "links");
+                for active in group.links {
+                    push(out, if active { " 1" } else { " 0" });
+                }
+            }
+            Answer::Memory { at, count } => {
+                push(out, "memory ");
+                push_hex(out, &group.memory[*at..at + count]);
+            }
+        }
+        out.push(b'\n');
+    }
+}
+
+/// Writes a line without its line end, as `parse` reads it.
+pub fn print_line(out: &mut Vec<u8>, line: &Line) {
+    match line {
+        Line::Group {
+            elements,
+            size,
+            length,
+        } => push(out, &format!("group {elements} {size} {length}")),
+        Line::Open {
+            slot,
+            own,
+            peer,
+            link,
+            size,
+        } => push(out, &format!("open {slot} {own} {peer} {link} {size}")),
+        Line::Free { slot } => push(out, &format!("free {slot}")),
+        Line::Link { link, up } => push(out, &format!("link {link} {}", u8::from(*up))),
+        Line::LinkMsg { link, bytes } => {
+            push(out, &format!("linkmsg {link} "));
+            push_hex(out, bytes);
+        }
+        Line::Send { slot, bytes } => {
+            push(out, &format!("send {slot} "));
+            push_hex(out, bytes);
+        }
+        Line::Place {
+            slot,
+            offset,
+            bytes,
+        } => {
+            push(out, &format!("place {slot} {offset} "));
+            push_hex(out, bytes);
+        }
+        Line::Read { slot, room } => push(out, &format!("read {slot} {room}")),
+        Line::Hear { bytes } => {
+            push(out, "hear ");
+            push_hex(out, bytes);
+        }
+        Line::Shutdown { slot } => push(out, &format!("shutdown {slot}")),
+        Line::Close { slot } => push(out, &format!("close {slot}")),
+        Line::Abort { slot } => push(out, &format!("abort {slot}")),
+        Line::Record { slot, record } => {
+            push(out, &format!("record {slot}"));
+            push_record(out, record);
+        }
+        Line::Poke { at, bytes } => {
+            push(out, &format!("poke {at} "));
+            push_hex(out, bytes);
+        }
+        Line::Table => push(out, "table"),
+        Line::Memory { at, count } => push(out, &format!("memory {at} {count}")),
+    }
+}
