@@ -16,6 +16,7 @@ pub mod compare;
 pub mod count;
 pub mod generate;
 pub mod picture;
+pub mod pool;
 pub mod random;
 pub mod replay;
 pub mod smcr;

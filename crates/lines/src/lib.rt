@@ -1,4 +1,4 @@
-// A line of the input: a call with its numbers, or one of the five lines that are no calls.
+// A line of the input: a call with its numbers, one of the five lines that are no calls, or a line of the pool.
 ghost use Prim.Native.Nat.{_-_, _≤_};
 use calls::Request;
 use connection::Opening;
@@ -6,6 +6,8 @@ use connection::Record;
 use connection::Remote;
 use group::Command;
 use management::Management;
+use pool_text::PoolLine;
+use pool_text::PoolVerb;
 use records::read;
 use stream::input;
 use stream::input::Scan;
@@ -24,6 +26,8 @@ pub enum Line {
     Poke(usize, usize),
     Table,
     Memory(usize, usize),
+    // a line of the pool
+    Pool(PoolLine),
 }
 
 pub struct Parsed {
@@ -50,6 +54,7 @@ enum Verb {
     Poke,
     Table,
     Memory,
+    Pool(PoolVerb),
     Unknown,
 }
 
@@ -68,6 +73,25 @@ fn is(letters: &[u8; 8], count: usize, name: &[u8]) -> bool
         k += 1;
     }
     true
+}
+
+// The verbs of the pool.
+fn pool_verb(letters: &[u8; 8], count: usize) -> Verb
+    requires { ⌜ count ≤ 8 ⌝ }
+{
+    if is(letters, count, b"pool") {
+        return Verb::Pool(PoolVerb::Pool);
+    }
+    if is(letters, count, b"take") {
+        return Verb::Pool(PoolVerb::Take);
+    }
+    if is(letters, count, b"return") {
+        return Verb::Pool(PoolVerb::Return);
+    }
+    if is(letters, count, b"books") {
+        return Verb::Pool(PoolVerb::Books);
+    }
+    Verb::Unknown
 }
 
 // The verbs of a connection's calls.
@@ -95,7 +119,7 @@ fn call_verb(letters: &[u8; 8], count: usize) -> Verb
     if is(letters, count, b"abort") {
         return Verb::Abort;
     }
-    Verb::Unknown
+    pool_verb(letters, count)
 }
 
 // The verbs of the desk calls.
@@ -289,6 +313,14 @@ fn record_line(buf: &mut [u8; 65536], c: Scan) -> Parsed
     ended(buf, p.scan, Line::Record(p.slot, r))
 }
 
+fn pool_line(buf: &mut [u8; 65536], given: &mut [u8], c: Scan, verb: PoolVerb) -> Parsed
+    ensures { λ r. ⌜ r .scan .left ≤ c .left - 1 ⌝ }
+{
+    let p = pool_text::parse(buf, given, c, verb);
+    let line = p.line;
+    ended(buf, p.scan, Line::Pool(line))
+}
+
 // The lines of calls.
 fn call_line(buf: &mut [u8; 65536], given: &mut [u8], c: Scan, verb: Verb) -> Parsed
     ensures { λ r. ⌜ r .scan .left ≤ c .left - 1 ⌝ }
@@ -314,6 +346,7 @@ fn line_of(buf: &mut [u8; 65536], given: &mut [u8], c: Scan, verb: Verb) -> Pars
         Verb::Poke => poke_line(buf, given, c),
         Verb::Table => ended(buf, c, Line::Table),
         Verb::Memory => memory_line(buf, c),
+        Verb::Pool(v) => pool_line(buf, given, c, v),
         Verb::Unknown => ended(buf, c, Line::Bad),
         _ => call_line(buf, given, c, verb),
     }

@@ -8,18 +8,21 @@ ghost use Prim.Native.Nat.{_≤_};
 use connection::Record;
 use group::Command;
 use lines::Line;
+use pool_text::PoolLine;
 use records::print;
 use stream::input;
 use stream::output;
 use table::Links;
 
-// The group as the last call left it, its memory aside, of which it has the first `len` bytes; and how far the output buffer is filled.
+// The group as the last call left it, its memory aside, of which it has the first `len` bytes; the books of the pool beside it; and how
+// far the output buffer is filled.
 struct World {
     s: u32,
     n: u32,
     len: usize,
     table: [Record; table::MOST_SLOTS],
     links: Links,
+    books: [u8; 64],
     at: usize,
 }
 
@@ -47,8 +50,8 @@ fn copy(to: &mut [u8], from: &[u8]) {
     }
 }
 
-// A fresh group: every slot all zeros, every link down.
-fn fresh(s: u32, n: u32, len: usize, at: usize) -> World {
+// A fresh group: every slot all zeros, every link down. The pool stays as it is.
+fn fresh(s: u32, n: u32, len: usize, books: [u8; 64], at: usize) -> World {
     let z = connection::zero_record();
     let links = Links { active: [false; 4] };
     World {
@@ -57,8 +60,15 @@ fn fresh(s: u32, n: u32, len: usize, at: usize) -> World {
         len: len,
         table: [z; table::MOST_SLOTS],
         links: links,
+        books: books,
         at: at,
     }
+}
+
+// As if after `group 1 8 8` and `pool`.
+fn first() -> World {
+    let books = pool::free_pool();
+    fresh(1, 8, 8, books, 0)
 }
 
 // The output buffer is filled up to `at` now.
@@ -77,7 +87,8 @@ fn start_over(mem: &mut [u8], o: &mut [u8; 65536], w: World, s: u32, n: u32, len
     let most = least(len, mem.len());
     fill(&mut mem[0..most], 0);
     let at = output::text(o, w.at, b"group\n");
-    fresh(s, n, len, at)
+    let books = w.books;
+    fresh(s, n, len, books, at)
 }
 
 // Makes the call, every byte of out A5 before it, and prints its answer.
@@ -97,12 +108,14 @@ fn call(
     let after = a.table;
     let left = said.links;
     let at = answers::answer(o, w.at, command, said, out);
+    let books = w.books;
     World {
         s: w.s,
         n: w.n,
         len: w.len,
         table: after,
         links: left,
+        books: books,
         at: at,
     }
 }
@@ -190,7 +203,18 @@ fn table(o: &mut [u8; 65536], w: World) -> World {
     filled_to(w, at)
 }
 
-// The lines that are no calls.
+// A line of the pool, made on its books.
+fn pool_line(given: &[u8], o: &mut [u8; 65536], w: World, line: PoolLine) -> World {
+    let books = w.books;
+    let a = pool_text::act(o, w.at, books, given, line);
+    let after = a.books;
+    let mut next = w;
+    next.books = after;
+    next.at = a.at;
+    next
+}
+
+// The lines that are no calls of the group.
 fn aside(mem: &mut [u8], given: &[u8], o: &mut [u8; 65536], w: World, line: Line) -> World {
     match line {
         Line::Group(s, n, len) => start_over(mem, o, w, s, n, len),
@@ -198,6 +222,7 @@ fn aside(mem: &mut [u8], given: &[u8], o: &mut [u8; 65536], w: World, line: Line
         Line::Poke(at, count) => poke(mem, given, o, w, at, count),
         Line::Table => table(o, w),
         Line::Memory(at, count) => memory(mem, o, w, at, count),
+        Line::Pool(p) => pool_line(given, o, w, p),
         Line::Skipped => w,
         _ => bad(o, w),
     }
@@ -224,7 +249,7 @@ fn run(
     buf: &mut [u8; 65536],
     o: &mut [u8; 65536],
 ) {
-    let mut w = fresh(1, 8, 8, 0); // as if after `group 1 8 8`
+    let mut w = first();
     let mut scan = input::begin(buf);
     while 0 < scan.left {
         let p = lines::parse(buf, given, scan);

@@ -69,6 +69,7 @@ impl Cells {
         for reason in BadLine::ALL {
             cells.can(format!("bad line: {}", reason.name()));
         }
+        super::pool::declare(&mut cells);
         for name in FURTHER {
             cells.can(name.to_string());
         }
@@ -77,12 +78,12 @@ impl Cells {
 
     fn declare_refusals(&mut self) {
         for (call, tested) in ORDERS {
+            for number in *tested {
+                self.can(format!("{call}: refused {number}"));
+            }
             for (number, reason) in NOT_TESTED {
-                let name = format!("{call}: refused {number}");
-                if tested.contains(number) {
-                    self.can(name);
-                } else {
-                    self.cannot(name, reason);
+                if !tested.contains(number) && !BESIDE.contains(call) {
+                    self.cannot(format!("{call}: refused {number}"), reason);
                 }
             }
         }

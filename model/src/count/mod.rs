@@ -8,6 +8,7 @@
 mod answers;
 mod cells;
 mod order;
+mod pool;
 mod refusals;
 mod tables;
 
@@ -68,6 +69,23 @@ fn count_call(cells: &mut Cells, replay: &mut Replay, line: &Line) {
             cells.hit_if(*count == 0, "memory: no bytes");
             return cells.hit("memory: line");
         }
+        Line::Pool => {
+            cells.hit("pool: line");
+            replay.execute(line);
+            return;
+        }
+        Line::Books { .. } => {
+            cells.hit("books: laid");
+            replay.execute(line);
+            return;
+        }
+        Line::BooksShown => return cells.hit("books: shown"),
+        Line::Take { .. } | Line::Return { .. } => {
+            let before = replay.pool;
+            let answer = replay.execute(line);
+            count_order(cells, word, &pool::holding(&before, line), refusal(&answer));
+            return pool::count(cells, line, &answer, &before, &replay.pool);
+        }
         _ => {}
     }
     let group = &replay.group;
@@ -89,14 +107,18 @@ fn count_call(cells: &mut Cells, replay: &mut Replay, line: &Line) {
         element_used,
     };
     let answer = replay.execute(line);
-    let refusal = match &answer {
-        Answer::Refused(number) | Answer::RefusedRead(number, _) => Some(*number),
-        _ => None,
-    };
+    let refusal = refusal(&answer);
     count_order(cells, word, &holding, refusal);
     match refusal {
         Some(number) => count_refusal(cells, word, number, line, &details),
         None => count_answer(cells, line, &answer, &replay.group, &details),
+    }
+}
+
+fn refusal(answer: &Answer) -> Option<u8> {
+    match answer {
+        Answer::Refused(number) | Answer::RefusedRead(number, _) => Some(*number),
+        _ => None,
     }
 }
 
@@ -127,6 +149,10 @@ fn word_of(line: &Line) -> &'static str {
         Line::Poke { .. } => "poke",
         Line::Table => "table",
         Line::Memory { .. } => "memory",
+        Line::Pool => "pool",
+        Line::Take { .. } => "take",
+        Line::Return { .. } => "return",
+        Line::Books { .. } | Line::BooksShown => "books",
     }
 }
 

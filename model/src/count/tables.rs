@@ -13,9 +13,14 @@ pub(super) const ORDERS: &[(&str, &[u8])] = &[
     ("free", &[1, 2, 3, 7]),
     ("link", &[13]),
     ("linkmsg", &[13, 6, 4, 14]),
+    ("take", &[3, 18, 19]),
+    ("return", &[3, 20]),
 ];
 
-/// Why a call that does not test a number never gives it.
+/// Calls on what stands beside the group: their lists are all that they give.
+pub(super) const BESIDE: &[&str] = &["take", "return"];
+
+/// Why a call on the group that does not test a number never gives it.
 pub(super) const NOT_TESTED: &[(u8, &str)] = &[
     (1, "link change and link message do not look at S, N or LEN"),
     (2, "hear, link change and link message name no slot"),
@@ -65,6 +70,7 @@ pub(super) const NOT_AT_ONCE: &[(&[&str], u8, &[u8], &str)] = &[
         &[6],
         "a link outside 1 to 4 is neither active nor down",
     ),
+    (&["take"], 18, &[19], "only a right size is looked for"),
 ];
 
 /// Clauses of coherence that cannot be broken alone.

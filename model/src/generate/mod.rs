@@ -3,8 +3,10 @@
 pub mod exhaust;
 pub mod hostile;
 pub mod orders;
+pub mod pool;
 pub mod traffic;
 
+use crate::pool::Books;
 use crate::replay::{print_line, Answer, Line, Replay};
 use crate::smcr::*;
 
@@ -140,6 +142,18 @@ impl List {
 
     pub fn memory(&mut self, at: usize, count: usize) {
         self.add(Line::Memory { at, count });
+    }
+
+    pub fn take(&mut self, units: u32) -> Answer {
+        self.add(Line::Take { units })
+    }
+
+    pub fn give_back(&mut self, start: u32, units: u32) -> Answer {
+        self.add(Line::Return { start, units })
+    }
+
+    pub fn lay_books(&mut self, books: Books) {
+        self.add(Line::Books { books });
     }
 
     /// The whole memory, in pieces that the format allows.

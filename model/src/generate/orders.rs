@@ -50,6 +50,7 @@ fn first_order(random: &mut Random, count: usize) -> Vec<u8> {
         strangers: false,
         looks: false,
         noise: true,
+        beside: false,
     };
     let mut world = World::new(Random::new(random.draw()), elements, size, habits);
     while world.list.count < count {

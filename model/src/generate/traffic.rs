@@ -5,7 +5,7 @@
 
 use std::collections::VecDeque;
 
-use super::{message_of, List};
+use super::{message_of, pool, List};
 use crate::random::Random;
 use crate::replay::{Answer, Line, Replay};
 use crate::smcr::*;
@@ -47,6 +47,8 @@ pub struct Habits {
     pub looks: bool,
     /// Makes calls that nobody owns, and refused calls of the other kinds.
     pub noise: bool,
+    /// Works on what stands beside the group too.
+    pub beside: bool,
 }
 
 pub struct World {
@@ -71,6 +73,7 @@ pub fn list(seed: u64, count: usize) -> Vec<u8> {
         strangers: true,
         looks: true,
         noise: true,
+        beside: true,
     };
     let elements = if size > 1_000 {
         random.between(2, 3)
@@ -152,6 +155,7 @@ impl World {
             7 if self.habits.looks => self.look_at_memory(),
             8 if self.habits.strangers => self.damage(),
             9..=24 if self.habits.noise => self.noise(),
+            25..=40 if self.habits.beside => pool::act(&mut self.list, &mut self.random),
             _ => self.act_on_pair(),
         }
     }

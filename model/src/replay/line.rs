@@ -1,5 +1,6 @@
 //! The lines that parse, the reasons why others do not, and the answers.
 
+use crate::pool::Books;
 use crate::smcr::*;
 
 /// A line that parsed.
@@ -66,6 +67,18 @@ pub enum Line {
         at: usize,
         count: usize,
     },
+    Pool,
+    Take {
+        units: u32,
+    },
+    Return {
+        start: u32,
+        units: u32,
+    },
+    Books {
+        books: Books,
+    },
+    BooksShown,
 }
 
 /// Why a line did not parse. The answer is `bad line` for each.
@@ -78,11 +91,12 @@ pub enum BadLine {
     HexDigit,
     OddHex,
     LongHex,
+    ByteCount,
     LeavesMemory,
 }
 
 impl BadLine {
-    pub const ALL: [BadLine; 8] = [
+    pub const ALL: [BadLine; 9] = [
         BadLine::Word,
         BadLine::WordCount,
         BadLine::Number,
@@ -90,6 +104,7 @@ impl BadLine {
         BadLine::HexDigit,
         BadLine::OddHex,
         BadLine::LongHex,
+        BadLine::ByteCount,
         BadLine::LeavesMemory,
     ];
 
@@ -102,6 +117,7 @@ impl BadLine {
             BadLine::HexDigit => "bad hex digit",
             BadLine::OddHex => "odd count of hex digits",
             BadLine::LongHex => "over 70,000 bytes of hex",
+            BadLine::ByteCount => "wrong count of bytes",
             BadLine::LeavesMemory => "poke or memory leaves LEN",
         }
     }
@@ -121,4 +137,6 @@ pub enum Answer {
     Reply(Option<Bytes44>),
     Table,
     Memory { at: usize, count: usize },
+    Taken(u32),
+    Books,
 }

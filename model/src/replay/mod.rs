@@ -11,16 +11,18 @@ pub use line::{Answer, BadLine, Line};
 pub use parse::{marks, set_marks, skipped};
 pub use print::{print_line, push_hex};
 
+use crate::pool::Books;
 use crate::smcr::*;
 use std::io::{self, BufRead, Write};
 
 /// Every byte of an out buffer before a read.
 pub const OUT_FILL: u8 = 0xA5;
 
-/// What the lines work on.
+/// What the lines work on: a group, and beside it what `group` leaves alone.
 #[derive(Clone, Debug, PartialEq, Eq)]
 pub struct Replay {
     pub group: Group,
+    pub pool: Books,
 }
 
 impl Default for Replay {
@@ -30,10 +32,12 @@ impl Default for Replay {
 }
 
 impl Replay {
-    /// "Before the first `group` line the group is `group 1 8 8`."
+    /// "Before the first `group` line the group is `group 1 8 8`." "At the start
+    /// all units are free."
     pub fn new() -> Replay {
         Replay {
             group: Group::fresh(1, 8, 8),
+            pool: Books::free(),
         }
     }
 
@@ -94,6 +98,17 @@ impl Replay {
                 at: *at,
                 count: *count,
             },
+            Line::Pool => {
+                self.pool = Books::free();
+                Answer::Word("pool")
+            }
+            Line::Take { units } => answered(self.pool.take(*units), Answer::Taken),
+            Line::Return { start, units } => done("return", self.pool.give_back(*start, *units)),
+            Line::Books { books } => {
+                self.pool = *books;
+                Answer::Word("books")
+            }
+            Line::BooksShown => Answer::Books,
         }
     }
 

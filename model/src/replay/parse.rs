@@ -1,6 +1,7 @@
 //! Reading a line.
 
 use super::{BadLine, Line, Replay};
+use crate::pool::Books;
 use crate::smcr::*;
 
 pub const MAX_HEX_BYTES: usize = 70_000;
@@ -72,15 +73,21 @@ fn hex(word: &[u8]) -> Result<Vec<u8>, BadLine> {
         .collect()
 }
 
-/// How many words a line has, its first word included.
-fn word_count(first: &[u8]) -> Option<usize> {
+/// Hex of just so many bytes.
+fn hex_of<const COUNT: usize>(word: &[u8]) -> Result<[u8; COUNT], BadLine> {
+    hex(word)?.try_into().map_err(|_| BadLine::ByteCount)
+}
+
+/// How many words a line may have, its first word included.
+fn word_counts(first: &[u8]) -> Option<&'static [usize]> {
     Some(match first {
-        b"table" => 1,
-        b"free" | b"hear" | b"shutdown" | b"close" | b"abort" => 2,
-        b"link" | b"linkmsg" | b"send" | b"read" | b"poke" | b"memory" => 3,
-        b"group" | b"place" => 4,
-        b"open" => 6,
-        b"record" => 20,
+        b"table" | b"pool" => &[1],
+        b"books" => &[1, 2],
+        b"free" | b"hear" | b"shutdown" | b"close" | b"abort" | b"take" => &[2],
+        b"link" | b"linkmsg" | b"send" | b"read" | b"poke" | b"memory" | b"return" => &[3],
+        b"group" | b"place" => &[4],
+        b"open" => &[6],
+        b"record" => &[20],
         _ => return None,
     })
 }
@@ -91,8 +98,8 @@ impl Replay {
     pub fn parse(&self, line: &[u8]) -> Result<Line, BadLine> {
         let length = self.group.memory.len();
         let words: Vec<&[u8]> = line.splitn(22, |&byte| byte == b' ').collect();
-        let count = word_count(words[0]).ok_or(BadLine::Word)?;
-        if words.len() != count {
+        let counts = word_counts(words[0]).ok_or(BadLine::Word)?;
+        if !counts.contains(&words.len()) {
             return Err(BadLine::WordCount);
         }
         Ok(match words[0] {
@@ -162,6 +169,18 @@ impl Replay {
                 }
                 Line::Memory { at, count }
             }
+            b"pool" => Line::Pool,
+            b"take" => Line::Take {
+                units: number32(words[1])?,
+            },
+            b"return" => Line::Return {
+                start: number32(words[1])?,
+                units: number32(words[2])?,
+            },
+            b"books" if words.len() == 1 => Line::BooksShown,
+            b"books" => Line::Books {
+                books: Books(hex_of(words[1])?),
+            },
             _ => return Err(BadLine::Word),
         })
     }

@@ -127,6 +127,11 @@ impl Replay {
                 push(out, "memory ");
                 push_hex(out, &group.memory[*at..at + count]);
             }
+            Answer::Taken(start) => push(out, &format!("take {start}")),
+            Answer::Books => {
+                push(out, "books ");
+                push_hex(out, &self.pool.0);
+            }
         }
         out.push(b'\n');
     }
@@ -183,5 +188,13 @@ pub fn print_line(out: &mut Vec<u8>, line: &Line) {
         }
         Line::Table => push(out, "table"),
         Line::Memory { at, count } => push(out, &format!("memory {at} {count}")),
+        Line::Pool => push(out, "pool"),
+        Line::Take { units } => push(out, &format!("take {units}")),
+        Line::Return { start, units } => push(out, &format!("return {start} {units}")),
+        Line::Books { books } => {
+            push(out, "books ");
+            push_hex(out, &books.0);
+        }
+        Line::BooksShown => push(out, "books"),
     }
 }

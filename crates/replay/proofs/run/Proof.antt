@@ -12,8 +12,8 @@ Inv-loop mem₀ given₀ out₀ buf₀ o₀ w₀ scan₀ mem given out buf o w s
 abbrev μ-loop : tie.MeasureT-loop
 μ-loop mem₀ given₀ out₀ buf₀ o₀ w₀ scan₀ mem given out buf o w scan = scan .left
 
-fresh-requires : tie.Need-fresh-requires Inv-loop μ-loop
-fresh-requires c κs = search needs
+first-requires : tie.Need-first-requires Inv-loop μ-loop
+first-requires c κs = search needs
 
 begin-requires : tie.Need-begin-requires Inv-loop μ-loop
 begin-requires c κs = search needs
@@ -54,7 +54,7 @@ run-spec =
     (tie.spec
     Inv-loop
     μ-loop
-    fresh-requires
+    first-requires
     begin-requires
     loop-holds
     parse-requires

@@ -63,6 +63,12 @@ impl Bench {
             b"record 1 0 0 0 0 0 0 0 0 0 0 0 0 0 0 0 0 0 0 0",
             b"record 1 0 0 0 0 0 0 0 0 0 0 0 0 0 0 0 0 0 512",
             b"record 1 2 0 0 0 0 0 0 0 0 0 0 0 0 0 0 0 0 0",
+            b"books 00",
+            b"books - -",
+            b"take",
+            b"take -1",
+            b"return 1",
+            b"pool 1",
         ] {
             self.list.raw(line);
         }
@@ -112,7 +118,15 @@ impl Bench {
 
     /// Some ways to write a word wrongly, and some odd ways to write it rightly.
     fn spoiled_words(&mut self, word: &str) -> Vec<String> {
-        let mut all: Vec<String> = if word == "HEX" {
+        let mut all: Vec<String> = if word.starts_with("HEX*") {
+            let digits = 2 * bytes_word(word);
+            let mut all: Vec<String> = [digits - 2, digits - 1, digits + 1, digits + 2]
+                .map(|count| "0".repeat(count))
+                .to_vec();
+            all.extend(["-".to_string(), String::new()]);
+            all.extend(["g", "a", "-"].map(|digit| "0".repeat(digits - 1) + digit));
+            all
+        } else if word == "HEX" {
             [
                 "", "0", "abcd", "aB", "0G", "0x00", "000", "--", "-0", "A5", "00FF", "+1", "_0",
             ]
@@ -172,8 +186,8 @@ impl Bench {
 }
 
 /// A good line of each kind: words with their largest value and a value that is
-/// good here, or HEX.
-const FORMS: [&str; 16] = [
+/// good here, HEX, or HEX of just so many bytes.
+const FORMS: [&str; 21] = [
     "group 4294967295=2 4294967295=16 1048704=32",
     "open 4294967295=2 4294967295=7 4294967295=8 255=1 4294967295=16",
     "free 4294967295=1",
@@ -192,6 +206,11 @@ const FORMS: [&str; 16] = [
     "poke 32=5 HEX",
     "table",
     "memory 32=6 26=9",
+    "pool",
+    "take 4294967295=4",
+    "return 4294967295=0 4294967295=4",
+    "books",
+    "books HEX*64",
 ];
 
 /// The largest value and the good value of a number's word.
@@ -200,10 +219,16 @@ fn number_word(word: &str) -> (u64, u64) {
     (most.parse().unwrap_or(0), given.parse().unwrap_or(0))
 }
 
+/// The count of bytes of a word of hex.
+fn bytes_word(word: &str) -> usize {
+    word["HEX*".len()..].parse().unwrap_or(0)
+}
+
 fn value(word: &str) -> String {
     match word.split_once('=') {
         Some((_, given)) => given.to_string(),
         None if word == "HEX" => "C0FFEE".to_string(),
+        None if word.starts_with("HEX*") => "00".repeat(bytes_word(word)),
         None => word.to_string(),
     }
 }

@@ -1,0 +1,77 @@
+-- `pool::is_alone` meets its contract: each return is what the tests before it pick. Assumes nothing.
+use mathlib.Core.Path.{_∙_}
+use borrow.Author.Needs.{needs}
+use borrow.Author.Tests.{eq-eqb, ne-eqb, lt-leb, le-leb, not-true, not-false}
+use Rattle.pool.specs.Steps.{aloneB}
+use Rattle.pool.proofs.is_alone.Statement.{statement}
+use Rattle.pool.proofs.is_alone.Tie as tie
+
+element-copy-out-wide : tie.Need-element-copy-out-wide
+element-copy-out-wide c = search needs
+
+wide-requires : tie.Need-wide-requires
+wide-requires c κs = search needs
+
+returns : tie.Need-returns
+unfolding aloneB
+returns c = rw (← c .before .wide .ensures .0, eq-eqb _ _ (c .if1 .taken))
+
+is-size-requires : tie.Need-is-size-requires
+is-size-requires c κs = search needs
+
+returns-2 : tie.Need-returns-2
+unfolding aloneB
+returns-2 c =
+    let w = c .before .before .before .wide in
+    rw (← w .ensures .0, ne-eqb _ _ (c .before .before .if1 .left), ← c .before .is-size .ensures, not-true (c .before .is-size .result) (c .if2 .taken))
+
+rem-if3 : tie.Need-rem-if3
+rem-if3 c = search needs
+
+returns-3 : tie.Need-returns-3
+unfolding aloneB
+returns-3 c =
+    let w = c .before .before .before .before .wide in
+    rw (← w .ensures .0, ne-eqb _ _ (c .before .before .before .if1 .left), ← c .before .before .is-size .ensures, not-false (c .before .before .is-size .result) (c .before .if2 .left), ne-eqb _ _ (c .if3 .taken))
+
+add-if4 : tie.Need-add-if4
+add-if4 c = search needs
+
+returns-4 : tie.Need-returns-4
+unfolding aloneB
+returns-4 c =
+    let w = c .before .before .before .before .before .wide in
+    rw (← w .ensures .0, ne-eqb _ _ (c .before .before .before .before .if1 .left), ← c .before .before .before .is-size .ensures, not-false (c .before .before .before .is-size .result) (c .before .before .if2 .left), eq-eqb _ _ (c .before .if3 .left), lt-leb _ _ (c .if4 .taken))
+
+add-none-starts : tie.Need-add-none-starts
+add-none-starts c = search needs
+
+sub-none-starts : tie.Need-sub-none-starts
+sub-none-starts c = search needs
+
+none-starts-requires : tie.Need-none-starts-requires
+none-starts-requires c κs = search needs
+
+returns-5 : tie.Need-returns-5
+unfolding aloneB
+returns-5 c =
+    let w = c .before .before .before .before .before .before .wide in
+    c .none-starts .ensures ∙ rw (← w .ensures .0, ne-eqb _ _ (c .before .before .before .before .before .if1 .left), ← c .before .before .before .before .is-size .ensures, not-false (c .before .before .before .before .is-size .result) (c .before .before .before .if2 .left), eq-eqb _ _ (c .before .before .if3 .left), le-leb _ _ (c .before .if4 .left))
+
+pub is-alone-spec : {M : Type 1} → statement M
+is-alone-spec =
+    tie.close
+    (tie.spec
+    element-copy-out-wide
+    wide-requires
+    returns
+    is-size-requires
+    returns-2
+    rem-if3
+    returns-3
+    add-if4
+    returns-4
+    add-none-starts
+    sub-none-starts
+    none-starts-requires
+    returns-5)

@@ -1,0 +1,55 @@
+-- `pool::is_sound` meets its contract. The loop's invariant: what the blocks from i on say is the answer. Assumes nothing.
+use mathlib.Core.Path.{_≡_, sym, _∙_}
+use Prim.Native.Nat.{_-_, _≤_}
+use native.Mathlib.Omega.{arith}
+use borrow.Author.Needs.{needs}
+use borrow.Author.Tests.{not-true, not-false}
+use denote.Ref.{now}
+use Rattle.pool.specs.Pool.{every, soundB}
+use Rattle.pool.specs.Steps.{aloneB}
+use Rattle.pool.proofs.Every.{every-here, every-on, every-end}
+use Rattle.pool.proofs.Sound.{sound-is}
+use Rattle.pool.proofs.is_sound.Statement.{statement}
+use Rattle.pool.proofs.is_sound.Tie as tie
+
+abbrev Inv-loop : tie.InvT-loop
+Inv-loop b i₀ i = (i ≤ 64) × (soundB b ≡ every (aloneB b) i (64 - i))
+
+abbrev μ-loop : tie.MeasureT-loop
+μ-loop b i₀ i = 64 - i
+
+loop-holds : tie.Need-loop-holds Inv-loop μ-loop
+loop-holds c = (omega arith, sym (sound-is (now (c .args .b))))
+
+is-alone-requires : tie.Need-is-alone-requires Inv-loop μ-loop
+is-alone-requires c κs = search needs
+
+returns : tie.Need-returns Inv-loop μ-loop
+returns c =
+    let a = c .before .before .before .before .args in
+    let l = c .before .before .before .loop in
+    sym (l .inv .1 ∙ every-here (aloneB (now (a .b))) (l .i) 64 (c .before .before .loop-test .taken) (sym (c .before .is-alone .ensures) ∙ not-true _ (c .if1 .taken)))
+
+add-i : tie.Need-add-i Inv-loop μ-loop
+add-i c = omega arith
+
+loop-less : tie.Need-loop-less Inv-loop μ-loop
+loop-less c = omega arith
+
+loop-again : tie.Need-loop-again Inv-loop μ-loop
+loop-again c =
+    let a = c .before .before .before .before .args in
+    let l = c .before .before .before .loop in (
+      omega arith,
+      l .inv .1 ∙ every-on (aloneB (now (a .b))) (l .i) 64 (c .before .before .loop-test .taken) (sym (c .before .is-alone .ensures) ∙ not-false _ (c .if1 .left)),
+    )
+
+returns-2 : tie.Need-returns-2 Inv-loop μ-loop
+returns-2 c =
+    let a = c .before .before .args in
+    let l = c .before .loop in
+    sym (l .inv .1 ∙ every-end (aloneB (now (a .b))) (l .i) 64 (c .loop-test .left))
+
+pub is-sound-spec : {M : Type 1} → statement M
+is-sound-spec =
+    tie.close (tie.spec Inv-loop μ-loop loop-holds is-alone-requires returns add-i loop-less loop-again returns-2)

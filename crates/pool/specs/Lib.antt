@@ -1,0 +1,3 @@
+pub mod Pool
+pub mod Steps
+pub mod Statement
