@@ -1,6 +1,8 @@
 // The input as a stream with one byte of lookahead, and what a line is made of: spaces, words, numbers, bytes.
+ghost use mathlib.Core.Path.{_≡_};
 ghost use Prim.Native.Nat.{_-_, _≤_};
 ghost use lib.ListN.{length};
+ghost use Rattle.stream.specs.Stream.{spoiltOf};
 use libc::STDIN_FILENO;
 
 // `byte` is the next byte, not yet taken; at the end of the input it is a line feed. `left` bounds how many bytes may still come, this
@@ -111,7 +113,7 @@ pub fn begin(buf: &mut [u8; 65536]) -> Scan
 
 // The line does not parse.
 pub fn spoilt(c: Scan) -> Scan
-    ensures { λ r. ⌜ r .left ≤ c .left ⌝ }
+    ensures { λ r. ⌜ (r ≡ spoiltOf c) × (r .left ≤ c .left) ⌝ }
 {
     let mut d = c;
     d.good = false;

@@ -1,5 +1,7 @@
 // The output: bytes, words, numbers and hexadecimal into a buffer, which is written whenever it is full. `at` is how far it is filled.
+ghost use mathlib.Core.Path.{_≡_};
 ghost use Prim.Native.Nat.{_≤_};
+use libc::STDERR_FILENO;
 use libc::STDOUT_FILENO;
 
 // No buffer is filled further than its end.
@@ -9,6 +11,16 @@ fn filled(at: usize) -> usize
     if at < 65536 { at } else { 65536 }
 }
 
+// Writes bytes to the standard output. A program has no exit status of its own, so a failed write is told on the standard error.
+fn write(s: &[u8]) {
+    if !io::write_all(STDOUT_FILENO, s) {
+        io::write_all(
+            STDERR_FILENO,
+            b"standard output: a write failed, answers are missing\n",
+        );
+    }
+}
+
 pub fn byte(o: &mut [u8; 65536], at: usize, b: u8) -> usize
     ensures { λ r. ⌜ r ≤ 65536 ⌝ }
 {
@@ -16,16 +28,19 @@ pub fn byte(o: &mut [u8; 65536], at: usize, b: u8) -> usize
         o[at] = b;
         return at + 1;
     }
-    io::write_all(STDOUT_FILENO, o);
+    write(o);
     o[0] = b;
     1
 }
 
-// Writes what is in the buffer.
-pub fn flush(o: &[u8], at: usize) {
+// Writes what is in the buffer, and leaves it empty.
+pub fn flush(o: &[u8], at: usize) -> usize
+    ensures { λ r. ⌜ r ≡ 0 ⌝ }
+{
     if at <= o.len() {
-        io::write_all(STDOUT_FILENO, &o[0..at]);
+        write(&o[0..at]);
     }
+    0
 }
 
 pub fn text(o: &mut [u8; 65536], at: usize, s: &[u8]) -> usize
