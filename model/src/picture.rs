@@ -125,7 +125,7 @@ fn shot(group: &Group, index: usize) -> Shot {
         .get(index * n..(index + 1) * n)
         .map_or(Vec::new(), <[u8]>::to_vec);
     Shot {
-        record: group.table[index],
+        record: group.table.get(index).copied().unwrap_or_default(),
         element,
     }
 }
@@ -300,10 +300,8 @@ fn describe(
         (Line::Hear { bytes }, _) => {
             let message = Message::read(bytes)?;
             let to = ends.iter().position(|end| {
-                end.is_some_and(|index| {
-                    let c = &before[index];
-                    c.open && c.own_token == message.token
-                })
+                end.and_then(|index| before.get(index))
+                    .is_some_and(|c| c.open && c.own_token == message.token)
             })?;
             let heard = match answer {
                 Answer::Heard(heard) => {

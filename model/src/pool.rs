@@ -26,7 +26,7 @@ impl Block {
     }
 
     pub fn overlaps(&self, other: &Block) -> bool {
-        (0..2 * UNITS + 255).any(|unit| self.covers(unit) && other.covers(unit))
+        (self.start..self.start + self.size).any(|unit| other.covers(unit))
     }
 
     pub fn leaves_the_pool(&self) -> bool {

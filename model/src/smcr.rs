@@ -8,10 +8,9 @@
 // The memory and the tables
 // ---------------------------------------------------------------------------
 
-/// A connection table has room for sixteen records; those beyond S are ignored.
-pub const SLOTS: usize = 16;
-/// S runs from 1 to 16.
-pub const MAX_ELEMENTS: i64 = 16;
+/// S runs from 1 to 255 (2026-06), "the most that a one-byte index starting at 1
+/// can name".
+pub const MAX_ELEMENTS: i64 = 255;
 /// N and N' run from 8 to 65,540.
 pub const MIN_SIZE: i64 = 8;
 pub const MAX_SIZE: i64 = 65_540;
@@ -41,7 +40,7 @@ pub fn data_size(size: i64) -> i64 {
     size - 4
 }
 
-/// "S from 1 to 16, N from 8 to 65,540": N and N' share the range.
+/// "N from 8 to 65,540": N and N' share the range.
 pub fn size_in_range(size: i64) -> bool {
     MIN_SIZE <= size && size <= MAX_SIZE
 }
@@ -192,26 +191,26 @@ fn writing_distance_good(c: &Connection) -> bool {
     )
 }
 
-/// A group: S, N and the memory lent to every call, the table and the links.
-/// S and N stand here as they were handed in, in range or not.
+/// A group: S, N, the memory and the table lent to every call, and the links.
+/// S, N and both lengths stand here as they were handed in, right or not.
 #[derive(Clone, Debug, PartialEq, Eq)]
 pub struct Group {
     pub elements: u32,
     pub size: u32,
     pub memory: Vec<u8>,
-    pub table: [Connection; SLOTS],
+    pub table: Vec<Connection>,
     pub links: [bool; LINKS],
 }
 
 impl Group {
     /// "A fresh group has every slot closed, every link down and memory all
-    /// zeros."
-    pub fn fresh(elements: u32, size: u32, length: usize) -> Group {
+    /// zeros." Its table has so many records.
+    pub fn fresh(elements: u32, size: u32, length: usize, records: usize) -> Group {
         Group {
             elements,
             size,
             memory: vec![0; length],
-            table: [Connection::default(); SLOTS],
+            table: vec![Connection::default(); records],
             links: [false; LINKS],
         }
     }
@@ -364,18 +363,21 @@ fn make_abort_message(c: &mut Connection) -> Bytes44 {
 // ---------------------------------------------------------------------------
 
 impl Group {
-    /// 1: "S, N or the memory's length is wrong".
+    /// 1: "S, N or the memory's length is wrong"; 2026-06: "1 covers a table not
+    /// of S records".
     pub fn sizes_wrong(&self) -> bool {
         let elements_right = 1 <= self.s() && self.s() <= MAX_ELEMENTS;
         let size_right = size_in_range(self.n());
-        !(elements_right && size_right && self.memory.len() as i64 == self.s() * self.n())
+        let length_right = self.memory.len() as i64 == self.s() * self.n();
+        let table_right = self.table.len() as i64 == self.s();
+        !(elements_right && size_right && length_right && table_right)
     }
 
-    /// 2, first half: "slot outside 1 to S". Only the sixteen slots that the
-    /// table has can be named, whatever S says.
+    /// 2, first half: "slot outside 1 to S". Asked where 1 does not hold, so the
+    /// table has S records; else no slot that it lacks counts as inside.
     pub fn slot_outside(&self, slot: u32) -> bool {
         let slot = i64::from(slot);
-        !(1 <= slot && slot <= self.s() && slot <= SLOTS as i64)
+        !(1 <= slot && slot <= self.s() && slot <= self.table.len() as i64)
     }
 
     /// 2: "slot outside 1 to S, or closed".
@@ -383,8 +385,7 @@ impl Group {
         self.slot_outside(slot) || !self.table[slot as usize - 1].open
     }
 
-    /// The lowest open slot with the token, as an index; slots beyond S are
-    /// ignored. The token 0 names none.
+    /// The lowest open slot with the token, as an index. The token 0 names none.
     pub fn slot_with_token(&self, token: u32) -> Option<usize> {
         if token == 0 {
             return None;
@@ -412,7 +413,7 @@ impl Group {
 
     /// The indices of the open slots among 1 to S.
     fn slots_in_use(&self) -> impl Iterator<Item = usize> + '_ {
-        (0..SLOTS).filter(|&index| (index as i64) < self.s() && self.table[index].open)
+        (0..self.table.len()).filter(|&index| (index as i64) < self.s() && self.table[index].open)
     }
 }
 

@@ -73,7 +73,10 @@ fn lines_that_do_not_parse() {
         "group 4294967296 8 8",
         "table 1",
         "record 0 0 0 0 0 0 0 0 0 0 0 0 0 0 0 0 0 0 0",
-        "record 17 0 0 0 0 0 0 0 0 0 0 0 0 0 0 0 0 0 0",
+        "record 2 0 0 0 0 0 0 0 0 0 0 0 0 0 0 0 0 0 0",
+        "group 1 8 8 301",
+        "group 1 8 8 1 1",
+        "group 1 8 8 -",
         "record 1 0 0 0 0 0 0 0 0 0 0 0 0 0 0 0 0 0 512",
         "record 1 0 0 0 0 0 0 65536 0 0 0 0 0 0 0 0 0 0 0",
         "record 1 2 0 0 0 0 0 0 0 0 0 0 0 0 0 0 0 0 0",
@@ -119,16 +122,32 @@ fn lines_that_parse() {
 
 #[test]
 fn table() {
-    let lines =
-        answers("link 3 1\nrecord 16 1 2 3 4 5 6 7 8 9 10 11 12 13 14 15 16 17 511\ntable\n");
-    assert_eq!(lines.len(), 2 + 17);
-    assert_eq!(lines[1], "record");
-    assert_eq!(lines[2], "slot 1 0 0 0 0 0 0 0 0 0 0 0 0 0 0 0 0 0 0");
-    assert_eq!(
-        lines[17],
-        "slot 16 1 2 3 4 5 6 7 8 9 10 11 12 13 14 15 16 17 511"
-    );
-    assert_eq!(lines[18], "links 0 0 1 0");
+    let record = "1 2 3 4 5 6 7 8 9 10 11 12 13 14 15 16 17 511";
+    let none = "0 0 0 0 0 0 0 0 0 0 0 0 0 0 0 0 0 0";
+    for (group, count) in [
+        ("group 16 8 128", 16),
+        ("group 0 8 0 16", 16),
+        ("group 16 8 128 2", 2),
+        ("group 255 8 2040", 255),
+        ("group 300 8 8", 300),
+        ("group 301 8 8", 300),
+        ("group 4294967295 8 8", 300),
+    ] {
+        let lines = answers(&format!(
+            "{group}\nlink 3 1\nrecord {count} {record}\nrecord {} {record}\ntable\n",
+            count + 1
+        ));
+        assert_eq!(lines.len(), 4 + count + 1, "{group}");
+        assert_eq!(lines[2..4], ["record", "bad line"]);
+        assert_eq!(lines[4], format!("slot 1 {none}"));
+        assert_eq!(lines[3 + count], format!("slot {count} {record}"));
+        assert_eq!(lines[4 + count], "links 0 0 1 0");
+    }
+    let lines = answers(&format!("group 0 8 0\nrecord 1 {none}\ntable\n"));
+    assert_eq!(lines, ["group", "bad line", "links 0 0 0 0"]);
+    let lines = answers("group 2 8 16 0\ntable\n");
+    assert_eq!(lines, ["group", "links 0 0 0 0"]);
+    assert_eq!(answers("table").len(), 2);
 }
 
 #[test]

@@ -60,7 +60,7 @@ fn what_is_read_is_what_was_sent() {
     for seed in 0..30 {
         let mut random = Random::new(seed);
         let size = random.between(8, 30) as u32;
-        let mut group = Group::fresh(2, size, 2 * size as usize);
+        let mut group = Group::fresh(2, size, 2 * size as usize, 2);
         group.link_change(1, true).unwrap();
         group.open(1, 1, 2, 1, size).unwrap();
         group.open(2, 2, 1, 1, size).unwrap();

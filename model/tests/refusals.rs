@@ -34,7 +34,14 @@ fn message(producer: (u32, u16), consumer: (u32, u16), flags: u16) -> String {
 fn number_1() {
     for group in [
         "0 16 0",
-        "17 16 272",
+        "256 16 4096",
+        "256 16 4096 255",
+        "255 8 2040 254",
+        "255 8 2040 256",
+        "2 16 32 1",
+        "2 16 32 3",
+        "2 16 32 0",
+        "2 16 32 258",
         "2 7 14",
         "2 65541 131082",
         "2 16 31",
@@ -60,6 +67,14 @@ fn number_1() {
         last("group 16 65540 1048640\nlink 1 1\nopen 16 1 1 1 8"),
         "open"
     );
+    // 2026-06: up to 255, and the table may be named.
+    for group in ["17 16 272", "255 4112 1048560", "255 8 2040 255"] {
+        let slot = group.split(' ').next().unwrap();
+        let open = format!("group {group}\nlink 1 1\nopen {slot} 1 1 1 8");
+        assert_eq!(last(&open), "open");
+        let closed = last(&format!("{open}\nclose {slot}"));
+        assert!(closed.starts_with("close message FE2C0001"));
+    }
 }
 
 #[test]

@@ -9,7 +9,7 @@ const TOKEN_B: u32 = 0x0102_0304;
 
 /// Two hosts with elements of 10,000 bytes.
 fn hosts() -> Group {
-    let mut group = Group::fresh(2, 10_000, 20_000);
+    let mut group = Group::fresh(2, 10_000, 20_000, 2);
     group.link_change(1, true).unwrap();
     group.open(1, TOKEN_A, TOKEN_B, 1, 10_000).unwrap();
     group.open(2, TOKEN_B, TOKEN_A, 1, 10_000).unwrap();

@@ -7,7 +7,7 @@ const N: i64 = 10_000;
 
 /// A group with one open slot, link 1 active and the eye catcher in place.
 fn group(n: u32, peer_size: u32) -> Group {
-    let mut group = Group::fresh(1, n, n as usize);
+    let mut group = Group::fresh(1, n, n as usize, 1);
     group.link_change(1, true).unwrap();
     group.open(1, 5, 0x0102_0304, 1, peer_size).unwrap();
     group

@@ -88,9 +88,10 @@ module _ (n : ℕ) (active : Bool) (c : Record) (e : List ℕ) (o : Outcome) whe
   abort-turn h = ap (λ (w : Outcome). turnOf w e []) (sym h)
 
 -- where a place's bytes go is no large number
-pub place-base : (s n : ℕ) (m : List ℕ) (k : ℕ) (c : Record) (j : ℕ) → j ≡ foundOf s n (length m) k c → j ≡ 0
+pub place-base : (s n : ℕ) (m : List ℕ) (count k : ℕ) (c : Record) (j : ℕ) → j ≡ foundOf s n (length m) count k c → j ≡ 0
     → baseOf n k ≤ (mostSlots - 1) * mostSize
-place-base s n m k c j f z = base-most s n m k (found-sized s n (length m) k c j f z) (found-slot s n (length m) k c j f z)
+place-base s n m count k c j f z =
+    base-most s n m count k (found-sized s n (length m) count k c j f z) (found-slot s n (length m) count k c j f z)
 
 module _ (s n : ℕ) (t : List Record) (ls : Links) (m : List ℕ) where
   abbrev g : Group
@@ -98,7 +99,7 @@ module _ (s n : ℕ) (t : List Record) (ls : Links) (m : List ℕ) where
 
   -- PLACE: the bytes are stored where it is accepted, and nothing else
   module _
-      (k at : ℕ) (b : List ℕ) (c : Record) (hc : c ≡ recordAt t k) (j : ℕ) (f : j ≡ foundOf s n (length m) k c)
+      (k at : ℕ) (b : List ℕ) (c : Record) (hc : c ≡ recordAt t k) (j : ℕ) (f : j ≡ foundOf s n (length m) (length t) k c)
       (active : Bool) (ha : active ≡ activeB (ls .active) (c .id .link)) (o : Outcome) (ho : o ≡ placeOf n active c at (length b))
       (a : Turned) (p : a ≡ settledBy j ls c o)
     where
@@ -115,10 +116,10 @@ module _ (s n : ℕ) (t : List Record) (ls : Links) (m : List ℕ) where
           → storedOf m (baseOf n k + at) b ≡ splice m (baseOf n k) (splice (elementOf n k m) at b)
       unfolding elementOf
       stored-memory z h =
-          let zd = found-sized s n (length m) k c j f z in
+          let zd = found-sized s n (length m) (length t) k c j f z in
           let y = place-accepted n active c at (length b) (ap (λ (w : Outcome). w .reply) (sym ho) ∙ h) in
-          store-in m b (baseOf n k) n at (within-memory s n m k zd (found-slot s n (length m) k c j f z))
-          (sizes-facts s n (length m) zd .n-most) (⊎-elim inl (λ w. inr (w .0, w .1)) y)
+          store-in m b (baseOf n k) n at (within-memory s n m (length t) k zd (found-slot s n (length m) (length t) k c j f z))
+          (sizes-facts s n (length m) (length t) zd .n-most) (⊎-elim inl (λ w. inr (w .0, w .1)) y)
 
       pub place-stored : (l : List ℕ) → storesB (effectOf (a .answer .reply)) ≡ true → l ≡ storedOf m (baseOf n k + at) b → Places l
       place-stored l h d =
@@ -137,13 +138,13 @@ module _ (s n : ℕ) (t : List Record) (ls : Links) (m : List ℕ) where
           (λ z. (
             place-turn (elementIn g k) (placed-not (effectOf (o .reply)) (elementIn g k) at b
                 (ap storesB (sym (effect-turned j ls c o a p z)) ∙ h)),
-            d ∙ sym (kept-memory s n m k (found-sized s n (length m) k c j f z) (found-slot s n (length m) k c j f z)),
+            d ∙ sym (kept-memory s n m (length t) k (found-sized s n (length m) (length t) k c j f z) (found-slot s n (length m) (length t) k c j f z)),
           ))
           (λ x. (refl, d))
 
   -- READ: the unread bytes are copied to out where they are read; else it is as it was
   module _
-      (k : ℕ) (out : List ℕ) (c : Record) (hc : c ≡ recordAt t k) (j : ℕ) (f : j ≡ foundOf s n (length m) k c)
+      (k : ℕ) (out : List ℕ) (c : Record) (hc : c ≡ recordAt t k) (j : ℕ) (f : j ≡ foundOf s n (length m) (length t) k c)
       (active : Bool) (ha : active ≡ activeB (ls .active) (c .id .link)) (whole : Bool) (hw : whole ≡ intactAt m (baseOf n k))
       (o : Outcome) (ho : o ≡ readOf n active c whole (length out))
     where
@@ -151,18 +152,18 @@ module _ (s n : ℕ) (t : List Record) (ls : Links) (m : List ℕ) where
           ≡ readInto (effectOf (o .reply)) (c .inbound .consumer) (elementIn g k) out
       unfolding elementOf
       read-out z =
-          let zd = found-sized s n (length m) k c j f z in
-          let y = sizes-facts s n (length m) zd in
+          let zd = found-sized s n (length m) (length t) k c j f z in
+          let y = sizes-facts s n (length m) (length t) zd in
           read-into (o .reply) (c .inbound .consumer) m (baseOf n k) n out
           (λ i e.
           readable m (baseOf n k) n active c whole out i
-          (within-memory s n m k zd (found-slot s n (length m) k c j f z))
+          (within-memory s n m (length t) k zd (found-slot s n (length m) (length t) k c j f z))
           (y .n-least) (y .n-most) (ap (λ (w : Outcome). w .reply) (sym ho) ∙ e))
 
       whole-is : j ≡ 0 → whole ≡ intactB (elementIn g k)
       whole-is z =
           hw
-          ∙ intact-memory s n m k (found-sized s n (length m) k c j f z) (found-slot s n (length m) k c j f z)
+          ∙ intact-memory s n m (length t) k (found-sized s n (length m) (length t) k c j f z) (found-slot s n (length m) (length t) k c j f z)
 
       read-turn : j ≡ 0
           → requestTurn n active c (elementIn g k) (Request.read out)
@@ -180,7 +181,7 @@ module _ (s n : ℕ) (t : List Record) (ls : Links) (m : List ℕ) where
           on-settled s n t ls m k (Request.read out) c hc j f active ha o a p (elementIn g k) l m
           (λ z. (
             read-turn z ∙ ap (turnOf o (elementIn g k)) (sym (hl ∙ count (hi ∙ ap copiedOf (effect-turned j ls c o a p z)) ∙ read-out z)),
-            sym (kept-memory s n m k (found-sized s n (length m) k c j f z) (found-slot s n (length m) k c j f z)),
+            sym (kept-memory s n m (length t) k (found-sized s n (length m) (length t) k c j f z) (found-slot s n (length m) (length t) k c j f z)),
           ))
           (λ h. (hl ∙ count (hi ∙ ap copiedOf (effect-refused j ls c o a p h)) ∙ read-none m (baseOf n k) n (c .inbound .consumer .offset) out, refl))
         where
@@ -190,15 +191,15 @@ module _ (s n : ℕ) (t : List Record) (ls : Links) (m : List ℕ) where
           count e = ap (λ (y : ℕ). Element.readOf m (baseOf n k) n (c .inbound .consumer .offset) y out) e
 
   -- HEAR
-  module _ (b : List ℕ) (k : ℕ) (hk : k ≡ holderIn s t (tokenIn b)) (c : Record) (hc : c ≡ recordAt t k) (a : Turned) where
+  module _ (b : List ℕ) (k : ℕ) (hk : k ≡ holderIn t (tokenIn b)) (c : Record) (hc : c ≡ recordAt t k) (a : Turned) where
     abbrev Hears : Type 0
     Hears = Promise s n m m t ls (Call.hear b) k a []
 
-    pub hear-unsized : sizesB s n (length m) ≡ false → a ≡ keptBy c (refusedBy 1 ls) → Hears
+    pub hear-unsized : sizesB s n (length m) (length t) ≡ false → a ≡ keptBy c (refusedBy 1 ls) → Hears
     unfolding hearDoes
     hear-unsized y p = refused s n t ls m (Call.hear b) [] k 1 c a hc (simp y) p
 
-    module _ (y : sizesB s n (length m) ≡ true) where
+    module _ (y : sizesB s n (length m) (length t) ≡ true) where
       hear-does : hearDoes g b ≡ hearMessage g (decodeOf b)
       unfolding hearDoes
       hear-does = simp y
@@ -214,7 +215,9 @@ module _ (s n : ℕ) (t : List Record) (ls : Links) (m : List ℕ) where
         -- the slot found is the rules' holder
         holder-is : holderOf g (w .token) ≡ k
         unfolding holderIn
-        holder-is = sym (hk ∙ ap (holderIn s t) token-is)
+        holder-is =
+            ap (λ (i : ℕ). cond (eqb (w .token) 0) 0 (findFrom t (w .token) i)) (sym (sizes-facts s n (length m) (length t) y .count-is))
+            ∙ sym (hk ∙ ap (holderIn t) token-is)
 
         is : hearDoes g b ≡ hearAt g w k
         is = hear-does ∙ ap (hearMessage g) d ∙ ap (hearAt g w) holder-is
@@ -224,10 +227,11 @@ module _ (s n : ℕ) (t : List Record) (ls : Links) (m : List ℕ) where
           where
             go : (x : Bool) → eqb (w .token) 0 ≡ x → slotB s k ≡ true
             go true x =
-                absurd (h (hk ∙ ap (holderIn s t) token-is ∙ sym (holder-none s t (w .token) (eqb-true (w .token) 0 x))))
+                absurd (h (hk ∙ ap (holderIn t) token-is ∙ holder-none t (w .token) (eqb-true (w .token) 0 x)))
             go false x =
                 find-slot t (w .token) s k
-                (hk ∙ ap (holderIn s t) token-is ∙ holder-some s t (w .token) (eqb-false (w .token) 0 x)) h .slot
+                (hk ∙ ap (holderIn t) token-is ∙ holder-some t (w .token) (eqb-false (w .token) 0 x)
+                ∙ ap (findFrom t (w .token)) (sizes-facts s n (length m) (length t) y .count-is)) h .slot
 
         turn-is : hearTurn n (linkOf g k) (recordOf g k) (elementIn g k) w
             ≡ turnOf (hearOf n (activeB (ls .active) (c .id .link)) c w) (elementIn g k) []
@@ -245,7 +249,7 @@ module _ (s n : ℕ) (t : List Record) (ls : Links) (m : List ℕ) where
             (elementIn g k) [] m
             (λ z.
             let h = some-5 k z in
-            (none-holds h, sym (kept-memory s n m k y (slot-of h))))
+            (none-holds h, sym (kept-memory s n m (length t) k y (slot-of h))))
             (λ z. (is ∙ (simp (eq-eqb k 0 (none-5 k z))), refl))
 
 -- ANY CALL ON A SLOT: what holds of the request that was matched holds of the request

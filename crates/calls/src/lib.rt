@@ -40,7 +40,7 @@ pub fn send(
         ⌜ DidOn s n (now (mem .entry)) (now (mem .entry)) count links
         (Call.on slot (Rules.Request.send (now (bytes .entry)))) slot rec r [] ⌝ }
 {
-    let no = table::found(s, n, mem.len(), slot, rec);
+    let no = table::found(s, n, mem.len(), count, slot, rec);
     let active = table::link_active(links, rec.id.link);
     let o = transmit::send(n, active, rec, bytes.len());
     table::settled(no, links, rec, o)
@@ -75,7 +75,7 @@ pub fn place(
         ⌜ DidOn s n (now (mem .entry)) (now (mem .exit)) count links
         (Call.on slot (Rules.Request.place offset (now (bytes .entry)))) slot rec r [] ⌝ }
 {
-    let no = table::found(s, n, mem.len(), slot, rec);
+    let no = table::found(s, n, mem.len(), count, slot, rec);
     let active = table::link_active(links, rec.id.link);
     let o = receive::place(n, active, rec, offset, bytes.len());
     let d = table::settled(no, links, rec, o);
@@ -114,7 +114,7 @@ pub fn read(
         ⌜ DidOn s n (now (mem .entry)) (now (mem .entry)) count links
         (Call.on slot (Rules.Request.read (now (out .entry)))) slot rec r (now (out .exit)) ⌝ }
 {
-    let no = table::found(s, n, mem.len(), slot, rec);
+    let no = table::found(s, n, mem.len(), count, slot, rec);
     let active = table::link_active(links, rec.id.link);
     let base = element::base_of(n, slot);
     let whole = element::intact(mem, base);
@@ -137,7 +137,7 @@ pub fn shutdown(
     ensures { λ r.
         ⌜ DidOn s n (now (mem .entry)) (now (mem .entry)) count links (Call.on slot Rules.Request.shutdown) slot rec r [] ⌝ }
 {
-    let no = table::found(s, n, mem.len(), slot, rec);
+    let no = table::found(s, n, mem.len(), count, slot, rec);
     let active = table::link_active(links, rec.id.link);
     let o = finish::shutdown(n, active, rec);
     table::settled(no, links, rec, o)
@@ -155,7 +155,7 @@ pub fn close(
     ensures { λ r.
         ⌜ DidOn s n (now (mem .entry)) (now (mem .entry)) count links (Call.on slot Rules.Request.close) slot rec r [] ⌝ }
 {
-    let no = table::found(s, n, mem.len(), slot, rec);
+    let no = table::found(s, n, mem.len(), count, slot, rec);
     let active = table::link_active(links, rec.id.link);
     let o = finish::close(n, active, rec);
     table::settled(no, links, rec, o)
@@ -173,7 +173,7 @@ pub fn abort(
     ensures { λ r.
         ⌜ DidOn s n (now (mem .entry)) (now (mem .entry)) count links (Call.on slot Rules.Request.abort) slot rec r [] ⌝ }
 {
-    let no = table::found(s, n, mem.len(), slot, rec);
+    let no = table::found(s, n, mem.len(), count, slot, rec);
     let active = table::link_active(links, rec.id.link);
     let o = finish::abort(n, active, rec);
     table::settled(no, links, rec, o)
@@ -243,7 +243,7 @@ pub fn hear(
         ⌜ DidIn s n (now (mem .entry)) (now (mem .entry)) count links
         (Call.hear (now (bytes .entry))) (tokenIn (now (bytes .entry))) holder holder rec r [] ⌝ }
 {
-    let sized = table::sizes_ok(s, n, mem.len());
+    let sized = table::sizes_ok(s, n, mem.len(), count);
     if sized {
         let what = cdc::decode(bytes);
         match what {

@@ -1,39 +1,65 @@
-// A caller of the core: it sends its last bytes and says that it is done. The table and the links that one call hands back go into the next.
+// A caller of the core: it sends its last bytes and says that it is done. The table is lent to both calls, and the links that the first one
+// leaves go into the second.
+ghost use mathlib.Core.Path.{_≡_};
+ghost use Rattle.calls.specs.declared.Request.the-variants.{Send, Shutdown};
+ghost use Rattle.group.specs.declared.Command.the-variants.{On};
 ghost use Rattle.rules.specs.Rules.{groupOf};
-ghost use Rattle.example_send.specs.Example.{LastWords};
+ghost use Rattle.example_send.specs.Example.{LastWords, saidOf};
 use calls::Request;
 use connection::Record;
 use group::Command;
-use group::Made;
+use table::Answered;
 use table::Links;
 
 pub struct Said {
-    sent: Made,
-    done: Made,
+    sent: Answered,
+    done: Answered,
+}
+
+fn send_on(slot: u32) -> Command
+    ensures { λ r. ⌜ r ≡ On slot Send ⌝ }
+{
+    Command::On(slot, Request::Send)
+}
+
+fn shutdown_on(slot: u32) -> Command
+    ensures { λ r. ⌜ r ≡ On slot Shutdown ⌝ }
+{
+    Command::On(slot, Request::Shutdown)
+}
+
+fn links_after(a: Answered) -> Links
+    ensures { λ r. ⌜ r ≡ a .links ⌝ }
+{
+    let links = a.links;
+    links
+}
+
+fn both(sent: Answered, done: Answered) -> Said
+    ensures { λ r. ⌜ r ≡ saidOf sent done ⌝ }
+{
+    Said {
+        sent: sent,
+        done: done,
+    }
 }
 
 pub fn last_words(
     s: u32,
     n: u32,
     mem: &mut [u8],
-    t: [Record; table::MOST_SLOTS],
+    table: &mut [Record],
     links: Links,
     slot: u32,
     bytes: &[u8],
     out: &mut [u8],
 ) -> Said
     ensures { λ r.
-        ⌜ LastWords (groupOf s n t (links .active) (now (mem .entry))) slot (now (bytes .entry)) r (now (mem .exit)) ⌝ }
+        ⌜ LastWords (groupOf s n (now (table .entry)) (links .active) (now (mem .entry))) slot (now (bytes .entry)) r
+        (now (table .exit)) (now (mem .exit)) ⌝ }
 {
-    let send = Command::On(slot, Request::Send);
-    let sent = group::make(s, n, mem, t, links, send, bytes, out);
-    let answer = sent.answer;
-    let next = sent.table;
-    let up = answer.links;
-    let shutdown = Command::On(slot, Request::Shutdown);
-    let done = group::make(s, n, mem, next, up, shutdown, bytes, out);
-    Said {
-        sent: sent,
-        done: done,
-    }
+    let sent = group::make(s, n, mem, table, links, send_on(slot), bytes, out);
+    let left = links_after(sent);
+    let done = group::make(s, n, mem, table, left, shutdown_on(slot), bytes, out);
+    both(sent, done)
 }

@@ -21,19 +21,19 @@ module _ {x y : Command} (e : x ≡ y) (s n : ℕ) (m l : List ℕ) (count : ℕ
   pub by-command : DidTurn y → DidTurn x
   by-command = subst DidTurn (sym e)
 
--- THE WALK: what the search, the step of one record and the store give together
-pub made : (s n : ℕ) (m : List ℕ) (t : List Record) (ls : Links) (command : Command) (b out : List ℕ) (count : ℕ) → length t ≡ count
-    → (token : ℕ) → token ≡ tokenOf command b → (holder : ℕ) → holder ≡ holderIn s t token → (slot : ℕ) → slot ≡ slotOf command holder
+-- THE LENT FORM: what the search, the step of one record and the store give together
+pub make-returns : (s n : ℕ) (m : List ℕ) (t : List Record) (ls : Links) (command : Command) (b out : List ℕ)
+    → (token : ℕ) → token ≡ tokenOf command b → (holder : ℕ) → holder ≡ holderIn t token → (slot : ℕ) → slot ≡ slotOf command holder
     → (rec : Record) → rec ≡ recordAt t slot → (d : Turned) (l left : List ℕ)
-    → DidIn s n m l count ls (callOf command b out) (tokenOf command b) holder (slotOf command holder) rec d (outLeft command left) × OutKept command out left
-    → (z : List Record) → z ≡ withRecord t slot (d .after) → (a : Answered) → a ≡ d .answer
+    → DidIn s n m l (length t) ls (callOf command b out) (tokenOf command b) holder (slotOf command holder) rec d (outLeft command left) × OutKept command out left
+    → (after : Record) → after ≡ d .after → (u : Unit {0}) (z : List Record) → z ≡ withRecord t slot after → (a : Answered) → a ≡ d .answer
     → Did (groupOf s n t (ls .active) m) (callOf command b out) (answerOf a (outLeft command left)) (groupOf s n z (a .links .active) l)
     × OutKept command out left
-made s n m t ls command b out count long token et holder eh slot es rec ec d l left e z ez a ea =
-    let p = e .0 t long (eh ∙ ap (holderIn s t) et) (ec ∙ ap (recordAt t) es) in (
+make-returns s n m t ls command b out token et holder eh slot es rec ec d l left e after ef u z ez a ea =
+    let p = e .0 t refl (eh ∙ ap (holderIn t) et) (ec ∙ ap (recordAt t) es) in (
       record {
         answered = ap (λ (w : Answered). answerOf w (outLeft command left)) ea ∙ p .answered;
-        left = (λ i. groupOf s n ((ez ∙ ap (λ (k : ℕ). withRecord t k (d .after)) es) i) (ea i .links .active) l) ∙ p .left;
+        left = (λ i. groupOf s n ((ez ∙ (λ j. withRecord t (es j) (ef j))) i) (ea i .links .active) l) ∙ p .left;
       },
       e .1,
     )

@@ -1,8 +1,9 @@
 // One call of a group, whichever it is (document 01). It is lent S, N, the memory, the table and the links, whatever they hold, and answers
-// with the table, the links, what its line names, and the message's bytes. `Did` says that the answer and what is left are what the rules say.
+// with the links, what its line names, and the message's bytes. `Did` says that the answer and what is left are what the rules say.
 //
-// `make` finds the record, has the call act on it (`turn`), and puts it back. What a call does to its record is in the crates `calls` and
-// `management`.
+// `make` is the lent form: it finds the record, has the call act on it (`turn`), and puts it back. It has no test of its own: a refused call
+// leaves its record as it was, and a slot outside the table reads as zeros and is put nowhere. What a call does to its record is in the
+// crates `calls` and `management`.
 ghost use mathlib.Core.Path.{_≡_};
 ghost use Rattle.rules.specs.Rules.{Did, groupOf, answerOf};
 ghost use Rattle.rules.specs.Promises.{DidIn};
@@ -20,12 +21,6 @@ pub enum Command {
     On(u32, Request),
     Hear,
     Manage(Management),
-}
-
-// The table that a call leaves, and what it answers.
-pub struct Made {
-    pub table: [Record; table::MOST_SLOTS],
-    pub answer: Answered,
 }
 
 // The token that a call looks for in the table; 0 for none.
@@ -97,7 +92,13 @@ fn turn(
     }
 }
 
-// What the caller sees of it.
+// The record that it leaves, and what the caller sees of it.
+fn after_of(d: Turned) -> Record
+    ensures { λ r. ⌜ r ≡ d .after ⌝ }
+{
+    d.after
+}
+
 fn answer_of(d: Turned) -> Answered
     ensures { λ r. ⌜ r ≡ d .answer ⌝ }
 {
@@ -105,33 +106,33 @@ fn answer_of(d: Turned) -> Answered
     answer
 }
 
-// Makes one call. At most one record of the table changes. A call that is lent no out buffer leaves `out` as it is.
+// Makes one call. At most one record of the table changes. A call that has no use for an out buffer leaves `out` as it is.
 pub fn make(
     s: u32,
     n: u32,
     mem: &mut [u8],
-    table: [Record; table::MOST_SLOTS],
+    table: &mut [Record],
     links: Links,
     command: Command,
     bytes: &[u8],
     out: &mut [u8],
-) -> Made
+) -> Answered
     ensures { λ r.
-        ⌜ Did (groupOf s n table (links .active) (now (mem .entry)))
+        ⌜ Did (groupOf s n (now (table .entry)) (links .active) (now (mem .entry)))
         (callOf command (now (bytes .entry)) (now (out .entry)))
-        (answerOf (r .answer) (outLeft command (now (out .exit))))
-        (groupOf s n (r .table) (r .answer .links .active) (now (mem .exit)))
+        (answerOf r (outLeft command (now (out .exit))))
+        (groupOf s n (now (table .exit)) (r .links .active) (now (mem .exit)))
         × OutKept command (now (out .entry)) (now (out .exit)) ⌝ }
 {
     let token = token_of(command, bytes);
-    let holder = table::find(s, table, token);
+    let holder = table::find(table, token);
     let slot = slot_of(command, holder);
     let rec = table::record_at(table, slot);
     let d = turn(
         s,
         n,
         mem,
-        table::MOST_SLOTS,
+        table.len(),
         links,
         holder,
         rec,
@@ -139,10 +140,7 @@ pub fn make(
         bytes,
         out,
     );
-    let next = table::put_record(table, slot, d.after);
-    let answer = answer_of(d);
-    Made {
-        table: next,
-        answer: answer,
-    }
+    let after = after_of(d);
+    table::put_record(table, slot, after);
+    answer_of(d)
 }

@@ -10,14 +10,15 @@ use pool_text::PoolLine;
 use pool_text::PoolVerb;
 use records::read;
 use stream::input;
+use stream::input::Decimal;
 use stream::input::Scan;
 
 pub enum Line {
     // empty, or a comment
     Skipped,
     Bad,
-    // S, N, LEN
-    Group(u32, u32, usize),
+    // S, N, LEN, COUNT
+    Group(u32, u32, usize, usize),
     // how many bytes are lent beside the call, and how many of out
     Call(Command, usize, usize),
     // a slot, and what to lay there
@@ -181,17 +182,39 @@ fn ended(buf: &mut [u8; 65536], c: Scan, line: Line) -> Parsed
     }
 }
 
+// COUNT, or what stands for it where the line has none: S, as far as there are rows.
+fn count_of(buf: &mut [u8; 65536], c: Scan, s: u32) -> Decimal
+    ensures { λ r. ⌜ (r .scan .left ≤ c .left) × (r .value ≤ 300) ⌝ }
+{
+    if c.byte == b' ' {
+        return input::number(buf, c, 300);
+    }
+    let value = if s < 300 { s } else { 300 };
+    Decimal {
+        scan: c,
+        value: value,
+    }
+}
+
+// The rest of a `group` line, after S, N and LEN.
+fn counted(buf: &mut [u8; 65536], c: Scan, s: u32, n: u32, len: usize) -> Parsed
+    ensures { λ r. ⌜ r .scan .left ≤ c .left - 1 ⌝ }
+{
+    let count = count_of(buf, c, s);
+    ended(
+        buf,
+        count.scan,
+        Line::Group(s, n, len, count.value as usize),
+    )
+}
+
 fn group_line(buf: &mut [u8; 65536], c: Scan) -> Parsed
     ensures { λ r. ⌜ r .scan .left ≤ c .left - 1 ⌝ }
 {
     let s = input::number(buf, c, MOST);
     let n = input::number(buf, s.scan, MOST);
     let len = input::number(buf, n.scan, 1048704);
-    ended(
-        buf,
-        len.scan,
-        Line::Group(s.value, n.value, len.value as usize),
-    )
+    counted(buf, len.scan, s.value, n.value, len.value as usize)
 }
 
 // SLOT OWN PEER LINK SIZE

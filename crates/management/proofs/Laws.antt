@@ -20,8 +20,8 @@ use Rattle.table.specs.declared.Links.{Links}
 use Rattle.table.specs.declared.Answered.{Answered}
 use Rattle.table.specs.declared.Turned.{Turned}
 use Rattle.table.specs.Table.{sizesB, slotB, recordAt, openB, linkIn, activeB, findFrom, holderIn, withRecord, withLink, refusedBy, keptBy, settledBy}
-use Rattle.table.proofs.Laws.{two-passed, open-facts, holder-some}
-use Rattle.rules.specs.Rules.{Group, Call, Management, Done, Did, groupOf, answerOf, does, turnOf, putTurn, plain, plainTurn, refuses, withLinks, badOpening, openRefusal, openDoes, freeRefusal, freeDoes, linkDoes, linkAnswer, linkMessageDoes, elementIn}
+use Rattle.table.proofs.Laws.{sizes-facts, two-passed, open-facts, holder-some}
+use Rattle.rules.specs.Rules.{Group, Call, Management, Done, Did, groupOf, answerOf, does, turnOf, putTurn, plain, plainTurn, refuses, sizesOk, withLinks, badOpening, openRefusal, openDoes, freeRefusal, freeDoes, linkDoes, linkAnswer, linkMessageDoes, elementIn}
 use Rattle.rules.specs.Promises.{Promise, DidIn, DidLinks}
 use Rattle.rules.proofs.Memory.{kept-memory, cleared-memory}
 use Rattle.rules.proofs.Settled.{settled}
@@ -43,10 +43,10 @@ module _ (s n : ℕ) (t : List Record) (ls : Links) (m : List ℕ) where
 
   -- OPEN
   module _ (k : ℕ) (rec : Record) (hc : rec ≡ recordAt t k) (given : Opening) where
-    -- its refusals in their order, by its record and the holder of its own token
-    abbrev number : Bool → ℕ → ℕ
-    number opened holder =
-        cond (not (sizesB s n (length m))) 1
+    -- its refusals in their order, by the table's length, its record and the holder of its own token
+    abbrev number : ℕ → Bool → ℕ → ℕ
+    number count opened holder =
+        cond (not (sizesB s n (length m) count)) 1
         (cond (not (slotB s k)) 2
         (cond opened 10
         (cond (badOpening given) 12
@@ -54,36 +54,39 @@ module _ (s n : ℕ) (t : List Record) (ls : Links) (m : List ℕ) where
         (cond (not (activeB (ls .active) (given .link))) 6
         (cond (ltb 0 holder) 11 0))))))
 
-    pub open-number : (holder : ℕ) → holder ≡ holderIn s t (given .own) → number (rec .id .opened) holder ≡ openRefusal g k given
+    pub open-number : (count : ℕ) → length t ≡ count → (holder : ℕ) → holder ≡ holderIn t (given .own)
+        → number count (rec .id .opened) holder ≡ openRefusal g k given
     unfolding openRefusal
-    open-number holder hh =
-        ap (λ (r : Record). number (r .id .opened) holder) hc
-        ∙ go (badOpening given) refl
+    open-number count long holder hh =
+        (λ i. number (sym long i) (hc i .id .opened) holder)
+        ∙ go (sizesOk g) (badOpening given) refl refl
         (cond (not (linkIn (given .link))) 13 (cond (not (activeB (ls .active) (given .link))) 6 (cond (ltb 0 holder) 11 0)))
         (cond (not (linkIn (given .link))) 13 (cond (not (activeB (ls .active) (given .link))) 6 (cond (ltb 0 (findFrom t (given .own) s)) 11 0)))
-        (λ h.
+        (λ y h.
         ap
         (λ (i : ℕ). cond (not (linkIn (given .link))) 13 (cond (not (activeB (ls .active) (given .link))) 6 (cond (ltb 0 i) 11 0)))
-        (hh ∙ holder-some s t (given .own) (eqb-false (given .own) 0 (either-false (eqb (given .own) 0) _ h))))
+        (hh ∙ holder-some t (given .own) (eqb-false (given .own) 0 (either-false (eqb (given .own) 0) _ h))
+        ∙ ap (findFrom t (given .own)) (sizes-facts s n (length m) (length t) y .count-is)))
       where
-        go : (b : Bool) → badOpening given ≡ b → (x y : ℕ) → (badOpening given ≡ false → x ≡ y)
-            → cond (not (sizesB s n (length m))) 1 (cond (not (slotB s k)) 2 (cond (recordAt t k .id .opened) 10 (cond (badOpening given) 12 x)))
-            ≡ cond (not (sizesB s n (length m))) 1 (cond (not (slotB s k)) 2 (cond (recordAt t k .id .opened) 10 (cond (badOpening given) 12 y)))
-        go true e x y h = rw e
-        go false e x y h =
+        go : (z b : Bool) → sizesOk g ≡ z → badOpening given ≡ b → (x y : ℕ) → (sizesOk g ≡ true → badOpening given ≡ false → x ≡ y)
+            → cond (not (sizesOk g)) 1 (cond (not (slotB s k)) 2 (cond (recordAt t k .id .opened) 10 (cond (badOpening given) 12 x)))
+            ≡ cond (not (sizesOk g)) 1 (cond (not (slotB s k)) 2 (cond (recordAt t k .id .opened) 10 (cond (badOpening given) 12 y)))
+        go false b d e x y h = rw d
+        go true true d e x y h = rw e
+        go true false d e x y h =
             ap
             (λ (i : ℕ).
-            cond (not (sizesB s n (length m))) 1 (cond (not (slotB s k)) 2 (cond (recordAt t k .id .opened) 10 (cond (badOpening given) 12 i))))
-            (h e)
+            cond (not (sizesOk g)) 1 (cond (not (slotB s k)) 2 (cond (recordAt t k .id .opened) 10 (cond (badOpening given) 12 i))))
+            (h d e)
 
     module _ (j : ℕ) (f : j ≡ openRefusal g k given) (o : Outcome) (ho : o ≡ outcomeOf Accepted false (openedRecord given)) (a : Turned)
         (p : a ≡ settledBy j ls rec o) where
       abbrev Opens : List ℕ → Type 0
       Opens l = Promise s n m l t ls (Call.manage (Management.openSlot k given)) k a []
 
-      sized-slot : j ≡ 0 → (sizesB s n (length m) ≡ true) × (slotB s k ≡ true)
+      sized-slot : j ≡ 0 → (sizesOk g ≡ true) × (slotB s k ≡ true)
       unfolding openRefusal
-      sized-slot z = two-passed (sizesB s n (length m)) (slotB s k) _ (sym f ∙ z)
+      sized-slot z = two-passed (sizesOk g) (slotB s k) _ (sym f ∙ z)
 
       open-opens : j ≡ 0 → openDoes g k given ≡ putTurn g k (turnOf o (freshElement n) [])
       unfolding openDoes
@@ -98,7 +101,7 @@ module _ (s n : ℕ) (t : List Record) (ls : Links) (m : List ℕ) where
       pub open-did : j ≡ 0 → (l : List ℕ) → l ≡ clearedOf m (baseOf n k) n → Opens l
       open-did z l hl =
           settled s n t ls m (Call.manage (Management.openSlot k given)) k j rec hc o a p (freshElement n) [] l
-          (λ x. (open-opens x, hl ∙ cleared-memory s n m k (sized-slot x .0) (sized-slot x .1))) (λ h. absurd (h z))
+          (λ x. (open-opens x, hl ∙ cleared-memory s n m (length t) k (sized-slot x .0) (sized-slot x .1))) (λ h. absurd (h z))
 
       pub open-refused : (j ≡ 0 → ⊥) → Opens m
       open-refused h =
@@ -107,18 +110,17 @@ module _ (s n : ℕ) (t : List Record) (ls : Links) (m : List ℕ) where
 
   -- FREE
   module _ (k : ℕ) (rec : Record) (hc : rec ≡ recordAt t k) where
-    pub free-number :
-        cond (not (sizesB s n (length m))) 1
+    pub free-number : (count : ℕ) → length t ≡ count →
+        cond (not (sizesB s n (length m) count)) 1
         (cond (not (slotB s k && rec .id .opened)) 2
         (cond (not (coherentB n rec)) 3
         (cond (not (rec .marks .abort)) 7 0)))
         ≡ freeRefusal g k
     unfolding freeRefusal openB
-    free-number =
-        ap
-        (λ (r : Record).
-        cond (not (sizesB s n (length m))) 1
-        (cond (not (slotB s k && r .id .opened)) 2 (cond (not (coherentB n r)) 3 (cond (not (r .marks .abort)) 7 0)))) hc
+    free-number count long =
+        λ i.
+        cond (not (sizesB s n (length m) (sym long i))) 1
+        (cond (not (slotB s k && hc i .id .opened)) 2 (cond (not (coherentB n (hc i))) 3 (cond (not (hc i .marks .abort)) 7 0)))
 
     module _ (j : ℕ) (f : j ≡ freeRefusal g k) (o : Outcome) (ho : o ≡ outcomeOf Accepted false zeroRecord) (a : Turned)
         (p : a ≡ settledBy j ls rec o) where
@@ -132,14 +134,14 @@ module _ (s n : ℕ) (t : List Record) (ls : Links) (m : List ℕ) where
       unfolding freeDoes
       free-refuses h = simp (← f, ne-eqb j 0 h)
 
-      free-kept : j ≡ 0 → (sizesB s n (length m) ≡ true) × (openB s t k ≡ true)
+      free-kept : j ≡ 0 → (sizesOk g ≡ true) × (openB s t k ≡ true)
       unfolding freeRefusal
-      free-kept z = two-passed (sizesB s n (length m)) (openB s t k) _ (sym f ∙ z)
+      free-kept z = two-passed (sizesOk g) (openB s t k) _ (sym f ∙ z)
 
       pub free-did : Promise s n m m t ls (Call.manage (Management.freeSlot k)) k a []
       free-did =
           settled s n t ls m (Call.manage (Management.freeSlot k)) k j rec hc o a p (elementIn g k) [] m
-          (λ z. (free-frees z, sym (kept-memory s n m k (free-kept z .0) (open-facts s t k (free-kept z .1) .0))))
+          (λ z. (free-frees z, sym (kept-memory s n m (length t) k (free-kept z .0) (open-facts s t k (free-kept z .1) .0))))
           (λ h. (free-refuses h, refl))
 
 -- THE LINKS

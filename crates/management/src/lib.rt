@@ -3,6 +3,7 @@
 // message see the links alone.
 ghost use mathlib.Core.Path.{_≡_};
 ghost use mathlib.Core.List.{List, []};
+ghost use lib.ListN.{length};
 ghost use Rattle.connection.specs.declared.Record.{Record};
 ghost use Rattle.table.specs.Table.{recordAt, holderIn};
 ghost use Rattle.rules.specs.Rules as Rules;
@@ -43,6 +44,7 @@ fn open_refusal(
     s: u32,
     n: u32,
     mem: &[u8],
+    count: usize,
     links: Links,
     holder: usize,
     slot: u32,
@@ -50,10 +52,10 @@ fn open_refusal(
     given: Opening,
 ) -> u8
     ensures { λ r.
-        ⌜ ((t : List Record) → holder ≡ holderIn s t (given .own) → rec ≡ recordAt t slot
+        ⌜ ((t : List Record) → length t ≡ count → holder ≡ holderIn t (given .own) → rec ≡ recordAt t slot
         → r ≡ openRefusal (groupOf s n t (links .active) (now (mem .entry))) slot given) ⌝ }
 {
-    let wrong = !table::sizes_ok(s, n, mem.len());
+    let wrong = !table::sizes_ok(s, n, mem.len(), count);
     let outside = !table::slot_ok(s, slot);
     let bad = bad_opening(given);
     let unknown = !table::link_ok(given.link);
@@ -83,7 +85,7 @@ pub fn open(
         ⌜ DidIn s n (now (mem .entry)) (now (mem .exit)) count links
         (Call.manage (Rules.Management.openSlot slot given)) (given .own) holder slot rec r [] ⌝ }
 {
-    let no = open_refusal(s, n, mem, links, holder, slot, rec, given);
+    let no = open_refusal(s, n, mem, count, links, holder, slot, rec, given);
     let after = connection::opened_record(given);
     let o = connection::outcome_of(Reply::Accepted, false, after);
     let d = table::settled(no, links, rec, o);
@@ -95,12 +97,20 @@ pub fn open(
 }
 
 // The refusal that free gives: 1, 2, 3, 7; 0 for none.
-fn free_refusal(s: u32, n: u32, mem: &[u8], links: Links, slot: u32, rec: Record) -> u8
+fn free_refusal(
+    s: u32,
+    n: u32,
+    mem: &[u8],
+    count: usize,
+    links: Links,
+    slot: u32,
+    rec: Record,
+) -> u8
     ensures { λ r.
-        ⌜ ((t : List Record) → rec ≡ recordAt t slot
+        ⌜ ((t : List Record) → length t ≡ count → rec ≡ recordAt t slot
         → r ≡ freeRefusal (groupOf s n t (links .active) (now (mem .entry))) slot) ⌝ }
 {
-    let wrong = !table::sizes_ok(s, n, mem.len());
+    let wrong = !table::sizes_ok(s, n, mem.len(), count);
     let closed = !(table::slot_ok(s, slot) & rec.id.opened);
     let incoherent = !connection::coherent(n, rec);
     let no_7 = table::refusal_if(!rec.marks.abort, 7, 0);
@@ -121,7 +131,7 @@ pub fn free(
     ensures { λ r.
         ⌜ DidOn s n (now (mem .entry)) (now (mem .entry)) count links (Call.manage (Rules.Management.freeSlot slot)) slot rec r [] ⌝ }
 {
-    let no = free_refusal(s, n, mem, links, slot, rec);
+    let no = free_refusal(s, n, mem, count, links, slot, rec);
     let z = connection::zero_record();
     let o = connection::outcome_of(Reply::Accepted, false, z);
     table::settled(no, links, rec, o)

@@ -136,7 +136,7 @@ target-found g (manage d) i o a = absurd a
 -- ONE TURN, of an open slot in a group whose sizes are right.
 module _ (g : Group) (c : Call) (i : ℕ) (sizes : sizesOk g ≡ true) (o : OpenAt g (suc i)) where
   pub whole : length (g .memory) ≡ g .S * g .N
-  whole = (sizes-in (g .S) (g .N) (length (g .memory)) sizes) .whole
+  whole = (sizes-in (g .S) (g .N) (length (g .memory)) (length (g .table)) sizes) .whole
 
   pub inside : i < g .S
   inside = (open-in (g .S) (g .table) (suc i) o) .high
@@ -176,7 +176,7 @@ Alike k x y = (x .answer ≡ y .answer) × Agree (x .group) (y .group) k
 
 module _ (g h : Group) (k : ℕ) (n : Agree g h k) where
   same-sizes : sizesOk g ≡ sizesOk h
-  same-sizes = cc (n .same-S, n .same-N, n .same-length)
+  same-sizes = cc (n .same-S, n .same-N, n .same-length, n .same-count)
 
   pub same-open : openB (g .S) (g .table) k ≡ openB (h .S) (h .table) k
   unfolding openB
@@ -226,6 +226,7 @@ module _ (g h : Group) (c : Call) (i : ℕ) (n : Agree g h (suc i)) (sizes : siz
         same-S = p .put-S ∙ n .same-S ∙ sym (q .put-S);
         same-N = p .put-N ∙ n .same-N ∙ sym (q .put-N);
         same-length = p .put-memory ∙ n .same-length ∙ sym (q .put-memory);
+        same-count = p .put-table ∙ n .same-count ∙ sym (q .put-table);
         same-slot =
             λ e.
             record {

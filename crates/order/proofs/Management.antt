@@ -22,10 +22,10 @@ use Rattle.connection.specs.Connection.{openedRecord}
 use Rattle.rules.specs.Rules.{Group, manage, Management, openSlot, freeSlot, linkChange, linkMessage, Turn, next, plain, refuses, sizesOk, recordOf, elementIn, putTurn, plainTurn, badOpening, withLinks, openRefusal, openDoes, freeRefusal, freeDoes, linkDoes, linkAnswer, linkMessageDoes}
 use Rattle.order.proofs.Slots.{slot-in, open-in, open-is, open-found, element-long, Sizes, sizes-in, Put, put}
 use Rattle.order.proofs.Acts.{OpenAt, ownOf}
-use Rattle.order.proofs.Near.{Good}
+use Rattle.order.proofs.Near.{Good, enough}
 
-good-sizes : (g : Group) → Good g → Sizes (g .S) (g .N) (length (g .memory))
-good-sizes g h = sizes-in (g .S) (g .N) (length (g .memory)) (h .sizes)
+good-sizes : (g : Group) → Good g → Sizes (g .S) (g .N) (length (g .memory)) (length (g .table))
+good-sizes g h = sizes-in (g .S) (g .N) (length (g .memory)) (length (g .table)) (h .sizes)
 
 -- no open slot has the token
 free-token : (g : Group) (j token : ℕ) → findFrom (g .table) token (g .S) ≡ 0 → OpenAt g (suc j) → ownOf g (suc j) ≡ token → ⊥
@@ -38,8 +38,7 @@ good-put : (g : Group) (i : ℕ) (t : Turn) → Good g → i < g .S → length (
     → (t .after .id .opened ≡ false) ⊎ (findFrom (g .table) (t .after .id .own) (g .S) ≡ 0) → Good ((putTurn g (suc i) t) .group)
 good-put g i t good l fits f =
     record {
-      sizes = cc (p .put-S, p .put-N, p .put-memory, good .sizes);
-      enough = omega (arith, p .put-S, p .put-table, good .enough);
+      sizes = cc (p .put-S, p .put-N, p .put-memory, p .put-table, good .sizes);
       apart = λ j k x y e. go j k x y e (ℕ-discrete j i) (ℕ-discrete k i);
     }
   where
@@ -47,7 +46,7 @@ good-put g i t good l fits f =
     h = (putTurn g (suc i) t) .group
 
     p : Put g i t ((putTurn g (suc i) t) .group)
-    p = put g i t ((good-sizes g good) .whole) l (omega (arith, good .enough)) fits
+    p = put g i t ((good-sizes g good) .whole) l (omega (arith, enough g good)) fits
 
     old : (j : ℕ) → j ≢ i → OpenAt h (suc j) → OpenAt g (suc j)
     old j d x =
@@ -130,7 +129,7 @@ link-good g l up good = go (linkIn l)
     with-link = withLinks g (withLink (g .links) l up)
 
     go : (t : Bool) → Good ((cond t (record { answer = plain; group = with-link }) (refuses g 13 [])) .group)
-    go true = record { sizes = good .sizes; enough = good .enough; apart = good .apart }
+    go true = record { sizes = good .sizes; apart = good .apart }
     go false = good
 
 answer-good : (g : Group) (k : Kind) (reply : List ℕ) → Good g → Good ((linkAnswer g k reply) .group)

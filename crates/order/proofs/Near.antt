@@ -23,9 +23,12 @@ use Rattle.order.proofs.Acts.{Conn, target, refusalBy, turnAt, actAt, a
 -- what holds of every group that calls make from a fresh one
 pub record Good (g : Group) : Type 0 where
   pub sizes : sizesOk g ≡ true
-  pub enough : g .S ≤ length (g .table)
   -- own tokens of open slots differ
   pub apart : (i j : ℕ) → OpenAt g (suc i) → OpenAt g (suc j) → ownOf g (suc i) ≡ ownOf g (suc j) → i ≡ j
+
+-- a record for each slot
+pub enough : (g : Group) → Good g → g .S ≤ length (g .table)
+enough g h = omega (arith, sizes-in (g .S) (g .N) (length (g .memory)) (length (g .table)) (h .sizes) .counted)
 
 -- the group g can be met in a span that began with b
 pub record Near (b g : Group) : Type 0 where
@@ -54,19 +57,17 @@ pub fresh-good : (g : Group) → Fresh g → Good g
 fresh-good g f =
     record {
       sizes = f .sizes;
-      enough = f .enough;
       apart = λ i j o p e. absurd (false≢true (sym (f .closed (suc i)) ∙ o));
     }
 
 module _ (b g : Group) (n : Near b g) where
   near-sizes : sizesOk g ≡ true
-  near-sizes = cc (n .kept-S, n .kept-N, n .kept-memory, n .good .sizes)
+  near-sizes = cc (n .kept-S, n .kept-N, n .kept-memory, n .kept-table, n .good .sizes)
 
   pub near-good : Good g
   near-good =
       record {
         sizes = near-sizes;
-        enough = omega (arith, n .kept-S, n .kept-table, n .good .enough);
         apart =
             λ i j o p e.
             let x = n .kept-open i o in
@@ -222,7 +223,7 @@ module _ (b g h : Group) (n : Near b g) (m : Near b h) where
       tables = ext-getD zeroRecord (g .table) (h .table) (n .kept-table ∙ sym (m .kept-table)) (λ i l. ap (λ z. z .0) (f (suc i)))
 
       right : length (b .memory) ≡ b .S * b .N
-      right = (sizes-in (b .S) (b .N) (length (b .memory)) (n .good .sizes)) .whole
+      right = (sizes-in (b .S) (b .N) (length (b .memory)) (length (b .table)) (n .good .sizes)) .whole
 
       memories : g .memory ≡ h .memory
       memories = same-memory (g .N) (b .S) (g .memory) (h .memory) (rw (n .kept-N) (n .kept-memory ∙ right)) (rw (n .kept-N) (m .kept-memory ∙ right))
@@ -234,6 +235,7 @@ module _ (b g h : Group) (n : Near b g) (m : Near b h) where
         same-S = n .kept-S ∙ sym (m .kept-S);
         same-N = n .kept-N ∙ sym (m .kept-N);
         same-length = n .kept-memory ∙ sym (m .kept-memory);
+        same-count = n .kept-table ∙ sym (m .kept-table);
         same-slot = slot k e;
       }
     where

@@ -161,18 +161,20 @@ module _ (n s : ℕ) (m l : List ℕ) (long : length m ≡ s * n) (long′ : len
       sym (take-all (s * n) m (omega arith)) ∙ same-front s (omega arith) ∙ take-all (s * n) l (omega arith)
 
 -- THE SIZES.
-pub record Sizes (s n len : ℕ) : Type 0 where
+pub record Sizes (s n len count : ℕ) : Type 0 where
   pub least : 8 ≤ n
   pub whole : len ≡ s * n
+  pub counted : count ≡ s
 
-pub sizes-in : (s n len : ℕ) → sizesB s n len ≡ true → Sizes s n len
+pub sizes-in : (s n len count : ℕ) → sizesB s n len count ≡ true → Sizes s n len count
 unfolding sizesB
-sizes-in s n len h =
-    let a = and-both (leb 1 s) (leb s 16 && (leb 8 n && (leb n 65540 && eqb len (s * n)))) h in
-    let b = and-both (leb s 16) (leb 8 n && (leb n 65540 && eqb len (s * n))) (a .1) in
-    let c = and-both (leb 8 n) (leb n 65540 && eqb len (s * n)) (b .1) in
-    let d = and-both (leb n 65540) (eqb len (s * n)) (c .1) in
-    record { least = leb-true 8 n (c .0); whole = eqb-true len (s * n) (d .1) }
+sizes-in s n len count h =
+    let a = and-both (leb 1 s) (leb s 255 && (leb 8 n && (leb n 65540 && (eqb len (s * n) && eqb count s)))) h in
+    let b = and-both (leb s 255) (leb 8 n && (leb n 65540 && (eqb len (s * n) && eqb count s))) (a .1) in
+    let c = and-both (leb 8 n) (leb n 65540 && (eqb len (s * n) && eqb count s)) (b .1) in
+    let d = and-both (leb n 65540) (eqb len (s * n) && eqb count s) (c .1) in
+    let e = and-both (eqb len (s * n)) (eqb count s) (d .1) in
+    record { least = leb-true 8 n (c .0); whole = eqb-true len (s * n) (e .0); counted = eqb-true count s (e .1) }
 
 -- ONE TURN PUT BACK in an open slot: what stands in that slot, and in every other.
 module _ (g : Group) (i : ℕ) (t : Turn) where

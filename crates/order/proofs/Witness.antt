@@ -35,7 +35,7 @@ aGroup =
 
 pub a-fresh-group : Fresh aGroup
 unfolding sizesB slotB recordAt openB activeB zeroRecord
-a-fresh-group = record { sizes = refl; enough = omega arith; closed = shut; down = off; zeros = refl }
+a-fresh-group = record { sizes = refl; closed = shut; down = off; zeros = refl }
   where
     shut : (k : ℕ) → openB 2 (zeroRecord ∷ zeroRecord ∷ []) k ≡ false
     shut zero = refl

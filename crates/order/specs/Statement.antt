@@ -130,11 +130,12 @@ pub record SameSlot (g h : Group) (k : ℕ) : Type 0 where
   pub same-element : elementIn g k ≡ elementIn h k
   pub same-link : linkOf g k ≡ linkOf h k
 
--- what a call on slot k reads of the group: S, N, the memory's length, and that slot, if there is one
+-- what a call on slot k reads of the group: S, N, the memory's length and the table's, and that slot, if there is one
 pub record Agree (g h : Group) (k : ℕ) : Type 0 where
   pub same-S : g .S ≡ h .S
   pub same-N : g .N ≡ h .N
   pub same-length : length (g .memory) ≡ length (h .memory)
+  pub same-count : length (g .table) ≡ length (h .table)
   pub same-slot : slotB (g .S) k ≡ true → SameSlot g h k
 
 -- Two groups that agree on these give equal answers, and equal records and elements: they still agree.

@@ -71,10 +71,12 @@ fn slot(o: &mut [u8; 65536], at: usize, k: u64, rec: Record) -> usize {
     output::byte(o, h, b'\n')
 }
 
-fn slots(o: &mut [u8; 65536], at: usize, table: [Record; table::MOST_SLOTS]) -> usize {
+// The lines of the first `count` records.
+fn slots(o: &mut [u8; 65536], at: usize, table: [Record; crate::ROWS], count: usize) -> usize {
+    let most = crate::rows(count);
     let mut to = at;
     let mut k: usize = 0;
-    while k < table::MOST_SLOTS {
+    while k < most {
         let rec = table[k];
         k += 1;
         to = slot(o, to, k as u64, rec);
@@ -82,17 +84,18 @@ fn slots(o: &mut [u8; 65536], at: usize, table: [Record; table::MOST_SLOTS]) -> 
     to
 }
 
-// The slots' lines, and whether each link is up.
+// The lines of the slots that a table of `count` records has, and whether each link is up.
 pub fn tables(
     o: &mut [u8; 65536],
     at: usize,
-    table: [Record; table::MOST_SLOTS],
+    table: [Record; crate::ROWS],
+    count: usize,
     links: Links,
 ) -> usize
     ensures { λ r. ⌜ r ≤ 65536 ⌝ }
 {
     let up = links.active;
-    let a = slots(o, at, table);
+    let a = slots(o, at, table, count);
     let b = output::text(o, a, b"links");
     let c = flag(o, b, up[0]);
     let d = flag(o, c, up[1]);

@@ -161,9 +161,9 @@ fn record_of(h: Who, k: Cursors, next: u16, last: u16, marks: u32) -> Record {
 
 // The line's numbers, in their order.
 pub fn record(buf: &mut [u8; 65536], c: Scan) -> Laid
-    ensures { λ r. ⌜ (r .scan .left ≤ c .left) × (r .slot ≤ 16) ⌝ }
+    ensures { λ r. ⌜ (r .scan .left ≤ c .left) × (r .slot ≤ 300) ⌝ }
 {
-    let slot = input::number(buf, c, 16);
+    let slot = input::number(buf, c, 300);
     let h = who_of(buf, slot.scan);
     let k = cursors_of(buf, h.scan);
     let next = input::number(buf, k.scan, 65535);

@@ -4,7 +4,9 @@
 //
 // Five buffers are lent throughout: `mem` the receive memory, `given` the bytes of a line, `out` the out buffer of a read, `buf` the
 // input and `o` the output.
+ghost use mathlib.Core.Path.{_≡_};
 ghost use Prim.Native.Nat.{_≤_};
+ghost use Rattle.group.specs.Group.{OutKept};
 use connection::Record;
 use group::Command;
 use lines::Line;
@@ -12,15 +14,17 @@ use pool_text::PoolLine;
 use records::print;
 use stream::input;
 use stream::output;
+use table::Answered;
 use table::Links;
 
-// The group as the last call left it, its memory aside, of which it has the first `len` bytes; the books of the pool beside it; and how
-// far the output buffer is filled.
+// The group as the last call left it, its memory aside, of which it has the first `len` bytes; of the table it has the first `count` rows.
+// The books of the pool beside it; and how far the output buffer is filled.
 struct World {
     s: u32,
     n: u32,
     len: usize,
-    table: [Record; table::MOST_SLOTS],
+    table: [Record; records::ROWS],
+    count: usize,
     links: Links,
     books: [u8; 64],
     at: usize,
@@ -50,15 +54,51 @@ fn copy(to: &mut [u8], from: &[u8]) {
     }
 }
 
+// A table, and what a call on it answered.
+struct Made {
+    table: [Record; records::ROWS],
+    answer: Answered,
+}
+
+fn beside(table: [Record; records::ROWS], answer: Answered) -> Made
+    ensures { λ r. ⌜ r .answer ≡ answer ⌝ }
+{
+    Made {
+        table: table,
+        answer: answer,
+    }
+}
+
+// Makes the call on the first `count` rows, which are lent. The proof is a walk, as that of every caller of `make`.
+fn on_rows(
+    table: [Record; records::ROWS],
+    count: usize,
+    s: u32,
+    n: u32,
+    mem: &mut [u8],
+    links: Links,
+    command: Command,
+    bytes: &[u8],
+    out: &mut [u8],
+) -> Made
+    ensures { λ r. ⌜ OutKept command (now (out .entry)) (now (out .exit)) ⌝ }
+{
+    let k = records::rows(count);
+    let mut rows = table;
+    let answer = group::make(s, n, mem, &mut rows[..k], links, command, bytes, out);
+    beside(rows, answer)
+}
+
 // A fresh group: every slot all zeros, every link down. The pool stays as it is.
-fn fresh(s: u32, n: u32, len: usize, books: [u8; 64], at: usize) -> World {
+fn fresh(s: u32, n: u32, len: usize, count: usize, books: [u8; 64], at: usize) -> World {
     let z = connection::zero_record();
     let links = Links { active: [false; 4] };
     World {
         s: s,
         n: n,
         len: len,
-        table: [z; table::MOST_SLOTS],
+        table: [z; records::ROWS],
+        count: count,
         links: links,
         books: books,
         at: at,
@@ -68,7 +108,7 @@ fn fresh(s: u32, n: u32, len: usize, books: [u8; 64], at: usize) -> World {
 // As if after `group 1 8 8` and `pool`.
 fn first() -> World {
     let books = pool::free_pool();
-    fresh(1, 8, 8, books, 0)
+    fresh(1, 8, 8, 1, books, 0)
 }
 
 // The output buffer is filled up to `at` now.
@@ -83,12 +123,20 @@ fn bad(o: &mut [u8; 65536], w: World) -> World {
     filled_to(w, at)
 }
 
-fn start_over(mem: &mut [u8], o: &mut [u8; 65536], w: World, s: u32, n: u32, len: usize) -> World {
+fn start_over(
+    mem: &mut [u8],
+    o: &mut [u8; 65536],
+    w: World,
+    s: u32,
+    n: u32,
+    len: usize,
+    count: usize,
+) -> World {
     let most = least(len, mem.len());
     fill(&mut mem[0..most], 0);
     let at = output::text(o, w.at, b"group\n");
     let books = w.books;
-    fresh(s, n, len, books, at)
+    fresh(s, n, len, count, books, at)
 }
 
 // Makes the call, every byte of out A5 before it, and prints its answer.
@@ -103,7 +151,7 @@ fn call(
     let table = w.table;
     let links = w.links;
     fill(out, 165);
-    let a = group::make(w.s, w.n, mem, table, links, command, bytes, out);
+    let a = on_rows(table, w.count, w.s, w.n, mem, links, command, bytes, out);
     let said = a.answer;
     let after = a.table;
     let left = said.links;
@@ -114,6 +162,7 @@ fn call(
         n: w.n,
         len: w.len,
         table: after,
+        count: w.count,
         links: left,
         books: books,
         at: at,
@@ -144,16 +193,17 @@ fn lent(
     )
 }
 
-// Lays a record into a slot of the table.
+// Lays a record into a slot from 1 to COUNT.
 fn lay_record(o: &mut [u8; 65536], w: World, slot: usize, c: Record) -> World {
     if slot < 1 {
         return bad(o, w);
     }
-    if table::MOST_SLOTS < slot {
+    if records::rows(w.count) < slot {
         return bad(o, w);
     }
-    let before = w.table;
-    let after = table::put_record(before, slot, c);
+    let i = slot - 1;
+    let mut after = w.table;
+    after[i] = c;
     let at = output::text(o, w.at, b"record\n");
     let mut next = w;
     next.table = after;
@@ -199,7 +249,7 @@ fn memory(mem: &[u8], o: &mut [u8; 65536], w: World, at: usize, count: usize) ->
 fn table(o: &mut [u8; 65536], w: World) -> World {
     let table = w.table;
     let links = w.links;
-    let at = print::tables(o, w.at, table, links);
+    let at = print::tables(o, w.at, table, w.count, links);
     filled_to(w, at)
 }
 
@@ -217,7 +267,7 @@ fn pool_line(given: &[u8], o: &mut [u8; 65536], w: World, line: PoolLine) -> Wor
 // The lines that are no calls of the group.
 fn aside(mem: &mut [u8], given: &[u8], o: &mut [u8; 65536], w: World, line: Line) -> World {
     match line {
-        Line::Group(s, n, len) => start_over(mem, o, w, s, n, len),
+        Line::Group(s, n, len, count) => start_over(mem, o, w, s, n, len, count),
         Line::Record(slot, c) => lay_record(o, w, slot, c),
         Line::Poke(at, count) => poke(mem, given, o, w, at, count),
         Line::Table => table(o, w),

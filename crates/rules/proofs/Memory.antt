@@ -13,11 +13,11 @@ use Rattle.connection.specs.Connection.{mostSize}
 use Rattle.table.specs.Table.{mostSlots, sizesB, slotB}
 use Rattle.table.proofs.Laws.{sizes-facts, slot-facts}
 
-module _ (s n : ℕ) (m : List ℕ) (k : ℕ) (sized : sizesB s n (length m) ≡ true) (slot : slotB s k ≡ true) where
+module _ (s n : ℕ) (m : List ℕ) (count k : ℕ) (sized : sizesB s n (length m) count ≡ true) (slot : slotB s k ≡ true) where
   -- it lies in the memory
   pub within-memory : baseOf n k + n ≤ length m
   within-memory =
-      let z = sizes-facts s n (length m) sized in
+      let z = sizes-facts s n (length m) count sized in
       let f = slot-facts s k slot in
       let e : k ≡ k - 1 + 1 = omega (arith, f .0) in
       omega (
@@ -32,7 +32,7 @@ module _ (s n : ℕ) (m : List ℕ) (k : ℕ) (sized : sizesB s n (length m) ≡
   -- and where it begins is no large number
   pub base-most : baseOf n k ≤ (mostSlots - 1) * mostSize
   base-most =
-      let z = sizes-facts s n (length m) sized in
+      let z = sizes-facts s n (length m) count sized in
       let f = slot-facts s k slot in
       omega (
         arith,
@@ -48,8 +48,8 @@ module _ (s n : ℕ) (m : List ℕ) (k : ℕ) (sized : sizesB s n (length m) ≡
   kept-memory = put-back m (baseOf n k) n within-memory
 
   pub cleared-memory : clearedOf m (baseOf n k) n ≡ splice m (baseOf n k) (freshElement n)
-  cleared-memory = cleared-in m (baseOf n k) n within-memory (omega (arith, sizes-facts s n (length m) sized .n-least))
+  cleared-memory = cleared-in m (baseOf n k) n within-memory (omega (arith, sizes-facts s n (length m) count sized .n-least))
 
   pub intact-memory : intactAt m (baseOf n k) ≡ intactB (elementOf n k m)
   unfolding elementOf
-  intact-memory = intact-part m (baseOf n k) n (omega (arith, sizes-facts s n (length m) sized .n-least)) within-memory
+  intact-memory = intact-part m (baseOf n k) n (omega (arith, sizes-facts s n (length m) count sized .n-least)) within-memory

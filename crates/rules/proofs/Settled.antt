@@ -79,23 +79,23 @@ module _ (s n : ℕ) (t : List Record) (ls : Links) (m : List ℕ) where
             rw (y .1) (refused call out k j c a hc (y .0) (is-refused h))
 
   -- A CALL ON A SLOT
-  module _ (k : ℕ) (q : Request) (c : Record) (hc : c ≡ recordAt t k) (j : ℕ) (f : j ≡ foundOf s n (length m) k c) where
-    found-is : j ≡ cond (not (sizesB s n (length m))) 1 (cond (not (openB s t k)) 2 0)
+  module _ (k : ℕ) (q : Request) (c : Record) (hc : c ≡ recordAt t k) (j : ℕ) (f : j ≡ foundOf s n (length m) (length t) k c) where
+    found-is : j ≡ cond (not (sizesB s n (length m) (length t))) 1 (cond (not (openB s t k)) 2 0)
     unfolding foundOf openB
-    found-is = f ∙ ap (λ (r : Record). cond (not (sizesB s n (length m))) 1 (cond (not (slotB s k && r .id .opened)) 2 0)) hc
+    found-is = f ∙ ap (λ (r : Record). cond (not (sizesB s n (length m) (length t))) 1 (cond (not (slotB s k && r .id .opened)) 2 0)) hc
 
     on-refuses : (j ≡ 0 → ⊥) → onDoes g k q ≡ refuses g j (outOf q)
     unfolding onDoes
     on-refuses h =
         two-tests (λ (i : ℕ). refuses g i (outOf q)) (putTurn g k (requestTurn n (linkOf g k) (recordOf g k) (elementIn g k) q))
-        (sizesB s n (length m)) (openB s t k) j found-is h
+        (sizesB s n (length m) (length t)) (openB s t k) j found-is h
 
     on-does : j ≡ 0 → onDoes g k q ≡ putTurn g k (requestTurn n (linkOf g k) (recordOf g k) (elementIn g k) q)
     unfolding onDoes openB
     on-does z =
         let o : recordAt t k .id .opened ≡ true =
-        ap (λ (r : Record). r .id .opened) (sym hc) ∙ found-open s n (length m) k c j f z in
-        simp (found-sized s n (length m) k c j f z, found-slot s n (length m) k c j f z, o)
+        ap (λ (r : Record). r .id .opened) (sym hc) ∙ found-open s n (length m) (length t) k c j f z in
+        simp (found-sized s n (length m) (length t) k c j f z, found-slot s n (length m) (length t) k c j f z, o)
 
     module _ (active : Bool) (ha : active ≡ activeB (ls .active) (c .id .link)) (o : Outcome) (a : Turned) (p : a ≡ settledBy j ls c o) where
       active-is : active ≡ linkOf g k
@@ -115,4 +115,4 @@ module _ (s n : ℕ) (t : List Record) (ls : Links) (m : List ℕ) where
       pub on-plain : requestTurn n active c (elementIn g k) q ≡ turnOf o (elementIn g k) (outOf q)
           → Promise s n m m t ls (Call.on k q) k a (outOf q)
       on-plain r =
-          on-settled (elementIn g k) (outOf q) m (λ z. (r, sym (kept-memory s n m k (found-sized s n (length m) k c j f z) (found-slot s n (length m) k c j f z)))) (λ h. (refl, refl))
+          on-settled (elementIn g k) (outOf q) m (λ z. (r, sym (kept-memory s n m (length t) k (found-sized s n (length m) (length t) k c j f z) (found-slot s n (length m) (length t) k c j f z)))) (λ h. (refl, refl))

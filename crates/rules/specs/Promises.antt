@@ -26,7 +26,7 @@ DidOn s n m l count links call slot c r out =
 -- the same, of a call that looks for a token: where the slot `holder` has it, 0 if none does
 abbrev pub DidIn : ℕ → ℕ → List ℕ → List ℕ → ℕ → Links → Call → ℕ → ℕ → ℕ → Record → Turned → List ℕ → Type 0
 DidIn s n m l count links call token holder slot c r out =
-    (t : List Record) → length t ≡ count → holder ≡ holderIn s t token → c ≡ recordAt t slot
+    (t : List Record) → length t ≡ count → holder ≡ holderIn t token → c ≡ recordAt t slot
     → Promise s n m l t links call slot r out
 
 -- a call on the links alone: in every group that has them

@@ -2,7 +2,7 @@
 -- The contracts of the calls cite `Did`, which is `answer` and `next`; the theorems about lists of calls cite these and `Fresh`, and, for
 -- whose a call is and what it sees, `recordOf`, `elementIn`, `linkOf` and `holderOf`.
 -- Assumes nothing.
-use Prim.Native.Nat.{ℕ, _≤_}
+use Prim.Native.Nat.{ℕ}
 use mathlib.Core.Path.{_≡_}
 use mathlib.Core.Bool.{Bool, true, false, _&&_, _||_, not, cond}
 use mathlib.Core.List.{List, [], _∷_}
@@ -37,8 +37,8 @@ use Rattle.finish.specs.Finish.{shutdownOf, closeOf, abortOf}
 use Rattle.table.specs.declared.Answered.{Answered}
 use Rattle.table.specs.Table.{sizesB, slotB, recordAt, openB, linkIn, activeB, findFrom, withRecord, withLink}
 
--- A group: S and N, one connection table, four links, one receive memory. The code is lent its slots and four links by its types; the
--- rules are said for lists of any length.
+-- A group: S and N, one connection table, four links, one receive memory. The code is given four links by its type; the rules are said for
+-- lists of any length.
 pub record Group : Type 0 where
   pub S : ℕ
   pub N : ℕ
@@ -162,9 +162,9 @@ pub record Done : Type 0 where
 unfoldable pub refuses : Group → ℕ → List ℕ → Done
 refuses g k out = record { answer = record { says = refusal k; made = false; message = noMessage; out = out }; group = g }
 
--- 1: S, N or the memory's length is wrong
+-- 1: S, N, the memory's length or the table's is wrong
 abbrev pub sizesOk : Group → Bool
-sizesOk g = sizesB (g .S) (g .N) (length (g .memory))
+sizesOk g = sizesB (g .S) (g .N) (length (g .memory)) (length (g .table))
 
 -- the slot's record, its element, and whether its link is active
 abbrev pub recordOf : Group → ℕ → Record
@@ -311,11 +311,9 @@ groupOf s n t l m = record { S = s; N = n; table = t; links = l; memory = m }
 abbrev pub answerOf : Answered → List ℕ → Answer
 answerOf r out = record { says = saysOf (r .reply); made = r .made; message = r .message; out = out }
 
--- A fresh group has S and N in range, every slot closed (whatever else it holds), every link down and memory all zeros.
+-- A fresh group has S and N in range, a table of S records, every slot closed (whatever else it holds), every link down and memory all zeros.
 pub record Fresh (g : Group) : Type 0 where
   pub sizes : sizesOk g ≡ true
-  -- a slot for each element: always so, since 16 are lent
-  pub enough : g .S ≤ length (g .table)
   pub closed : (k : ℕ) → openB (g .S) (g .table) k ≡ false
   pub down : (l : ℕ) → activeB (g .links) l ≡ false
   pub zeros : g .memory ≡ replicate (length (g .memory)) 0

@@ -28,8 +28,8 @@ module _ (g : Group) (c : Call) (k : ℕ) (t : Turn) (ok : sizesOk g ≡ true) w
   acts-in (opens given p n r) = open-facts g k given n .slot
   acts-in (frees p n r) = open-in (g .S) (g .table) k (free-facts g k n .is-open) .slot
 
-  pub is-sizes : Sizes (g .S) (g .N) (length (g .memory))
-  is-sizes = sizes-in (g .S) (g .N) (length (g .memory)) ok
+  pub is-sizes : Sizes (g .S) (g .N) (length (g .memory)) (length (g .table))
+  is-sizes = sizes-in (g .S) (g .N) (length (g .memory)) (length (g .table)) ok
 
 module _ (g : Group) (c : Call) (i : ℕ) (t : Turn) (ok : sizesOk g ≡ true) where
   abbrev e : List ℕ

@@ -21,6 +21,7 @@ use Rattle.connection.specs.Connection.{startCursor, openedRecord}
 use Rattle.table.specs.Table.{linkIn}
 use Rattle.rules.specs.Rules.{Group, Request, openSlot, freeSlot, linkChange, Call, on, hear, manage, refusal, accepted, torn, reset, Turn, turnOf, requestTurn, hearTurn, Done, does, refuses, putTurn, recordOf, elementIn, linkOf}
 use Rattle.order.proofs.Records.{long-by}
+use Rattle.order.proofs.Near.{enough}
 use Rattle.order.proofs.Slots.{slot-in, open-in, element-long, Put, put}
 use Rattle.safety.specs.Statement.{OpenAt, acceptedB, changedBy}
 use Rattle.safety.specs.Refusals.{lentOut}
@@ -127,7 +128,7 @@ module _ (g : Group) (s : Sound g) where
               i,
               t,
               record {
-                back = put g i t (sizes g s .whole) l (omega (arith, s .good .enough)) fits;
+                back = put g i t (sizes g s .whole) l (omega (arith, enough g (s .good))) fits;
                 left-record = k .kept-record;
                 left-eye = k .kept-eye;
                 left-held = k .kept-held;

@@ -21,5 +21,5 @@ pub record Sound (g : Group) : Type 0 where
 pub no-slot-0 : (g : Group) → OpenAt g 0 → ⊥
 no-slot-0 g o = omega (arith, open-in (g .S) (g .table) 0 o .low)
 
-pub sizes : (g : Group) → Sound g → Sizes (g .S) (g .N) (length (g .memory))
-sizes g s = sizes-in (g .S) (g .N) (length (g .memory)) (s .good .sizes)
+pub sizes : (g : Group) → Sound g → Sizes (g .S) (g .N) (length (g .memory)) (length (g .table))
+sizes g s = sizes-in (g .S) (g .N) (length (g .memory)) (length (g .table)) (s .good .sizes)

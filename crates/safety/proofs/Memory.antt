@@ -72,8 +72,8 @@ module _ (g : Group) (i : ℕ) (f : List ℕ) (ok : sizesOk g ≡ true) (high : 
   abbrev after : List ℕ
   after = splice (g .memory) base f
 
-  whole : Sizes (g .S) (g .N) (length (g .memory))
-  whole = sizes-in (g .S) (g .N) (length (g .memory)) ok
+  whole : Sizes (g .S) (g .N) (length (g .memory)) (length (g .table))
+  whole = sizes-in (g .S) (g .N) (length (g .memory)) (length (g .table)) ok
 
   inside : base + length f ≤ length (g .memory)
   inside = omega (arith, element-in (g .N) (suc i) (g .S) (length (g .memory)) (omega arith) high (omega (arith, whole .whole)), fits)

@@ -29,6 +29,7 @@ use Rattle.cdc.specs.declared.Decoded.the-variants.{Good}
 use Rattle.cdc.specs.Cdc.{decodeOf}
 use Rattle.safety.specs.Refusals.{lentOut}
 use Rattle.safety.specs.Positions.{readIn, Placed, Journal, coversB, noted, opened, nothing, placed, namesB, afterCall}
+use Rattle.order.proofs.Near.{enough}
 use Rattle.order.proofs.Slots.{slot-in, Put, put}
 use Rattle.safety.proofs.Inbound.{Steps, request-steps, hear-steps, Reader, request-reader, hear-reads-none}
 use Rattle.safety.proofs.Reader.{read-byte, read-room, read-most-unread}
@@ -287,7 +288,7 @@ module _ (g : Group) (s : Sound g) (c : Call) (i : ℕ) (j : Journal) (own-is : 
       turned zero t did ok a = absurd (omega (arith, slot-in (g .S) 0 (acts-in g c 0 t ok a)))
       turned (suc l) t did ok a =
           by (ℕ-discrete i l)
-          (put g l t (sizes g s .whole) (acts-high g c l t ok a) (omega (arith, s .good .enough, acts-high g c l t ok a)) (acts-long g c l t ok a))
+          (put g l t (sizes g s .whole) (acts-high g c l t ok a) (omega (arith, enough g (s .good), acts-high g c l t ok a)) (acts-long g c l t ok a))
         where
           by : Dec (i ≡ l) → Put g l t (putTurn g (suc l) t .group) → SlotTurn g c i j
           by (yes e) there =

@@ -29,6 +29,7 @@ use Rattle.finish.specs.Finish.{resetOf, closingOf, shutdownOf, closeOf, abortO
 use Rattle.rules.specs.Rules.{Group, Request, send, place, read, shutdown, close, abort, openSlot, freeSlot, linkChange, linkMessage, Call, on, hear, manage, Says, refusal, saysOf, Turn, turnOf, requestTurn, hearTurn, Done, does, answer, next, refuses, putTurn, recordOf, elementIn, linkOf, sizesOk, holderOf}
 use Rattle.table.specs.Table.{recordAt}
 use Rattle.order.specs.Statement.{leaves}
+use Rattle.order.proofs.Near.{enough}
 use Rattle.order.proofs.Slots.{slot-in, open-in, open-is, record-same}
 use Rattle.safety.specs.Statement.{OpenAt, acceptedB}
 use Rattle.safety.specs.Numbers.{Taken, nothingYet, refusedB, sendsA, asked, countsB, withNumber, withMessage, takenAfter, takenFrom, firstNumber, countedFrom, InOrder, NumbersInOrder}
@@ -326,7 +327,7 @@ module _ (g : Group) (c : Call) (k : ℕ) (j : Taken) (w : InOrder g k j) where
           (rw e at a)
         where
           put : recordOf (putTurn g (suc i) t .group) (suc i) ≡ t .after
-          put = record-same (g .table) i (t .after) (omega (arith, s .good .enough, acts-high g c i t ok a))
+          put = record-same (g .table) i (t .after) (omega (arith, enough g (s .good), acts-high g c i t ok a))
       turned (suc i) t did ok a (no d) =
           as-it-was (none-said (suc i) t d a) (one-record g c .others k (λ p. d (sym (p ∙ acts-slot g c (suc i) t ok a))))
 

@@ -21,7 +21,7 @@ use Rattle.flow.specs.Flow.{takenOf, windowOf, updateDue}
 pub peer-announced-unwritten : PeerAnnouncedUnwritten
 unfolding sizesB slotB recordAt openB activeB zeroRecord journalFrom answers afterCall onDoes hearDoes hearAt putTurn linkDoes openDoes openRefusal openedRecord findFrom lowest holdsB withRecord withLink splice part elementOf freshElement requestTurn hearTurn turnOf placeOf readOf takeOf consumedOf consumedIn updateOf updateDue windowOf unreadOf takenOf gapOf distanceOf turnsOf stepOf movedOf inRange goodB coherentB numbersOk offsetsOk distancesOk refusalOf placeForbids readForbids mayPlace allFree intactB outcomeOf toldOf toldIn usedIn hearOf followedOf acceptedOf producerB consumerB heardRecord heardIn heardOut answersB sameB closedIf marksHeard marksTo ruledOf nextB encodeOf highByte lowByte cursorAt decodeOf fieldsOf cursorOf num2 num4 flagsOf ringFrom unread
 peer-announced-unwritten = (
-  record { sizes = refl; enough = omega arith; closed = shut; down = off; zeros = refl },
+  record { sizes = refl; closed = shut; down = off; zeros = refl },
   record { handed-8 = refl; announced-8 = refl; first-again = refl; placed-once = refl; not-again = refl },
 )
   where

@@ -29,9 +29,10 @@ use Rattle.rules.specs.Rules.{Group, Request, send, place, read, shutdown, clos
 abbrev pub outside : ℕ → ℕ → ℕ → Bool
 outside least most x = ltb x least || ltb most x
 
--- 1: S, N or the memory's length is wrong
+-- 1: S, N, the memory's length or the table's is wrong
 abbrev pub sizesWrong : Group → Bool
-sizesWrong g = outside 1 16 (g .S) || outside 8 65540 (g .N) || not (eqb (length (g .memory)) (g .S * g .N))
+sizesWrong g =
+    outside 1 255 (g .S) || outside 8 65540 (g .N) || not (eqb (length (g .memory)) (g .S * g .N)) || not (eqb (length (g .table)) (g .S))
 
 -- 2: slot outside 1 to S, or closed (for open: outside only)
 abbrev pub slotOutside : Group → ℕ → Bool

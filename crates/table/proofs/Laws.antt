@@ -5,18 +5,19 @@ use mathlib.Core.Bool.{Bool, true, false, _&&_, not, cond}
 use mathlib.Core.List.{List, [], _∷_}
 use native.Mathlib.Numerals.{add-one}
 use native.Mathlib.Omega.{arith}
-use lib.Dec.{leb, eqb}
+use native.Mathlib.Decide.{decLe}
+use lib.Dec.{T as Holds, leb, eqb, ltb, nltb→le}
 use lib.ListN.{length, getD, drop, set, List·getD-eq-default, length-map, length-set}
 use lib.Seq.{drop-cons, getD-set-same, getD-set-other, set-getD, set-out}
 use mir.Val.{Val}
 use denote.Laws.{Is}
-use borrow.Author.Tests.{le-leb, leb-true, eqb-true, eq-eqb, ne-eqb}
+use borrow.Author.Tests.{le-leb, lt-leb, leb-true, eqb-true, eq-eqb, ne-eqb}
 use borrow.Author.Needs.{length-unmapped}
 use Rattle.connection.specs.declared.Record.{Record}
 use Rattle.connection.specs.Connection.{leastSize, mostSize, zeroRecord}
 use Rattle.connection.proofs.Laws.{and-left, and-right, holds}
 use Rattle.table.specs.declared.Links.{Links}
-use Rattle.table.specs.Table.{mostSlots, sizesB, slotB, recordAt, openB, activeB, holdsB, orLater, lowest, findFrom, holderIn, withRecord, withLink, foundOf}
+use Rattle.table.specs.Table.{mostSlots, sizesB, slotB, indexOf, recordAt, openB, activeB, holdsB, orLater, lowest, findFrom, holderIn, withRecord, withLink, foundOf}
 use Rattle.table.proofs.Links.{the-row}
 
 -- THE ARRAYS' LENGTHS, which a value of the type has
@@ -24,24 +25,26 @@ pub links-length : (l : Links) (vs : List Val) (is : Is the-row l vs) → length
 links-length l vs is = length-unmapped Bool (l .active) 4 (is .1 .1 .0 .1 .0 .1)
 
 -- SIZES AND SLOTS: what a test that holds tells
-pub record Sizes (s n len : ℕ) : Type 0 where
+pub record Sizes (s n len count : ℕ) : Type 0 where
   pub s-least : 1 ≤ s
   pub s-most : s ≤ mostSlots
   pub n-least : leastSize ≤ n
   pub n-most : n ≤ mostSize
   pub len-is : len ≡ s * n
+  pub count-is : count ≡ s
 
 module _ (s : ℕ) where
-  pub sizes-facts : (n len : ℕ) → sizesB s n len ≡ true → Sizes s n len
+  pub sizes-facts : (n len count : ℕ) → sizesB s n len count ≡ true → Sizes s n len count
   unfolding sizesB
-  sizes-facts n len e =
-      let h = holds (leb 1 s ∷ leb s mostSlots ∷ leb leastSize n ∷ leb n mostSize ∷ eqb len (s * n) ∷ []) e in
+  sizes-facts n len count e =
+      let h = holds (leb 1 s ∷ leb s mostSlots ∷ leb leastSize n ∷ leb n mostSize ∷ eqb len (s * n) ∷ eqb count s ∷ []) e in
       record {
         s-least = leb-true 1 s (h 0);
         s-most = leb-true s mostSlots (h 1);
         n-least = leb-true leastSize n (h 2);
         n-most = leb-true n mostSize (h 3);
         len-is = eqb-true len (s * n) (h 4);
+        count-is = eqb-true count s (h 5);
       }
 
   pub slot-facts : (k : ℕ) → slotB s k ≡ true → (1 ≤ k) × (k ≤ s)
@@ -62,13 +65,21 @@ two-passed true true x e = (refl, refl)
 two-passed true false x e = absurd (omega arith)
 two-passed false b x e = absurd (omega arith)
 
--- what is known where a slot is found
-module _ (s n len k : ℕ) (c : Record) (j : ℕ) (f : j ≡ foundOf s n len k c) (z : j ≡ 0) where
-  both : (sizesB s n len ≡ true) × (slotB s k && c .id .opened ≡ true)
-  unfolding foundOf
-  both = two-passed (sizesB s n len) (slotB s k && c .id .opened) 0 (sym f ∙ z)
+-- the tests, of any table of that many records
+module _ (s n len : ℕ) {count : ℕ} (t : List Record) (long : length t ≡ count) where
+  pub sized-in : {b : Bool} → b ≡ sizesB s n len count → sizesB s n len (length t) ≡ b
+  sized-in e = ap (sizesB s n len) long ∙ sym e
 
-  pub found-sized : sizesB s n len ≡ true
+  pub found-in : (k : ℕ) (c : Record) {j : ℕ} → j ≡ foundOf s n len count k c → j ≡ foundOf s n len (length t) k c
+  found-in k c f = f ∙ ap (λ (i : ℕ). foundOf s n len i k c) (sym long)
+
+-- what is known where a slot is found
+module _ (s n len count k : ℕ) (c : Record) (j : ℕ) (f : j ≡ foundOf s n len count k c) (z : j ≡ 0) where
+  both : (sizesB s n len count ≡ true) × (slotB s k && c .id .opened ≡ true)
+  unfolding foundOf
+  both = two-passed (sizesB s n len count) (slotB s k && c .id .opened) 0 (sym f ∙ z)
+
+  pub found-sized : sizesB s n len count ≡ true
   found-sized = both .0
 
   pub found-slot : slotB s k ≡ true
@@ -148,6 +159,65 @@ module _ (t : List Record) where
   with-length zero c = ap length (with-low zero c (omega arith))
   with-length (suc i) c = ap length (with-suc i c) ∙ length-set t i c
 
+-- WHERE A SLOT'S RECORD STANDS
+index-in : (k n : ℕ) → 1 ≤ k → k ≤ n → indexOf k n ≡ k - 1
+unfolding indexOf
+index-in k n h l = simp (le-leb 1 k h, le-leb k n l)
+
+index-low : (k n : ℕ) → k < 1 → indexOf k n ≡ n
+unfolding indexOf
+index-low k n h = simp (lt-leb 1 k h)
+
+index-high : (k n : ℕ) → 1 ≤ k → n < k → indexOf k n ≡ n
+unfolding indexOf
+index-high k n h l = simp (le-leb 1 k h, lt-leb k n l)
+
+module _ (t : List Record) (k : ℕ) where
+  record-index : getD t (indexOf k (length t)) zeroRecord ≡ recordAt t k
+  record-index =
+      elim (decLe 1 k) [
+        | yes h ↦
+            elim (decLe k (length t)) [
+              | yes l ↦ ap (λ (i : ℕ). getD t i zeroRecord) (index-in k (length t) h l) ∙ sym (record-in t k h)
+              | no l ↦
+                  ap (λ (i : ℕ). getD t i zeroRecord) (index-high k (length t) h (omega arith))
+                  ∙ List·getD-eq-default t zeroRecord (omega arith) ∙ sym (record-out t k (omega arith))
+            ]
+        | no h ↦
+            ap (λ (i : ℕ). getD t i zeroRecord) (index-low k (length t) (omega arith))
+            ∙ List·getD-eq-default t zeroRecord (omega arith) ∙ sym (record-low t k (omega arith))
+      ]
+
+  with-index : (c : Record) → set t (indexOf k (length t)) c ≡ withRecord t k c
+  with-index c =
+      elim (decLe 1 k) [
+        | yes h ↦
+            elim (decLe k (length t)) [
+              | yes l ↦ ap (λ (i : ℕ). set t i c) (index-in k (length t) h l) ∙ sym (with-in t k c h)
+              | no l ↦
+                  ap (λ (i : ℕ). set t i c) (index-high k (length t) h (omega arith))
+                  ∙ set-out t (length t) c (omega arith) ∙ sym (with-out t k c (omega arith))
+            ]
+        | no h ↦
+            ap (λ (i : ℕ). set t i c) (index-low k (length t) (omega arith))
+            ∙ set-out t (length t) c (omega arith) ∙ sym (with-low t k c (omega arith))
+      ]
+
+  module _ (r : ℕ) (e : r ≡ indexOf k (length t)) where
+    pub record-at-returns : Holds (ltb r (length t)) → getD t r zeroRecord ≡ recordAt t k
+    record-at-returns h = ap (λ (i : ℕ). getD t i zeroRecord) e ∙ record-index
+
+    pub record-at-returns-2 : Holds (not (ltb r (length t))) → (c : Record) → c ≡ zeroRecord → c ≡ recordAt t k
+    record-at-returns-2 h c z =
+        z ∙ sym (List·getD-eq-default t zeroRecord (nltb→le r (length t) h)) ∙ ap (λ (i : ℕ). getD t i zeroRecord) e ∙ record-index
+
+  module _ (c : Record) (r : ℕ) (e : r ≡ indexOf k (length t)) where
+    pub put-record-returns : Holds (ltb r (length t)) → set t r c ≡ withRecord t k c
+    put-record-returns h = ap (λ (i : ℕ). set t i c) e ∙ with-index c
+
+    pub put-record-returns-2 : Holds (not (ltb r (length t))) → t ≡ withRecord t k c
+    put-record-returns-2 h = sym (set-out t r c (nltb→le r (length t) h)) ∙ ap (λ (i : ℕ). set t i c) e ∙ with-index c
+
 module _ (l : List Bool) where
   pub link-low : (k : ℕ) → k < 1 → activeB l k ≡ false
   unfolding activeB
@@ -195,14 +265,6 @@ after-later i zero = refl
 after-later i (suc k) = omega arith
 
 module _ (q : Record → Bool) where
-  -- no more slots than the table has
-  pub lowest-beyond : (s : ℕ) (t : List Record) → length t ≤ s → lowest q s t ≡ lowest q (length t) t
-  unfolding lowest
-  lowest-beyond zero [] h = refl
-  lowest-beyond zero (c ∷ t) h = absurd (omega arith)
-  lowest-beyond (suc s) [] h = refl
-  lowest-beyond (suc s) (c ∷ t) h = ap (orLater (q c)) (lowest-beyond s t (omega arith))
-
   abbrev pub rest : List Record → ℕ → ℕ → ℕ
   rest t s i = after i (lowest q (s - i) (drop i t))
 
@@ -233,27 +295,19 @@ module _ (q : Record → Bool) where
       done h = let e : s - i ≡ 0 = omega arith in rw e
 
 -- the search by token: none for the token 0
-pub holder-none : (s : ℕ) (t : List Record) (token : ℕ) → token ≡ 0 → 0 ≡ holderIn s t token
-unfolding holderIn
-holder-none s t token e = simp (eq-eqb token 0 e)
+module _ (t : List Record) (token : ℕ) where
+  pub holder-none : token ≡ 0 → holderIn t token ≡ 0
+  unfolding holderIn
+  holder-none h = simp (eq-eqb token 0 h)
 
-pub holder-some : (s : ℕ) (t : List Record) (token : ℕ) → (token ≡ 0 → ⊥) → holderIn s t token ≡ findFrom t token s
-unfolding holderIn
-holder-some s t token h = simp (ne-eqb token 0 h)
+  pub holder-some : (token ≡ 0 → ⊥) → holderIn t token ≡ findFrom t token (length t)
+  unfolding holderIn
+  holder-some h = simp (ne-eqb token 0 h)
 
--- where it begins: at most as many slots as the table has
-module _ (t : List Record) (token s : ℕ) (h : token ≡ 0 → ⊥) (m : ℕ) where
-  pub begins : m ≡ s → rest (holdsB token) t m 0 ≡ holderIn s t token
+  -- where it begins
+  pub begins : rest (holdsB token) t (length t) 0 ≡ findFrom t token (length t)
   unfolding findFrom
-  begins e = rest-all (holdsB token) t m ∙ ap (λ (k : ℕ). lowest (holdsB token) k t) e ∙ sym (holder-some s t token h)
-
-  pub begins-all : m ≡ length t → length t ≤ s → rest (holdsB token) t m 0 ≡ holderIn s t token
-  unfolding findFrom
-  begins-all e l =
-      rest-all (holdsB token) t m
-      ∙ ap (λ (k : ℕ). lowest (holdsB token) k t) e
-      ∙ sym (lowest-beyond (holdsB token) s t l)
-      ∙ sym (holder-some s t token h)
+  begins = rest-all (holdsB token) t (length t)
 
 -- what a search finds: a slot that passes, and no lower one; and that it finds none
 module _ (q : Record → Bool) where

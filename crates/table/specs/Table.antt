@@ -1,10 +1,10 @@
 -- Document 01, "The memory and the tables", "When the desk says no": sizes, slots, links, and the search by token.
 -- Assumes nothing.
-use Prim.Native.Nat.{ℕ, zero, suc, _*_}
+use Prim.Native.Nat.{ℕ, zero, suc, _-_, _*_}
 use mathlib.Core.Bool.{Bool, true, false, _&&_, not, cond}
 use mathlib.Core.List.{List, [], _∷_}
 use lib.Dec.{leb, eqb}
-use lib.ListN.{getD, set}
+use lib.ListN.{length, getD, set}
 use Rattle.connection.specs.declared.Record.{Record}
 use Rattle.connection.specs.declared.Outcome.{Outcome}
 use Rattle.connection.specs.declared.Reply.the-variants.{Refused}
@@ -15,11 +15,11 @@ use Rattle.table.specs.declared.Turned.{Turned}
 
 -- the most elements that a memory has
 abbrev pub mostSlots : ℕ
-mostSlots = 16
+mostSlots = 255
 
--- S from 1 to 16, N from 8 to 65,540, lent as S x N bytes
-unfoldable pub sizesB : ℕ → ℕ → ℕ → Bool
-sizesB s n len = every (leb 1 s ∷ leb s mostSlots ∷ leb leastSize n ∷ leb n mostSize ∷ eqb len (s * n) ∷ [])
+-- S from 1 to 255, N from 8 to 65,540, a memory of S x N bytes, and a table of S records
+unfoldable pub sizesB : ℕ → ℕ → ℕ → ℕ → Bool
+sizesB s n len count = every (leb 1 s ∷ leb s mostSlots ∷ leb leastSize n ∷ leb n mostSize ∷ eqb len (s * n) ∷ eqb count s ∷ [])
 
 -- slot k, from 1 to S
 unfoldable pub slotB : ℕ → ℕ → Bool
@@ -29,6 +29,10 @@ slotB s k = leb 1 k && leb k s
 unfoldable pub recordAt : List Record → ℕ → Record
 recordAt t zero = zeroRecord
 recordAt t (suc i) = getD t i zeroRecord
+
+-- where it stands in a table of `count` records; `count` for a slot outside it
+unfoldable pub indexOf : ℕ → ℕ → ℕ
+indexOf k count = cond (leb 1 k && leb k count) (k - 1) count
 
 -- slot k is one of 1 to S, and open
 unfoldable pub openB : ℕ → List Record → ℕ → Bool
@@ -63,9 +67,9 @@ lowest q (suc s) (c ∷ t) = orLater (q c) (lowest q s t)
 unfoldable pub findFrom : List Record → ℕ → ℕ → ℕ
 findFrom t token s = lowest (holdsB token) s t
 
--- the same, where no slot has the token 0
-unfoldable pub holderIn : ℕ → List Record → ℕ → ℕ
-holderIn s t token = cond (eqb token 0) 0 (findFrom t token s)
+-- the same, of the whole table, where no slot has the token 0
+unfoldable pub holderIn : List Record → ℕ → ℕ
+holderIn t token = cond (eqb token 0) 0 (findFrom t token (length t))
 
 -- another record in slot k, and every other slot as it was
 unfoldable pub withRecord : List Record → ℕ → Record → List Record
@@ -77,8 +81,8 @@ withLink l zero up = l
 withLink l (suc i) up = set l i up
 
 -- WHAT THE CODE ANSWERS. What a call on slot k, whose record is c, tests first: 1, then 2 (outside 1 to S, or closed); 0: neither
-unfoldable pub foundOf : ℕ → ℕ → ℕ → ℕ → Record → ℕ
-foundOf s n len k c = cond (not (sizesB s n len)) 1 (cond (not (slotB s k && c .id .opened)) 2 0)
+unfoldable pub foundOf : ℕ → ℕ → ℕ → ℕ → ℕ → Record → ℕ
+foundOf s n len count k c = cond (not (sizesB s n len count)) 1 (cond (not (slotB s k && c .id .opened)) 2 0)
 
 unfoldable pub refusedBy : ℕ → Links → Answered
 refusedBy k l = record { reply = Refused k; made = false; message = noMessage; links = l }

@@ -1,15 +1,15 @@
-// The connection table, by value, and the links: sizes, slots, links, the search by token, putting a record back, and what a call on one
-// record answers (document 01, "The memory and the tables", "When the desk says no").
+// The connection table, lent as a slice of records, and the links, by value: sizes, slots, links, the search by token, putting a record back,
+// and what a call on one record answers (document 01, "The memory and the tables", "When the desk says no").
 ghost use mathlib.Core.Path.{_≡_};
 ghost use mathlib.Core.Bool.{cond};
 ghost use Prim.Native.Nat.{ℕ, _+_, _*_, _≤_, _<_};
-ghost use Rattle.table.specs.Table.{sizesB, slotB, recordAt, linkIn, activeB, holderIn, withRecord, withLink};
+ghost use Rattle.table.specs.Table.{sizesB, slotB, indexOf, recordAt, linkIn, activeB, holdsB, holderIn, withRecord, withLink};
 ghost use Rattle.table.specs.Table.{foundOf, refusedBy, keptBy, turnedBy, settledBy};
 use connection::Outcome;
 use connection::Record;
 use connection::Reply;
 
-pub const MOST_SLOTS: usize = 16;
+pub const MOST_SLOTS: usize = 255;
 
 // The four links, active or down.
 pub struct Links {
@@ -30,9 +30,9 @@ pub struct Turned {
     pub answer: Answered,
 }
 
-// Refusal 1's case is the opposite: S, N and the memory's length are right.
-pub fn sizes_ok(s: u32, n: u32, len: usize) -> bool
-    ensures { λ r. ⌜ r ≡ sizesB s n len ⌝ }
+// Refusal 1's case is the opposite: S, N, the memory's length and the table's are right.
+pub fn sizes_ok(s: u32, n: u32, len: usize, count: usize) -> bool
+    ensures { λ r. ⌜ r ≡ sizesB s n len count ⌝ }
 {
     if s < 1 {
         return false;
@@ -46,7 +46,7 @@ pub fn sizes_ok(s: u32, n: u32, len: usize) -> bool
     if connection::MOST_SIZE < n {
         return false;
     }
-    len == (s as usize) * (n as usize)
+    (len == (s as usize) * (n as usize)) & (count == s as usize)
 }
 
 // Whether the slot is one of 1 to s.
@@ -93,52 +93,59 @@ pub fn set_link(links: Links, link: u8, up: bool) -> Links
     next
 }
 
-// The record of a slot; all zeros for a slot outside the table.
-pub fn record_at(table: [Record; MOST_SLOTS], slot: usize) -> Record
-    ensures { λ r. ⌜ r ≡ recordAt table slot ⌝ }
+// Where the record of a slot stands in a table of `count` records; `count` for a slot outside it.
+fn index(slot: usize, count: usize) -> usize
+    ensures { λ r. ⌜ r ≡ indexOf slot count ⌝ }
 {
-    if slot < 1 {
+    if (1 <= slot) & (slot <= count) {
+        slot - 1
+    } else {
+        count
+    }
+}
+
+// The record of a slot; all zeros for a slot outside the table.
+pub fn record_at(table: &[Record], slot: usize) -> Record
+    ensures { λ r. ⌜ r ≡ recordAt (now (table .entry)) slot ⌝ }
+{
+    let i = index(slot, table.len());
+    if i < table.len() {
+        return table[i];
+    } else {
         return connection::zero_record();
     }
-    if MOST_SLOTS < slot {
-        return connection::zero_record();
-    }
-    let i = slot - 1;
-    table[i]
 }
 
 // Another record in a slot; nothing changes for a slot outside the table.
-pub fn put_record(table: [Record; MOST_SLOTS], slot: usize, c: Record) -> [Record; MOST_SLOTS]
-    ensures { λ r. ⌜ r ≡ withRecord table slot c ⌝ }
+pub fn put_record(table: &mut [Record], slot: usize, c: Record)
+    ensures { λ _. ⌜ now (table .exit) ≡ withRecord (now (table .entry)) slot c ⌝ }
 {
-    if slot < 1 {
-        return table;
+    let at = index(slot, table.len());
+    if at < table.len() {
+        table[at] = c;
+        return;
+    } else {
+        return;
     }
-    if MOST_SLOTS < slot {
-        return table;
-    }
-    let at = slot - 1;
-    let mut next = table;
-    next[at] = c;
-    next
 }
 
-// The lowest of the slots 1 to s that is open with this token; 0 for none, and for the token 0.
-pub fn find(s: u32, table: [Record; MOST_SLOTS], token: u32) -> usize
-    ensures { λ r. ⌜ r ≡ holderIn s table token ⌝ }
+// Whether the record is open and has the token.
+fn holds(c: Record, token: u32) -> bool
+    ensures { λ r. ⌜ r ≡ holdsB token c ⌝ }
+{
+    c.id.opened & (c.id.own == token)
+}
+
+// The lowest slot that is open with this token; 0 for none, and for the token 0.
+pub fn find(table: &[Record], token: u32) -> usize
+    ensures { λ r. ⌜ r ≡ holderIn (now (table .entry)) token ⌝ }
 {
     if token == 0 {
         return 0;
     }
-    let most = if s as usize <= MOST_SLOTS {
-        s as usize
-    } else {
-        MOST_SLOTS
-    };
     let mut i: usize = 0;
-    while i < most {
-        let c = table[i];
-        if c.id.opened & (c.id.own == token) {
+    while i < table.len() {
+        if holds(table[i], token) {
             return i + 1;
         }
         i += 1;
@@ -154,10 +161,10 @@ pub fn refusal_if(test: bool, number: u8, otherwise: u8) -> u8
 }
 
 // What a call on a slot with the record c tests first: 1, then 2; 0 for neither.
-pub fn found(s: u32, n: u32, len: usize, slot: u32, c: Record) -> u8
-    ensures { λ r. ⌜ r ≡ foundOf s n len slot c ⌝ }
+pub fn found(s: u32, n: u32, len: usize, count: usize, slot: u32, c: Record) -> u8
+    ensures { λ r. ⌜ r ≡ foundOf s n len count slot c ⌝ }
 {
-    let wrong = !sizes_ok(s, n, len);
+    let wrong = !sizes_ok(s, n, len, count);
     let closed = !(slot_ok(s, slot) & c.id.opened);
     refusal_if(wrong, 1, refusal_if(closed, 2, 0))
 }

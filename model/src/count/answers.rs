@@ -82,6 +82,7 @@ pub(super) fn count_answer(
             }
         }
         (Line::Close { slot }, _) => {
+            cells.hit_if(*slot > 16, "close: slot above 16");
             let c = &before.table[*slot as usize - 1];
             let none_heard = !c.done_heard && !c.closed_heard;
             cells.hit_if(none_heard && !c.done_sent, "close: ours first");
@@ -101,13 +102,15 @@ pub(super) fn count_answer(
         }
         (Line::Open { slot, own, .. }, _) => {
             cells.hit("open: answered");
+            cells.hit_if(*slot > 16, "open: slot above 16");
+            cells.hit_if(*slot == 255, "open: slot 255");
             cells.hit_if(before.element_used, "open: element held bytes before");
             let elsewhere = before
                 .table
                 .iter()
                 .enumerate()
                 .any(|(index, c)| index + 1 != *slot as usize && c.own_token == *own);
-            cells.hit_if(elsewhere, "open: token of a closed slot or beyond S");
+            cells.hit_if(elsewhere, "open: token of a closed slot");
         }
         (Line::Free { .. }, _) => cells.hit("free: answered"),
         (Line::Link { up, .. }, _) => cells.hit(if *up {
@@ -244,6 +247,8 @@ fn count_hear(cells: &mut Cells, bytes: &[u8], heard: &Heard, group: &Group, bef
         holders[0] != index,
         "hear: slot with the token closed, later one taken",
     );
+    cells.hit_if(index + 1 > 16, "hear: slot above 16");
+    cells.hit_if(index + 1 == 255, "hear: slot 255");
     let old = &before.table[index];
     let new = &group.table[index];
     cells.hit(&format!("hear: state {}", heard.state.name()));

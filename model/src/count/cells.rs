@@ -63,7 +63,14 @@ impl Cells {
         for reason in ["length", "byte 0", "byte 1"] {
             cells.can(format!("hear: refused 4, {reason}"));
         }
-        for reason in ["S", "N", "LEN"] {
+        for reason in [
+            "S",
+            "S 256",
+            "N",
+            "LEN",
+            "table too short",
+            "table too long",
+        ] {
             cells.can(format!("refused 1: {reason}"));
         }
         for reason in BadLine::ALL {

@@ -90,7 +90,7 @@ fn count_call(cells: &mut Cells, replay: &mut Replay, line: &Line) {
     }
     let group = &replay.group;
     let holding = holding(group, line);
-    let table = group.table;
+    let table = group.table.clone();
     let element_used = match line {
         Line::Open { slot, .. } if !group.sizes_wrong() && !group.slot_outside(*slot) => {
             let n = group.size as usize;
@@ -124,7 +124,7 @@ fn refusal(answer: &Answer) -> Option<u8> {
 
 /// What stood before the call.
 struct Details {
-    table: [Connection; SLOTS],
+    table: Vec<Connection>,
     n: i64,
     s: i64,
     length: i64,

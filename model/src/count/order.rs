@@ -110,14 +110,10 @@ pub(super) fn token_in(bytes: &[u8]) -> Option<u32> {
 }
 
 /// The lowest open slot that holds a token, 0 included.
-pub(super) fn lowest_holder(
-    table: &[Connection; SLOTS],
-    s: i64,
-    token: u32,
-) -> Option<&Connection> {
+pub(super) fn lowest_holder(table: &[Connection], s: i64, token: u32) -> Option<&Connection> {
     table
         .iter()
-        .take(s.clamp(0, SLOTS as i64) as usize)
+        .take(s as usize)
         .find(|c| c.open && c.own_token == token)
 }
 

@@ -15,11 +15,23 @@ pub(super) fn count_refusal(
 ) {
     match (number, line) {
         (1, _) => {
-            cells.hit_if(!(1..=16).contains(&before.s), "refused 1: S");
-            cells.hit_if(!size_in_range(before.n), "refused 1: N");
-            let sizes_right = (1..=16).contains(&before.s) && size_in_range(before.n);
-            let length_right = sizes_right && before.length == before.s * before.n;
-            cells.hit_if(sizes_right && !length_right, "refused 1: LEN");
+            let records = before.table.len() as i64;
+            let wrong = [
+                (!(1..=MAX_ELEMENTS).contains(&before.s), "S"),
+                (!size_in_range(before.n), "N"),
+                (before.length != before.s * before.n, "LEN"),
+                (records < before.s, "table too short"),
+                (records > before.s, "table too long"),
+            ];
+            let wrong: Vec<&str> = wrong
+                .iter()
+                .filter(|(on, _)| *on)
+                .map(|(_, name)| *name)
+                .collect();
+            if let [one] = wrong[..] {
+                cells.hit(&format!("refused 1: {one}"));
+            }
+            cells.hit_if(before.s == 256 && records == 256, "refused 1: S 256");
         }
         (3, Line::Hear { bytes }) => {
             if let Some(c) =
@@ -63,13 +75,8 @@ pub(super) fn count_refusal(
         (5, Line::Hear { bytes }) => {
             let token = token_in(bytes).unwrap_or(0);
             let held = |c: &Connection| c.open && c.own_token == token;
-            let within = before.s as usize;
             cells.hit_if(
-                token != 0 && before.table[within..].iter().any(held),
-                "hear: token beyond S only, 5",
-            );
-            cells.hit_if(
-                token == 0 && before.table[..within].iter().any(held),
+                token == 0 && before.table.iter().any(held),
                 "hear: token 0 held by an open slot, 5",
             );
         }
@@ -85,6 +92,13 @@ pub(super) fn count_refusal(
         ) => {
             let c = &before.table[*slot as usize - 1];
             count_barred(cells, c, i64::from(*offset), bytes.len() as i64, before.n);
+        }
+        (11, Line::Open { own, .. }) => {
+            let last = before
+                .table
+                .get(254)
+                .is_some_and(|c| c.open && c.own_token == *own);
+            cells.hit_if(last, "open: refused 11, held in slot 255");
         }
         (14, Line::LinkMsg { bytes, .. }) => {
             cells.hit(&format!("{word}: refused 14, kind {:02X}", bytes[0]));

@@ -65,6 +65,17 @@ impl List {
             elements,
             size,
             length,
+            records: None,
+        });
+    }
+
+    /// A group whose table has so many records.
+    pub fn group_with_table(&mut self, elements: u32, size: u32, length: usize, records: usize) {
+        self.add(Line::Group {
+            elements,
+            size,
+            length,
+            records: Some(records),
         });
     }
 

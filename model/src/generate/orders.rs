@@ -5,7 +5,7 @@
 //! or not; within a span each connection's calls keep their order, and the calls
 //! that nobody owns stand anywhere.
 
-use std::collections::VecDeque;
+use std::collections::{BTreeMap, VecDeque};
 
 use super::traffic::{Habits, World};
 use super::List;
@@ -44,7 +44,11 @@ pub fn pair(seed: u64, count: usize) -> Pair {
 }
 
 fn first_order(random: &mut Random, count: usize) -> Vec<u8> {
-    let elements = random.between(1, 16) as u32;
+    let elements = if random.chance(1, 6) {
+        random.between(17, 255)
+    } else {
+        random.between(1, 16)
+    } as u32;
     let size = random.between(8, 40) as u32;
     let habits = Habits {
         strangers: false,
@@ -70,7 +74,7 @@ fn first_order(random: &mut Random, count: usize) -> Vec<u8> {
 /// "Both orders start from the same fresh group, whatever else its closed slots
 /// hold."
 fn lay_closed_records(random: &mut Random, list: &mut List) {
-    for slot in 1..=SLOTS {
+    for slot in 1..=list.replay.group.table.len() {
         if random.chance(1, 2) {
             continue;
         }
@@ -181,13 +185,15 @@ fn second_order(random: &mut Random, first: Vec<u8>) -> Pair {
 /// One more order of a span: each owner's calls in their order, nobody's calls
 /// anywhere.
 fn merge(random: &mut Random, span: &[(usize, Owner)]) -> Vec<usize> {
-    let mut queues: Vec<VecDeque<usize>> = (0..SLOTS).map(|_| VecDeque::new()).collect();
+    let mut owned: BTreeMap<usize, VecDeque<usize>> = BTreeMap::new();
+    let mut queues: Vec<VecDeque<usize>> = Vec::new();
     for &(place, owner) in span {
         match owner {
-            Owner::Slot(index) => queues[index].push_back(place),
+            Owner::Slot(index) => owned.entry(index).or_default().push_back(place),
             Owner::Nobody => queues.push(VecDeque::from([place])),
         }
     }
+    queues.extend(owned.into_values());
     let mut merged = Vec::new();
     let bursts = random.chance(1, 2);
     while merged.len() < span.len() {

@@ -75,10 +75,11 @@ pub fn list(seed: u64, count: usize) -> Vec<u8> {
         noise: true,
         beside: true,
     };
-    let elements = if size > 1_000 {
-        random.between(2, 3)
-    } else {
-        random.between(2, 16)
+    let elements = match seed % 16 {
+        _ if size > 1_000 => random.between(2, 3),
+        2 => 255,
+        6 | 14 => random.between(17, 255),
+        _ => random.between(2, 16),
     };
     let mut world = World::new(random, elements as u32, size, habits);
     while world.list.count < count && world.list.text.len() < MOST_TEXT {
@@ -97,7 +98,8 @@ impl World {
         list.group(elements, size);
         let far_size = random.between(8, 48) as u32;
         let mut far = Replay::new();
-        far.group = Group::fresh(16, far_size, 16 * far_size as usize);
+        let slots = elements as usize;
+        far.group = Group::fresh(elements, far_size, slots * far_size as usize, slots);
         far.group.links = [true; 4];
         let next_token = random.between(1, 1_000_000_000) as u32;
         let mut world = World {
@@ -135,7 +137,7 @@ impl World {
                 last_heard: [None, None],
                 life: 0,
             });
-            if self.pairs.len() == 5 {
+            if self.pairs.len() == if elements > 16 { 9 } else { 5 } {
                 break;
             }
         }
@@ -538,7 +540,7 @@ impl World {
             0 => 0,
             1 => elements + 1,
             2 => u32::MAX,
-            3 => self.random.between(1, 40) as u32,
+            3 => self.random.between(1, 300) as u32,
             _ => self.random.between(1, i64::from(elements)) as u32,
         };
         let bytes = self.random.between(0, 3) as usize;
@@ -546,7 +548,10 @@ impl World {
         let token = match self.random.below(3) {
             0 => 0,
             1 => self.random.draw() as u32,
-            _ => self.list.replay.group.table[self.random.below(16) as usize].own_token,
+            _ => {
+                let index = self.random.below(u64::from(elements)) as usize;
+                self.list.replay.group.table[index].own_token
+            }
         };
         match self.random.below(20) {
             0..=2 => {

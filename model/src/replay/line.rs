@@ -10,6 +10,8 @@ pub enum Line {
         elements: u32,
         size: u32,
         length: usize,
+        /// COUNT where the line names it.
+        records: Option<usize>,
     },
     Open {
         slot: u32,

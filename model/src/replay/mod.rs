@@ -18,6 +18,14 @@ use std::io::{self, BufRead, Write};
 /// Every byte of an out buffer before a read.
 pub const OUT_FILL: u8 = 0xA5;
 
+/// The most records that a table is lent with.
+pub const MAX_RECORDS: usize = 300;
+
+/// "`group S N LEN` lends a table of S records (of 300 where S is above 300)."
+pub fn usual_records(elements: u32) -> usize {
+    (elements as usize).min(MAX_RECORDS)
+}
+
 /// What the lines work on: a group, and beside it what `group` leaves alone.
 #[derive(Clone, Debug, PartialEq, Eq)]
 pub struct Replay {
@@ -36,7 +44,7 @@ impl Replay {
     /// all units are free."
     pub fn new() -> Replay {
         Replay {
-            group: Group::fresh(1, 8, 8),
+            group: Group::fresh(1, 8, 8, 1),
             pool: Books::free(),
         }
     }
@@ -49,8 +57,10 @@ impl Replay {
                 elements,
                 size,
                 length,
+                records,
             } => {
-                *group = Group::fresh(*elements, *size, *length);
+                let records = records.unwrap_or(usual_records(*elements));
+                *group = Group::fresh(*elements, *size, *length, records);
                 Answer::Word("group")
             }
             Line::Open {

@@ -1,6 +1,6 @@
 //! Reading a line.
 
-use super::{BadLine, Line, Replay};
+use super::{BadLine, Line, Replay, MAX_RECORDS};
 use crate::pool::Books;
 use crate::smcr::*;
 
@@ -85,7 +85,8 @@ fn word_counts(first: &[u8]) -> Option<&'static [usize]> {
         b"books" => &[1, 2],
         b"free" | b"hear" | b"shutdown" | b"close" | b"abort" | b"take" => &[2],
         b"link" | b"linkmsg" | b"send" | b"read" | b"poke" | b"memory" | b"return" => &[3],
-        b"group" | b"place" => &[4],
+        b"group" => &[4, 5],
+        b"place" => &[4],
         b"open" => &[6],
         b"record" => &[20],
         _ => return None,
@@ -94,7 +95,7 @@ fn word_counts(first: &[u8]) -> Option<&'static [usize]> {
 
 impl Replay {
     /// Parses a line that is not skipped. `poke` and `memory` must stay within the
-    /// memory's present length.
+    /// memory's present length, `record` within the table.
     pub fn parse(&self, line: &[u8]) -> Result<Line, BadLine> {
         let length = self.group.memory.len();
         let words: Vec<&[u8]> = line.splitn(22, |&byte| byte == b' ').collect();
@@ -107,6 +108,10 @@ impl Replay {
                 elements: number32(words[1])?,
                 size: number32(words[2])?,
                 length: number(words[3], MAX_LENGTH)? as usize,
+                records: match words.get(4) {
+                    Some(word) => Some(number(word, MAX_RECORDS as u64)? as usize),
+                    None => None,
+                },
             },
             b"open" => Line::Open {
                 slot: number32(words[1])?,
@@ -151,7 +156,7 @@ impl Replay {
             b"abort" => Line::Abort {
                 slot: number32(words[1])?,
             },
-            b"record" => parse_record(&words)?,
+            b"record" => parse_record(&words, self.group.table.len())?,
             b"poke" => {
                 let at = number(words[1], MAX_LENGTH)? as usize;
                 let bytes = hex(words[2])?;
@@ -186,8 +191,8 @@ impl Replay {
     }
 }
 
-fn parse_record(words: &[&[u8]]) -> Result<Line, BadLine> {
-    let slot = number(words[1], SLOTS as u64)? as usize;
+fn parse_record(words: &[&[u8]], records: usize) -> Result<Line, BadLine> {
+    let slot = number(words[1], records as u64)? as usize;
     if slot == 0 {
         return Err(BadLine::NumberRange);
     }

@@ -144,7 +144,13 @@ pub fn print_line(out: &mut Vec<u8>, line: &Line) {
             elements,
             size,
             length,
-        } => push(out, &format!("group {elements} {size} {length}")),
+            records,
+        } => {
+            push(out, &format!("group {elements} {size} {length}"));
+            if let Some(records) = records {
+                push(out, &format!(" {records}"));
+            }
+        }
         Line::Open {
             slot,
             own,

@@ -6,6 +6,7 @@ use lib.ListN.{length}
 use denote.Ref.{now}
 use borrow.Author.Needs.{needs}
 use Rattle.element.specs.Element.{storedOf}
+use Rattle.table.proofs.Laws.{found-in}
 use Rattle.calls.proofs.Bytes.{stored-length}
 use Rattle.calls.proofs.Calls.{place-base, place-stored, place-kept, stores-found}
 use Rattle.calls.proofs.place.Statement.{statement}
@@ -39,7 +40,7 @@ add-at c =
     let a = f .before .before .before .args in
     let z = stores-found (f .found .result) (a .links) (a .rec) (o .place .result) (d .settled .result) (d .settled .ensures)
     (sym (v .stores .ensures) ∙ w .if1 .taken) in
-    let h = place-base (a .s) (a .n) (now (a .mem)) (a .slot) (a .rec) (f .found .result) (f .found .ensures) z in
+    let h = place-base (a .s) (a .n) (now (a .mem)) (a .count) (a .slot) (a .rec) (f .found .result) (f .found .ensures) z in
     omega (arith, h, c .base-of .ensures, f .before .before .before .fits .offset)
 
 store-requires : tie.Need-store-requires
@@ -61,7 +62,7 @@ returns c =
     let a = f .before .before .before .args in
     λ t h e.
     place-stored (a .s) (a .n) t (a .links) (now (a .mem)) (a .slot) (a .offset) (now (a .bytes)) (a .rec) e (f .found .result)
-    (f .found .ensures) (l .link-active .result) (l .link-active .ensures) (o .place .result) (o .place .ensures) (d .settled .result)
+    (found-in (a .s) (a .n) _ t h (a .slot) (a .rec) (f .found .ensures)) (l .link-active .result) (l .link-active .ensures) (o .place .result) (o .place .ensures) (d .settled .result)
     (d .settled .ensures) _ (sym (v .stores .ensures) ∙ w .if1 .taken)
     (q .store .ensures ∙ ap (λ (x : ℕ). storedOf (now (a .mem)) (x + a .offset) (now (a .bytes))) (b .base-of .ensures))
 
@@ -75,7 +76,7 @@ returns-2 c =
     let a = f .before .before .before .args in
     λ t h e.
     place-kept (a .s) (a .n) t (a .links) (now (a .mem)) (a .slot) (a .offset) (now (a .bytes)) (a .rec) e (f .found .result)
-    (f .found .ensures) (l .link-active .result) (l .link-active .ensures) (o .place .result) (o .place .ensures) (d .settled .result)
+    (found-in (a .s) (a .n) _ t h (a .slot) (a .rec) (f .found .ensures)) (l .link-active .result) (l .link-active .ensures) (o .place .result) (o .place .ensures) (d .settled .result)
     (d .settled .ensures) _ (sym (v .stores .ensures) ∙ c .if1 .left) refl
 
 pub place-spec : {M : Type 1} → statement M

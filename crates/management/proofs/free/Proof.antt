@@ -28,7 +28,7 @@ returns c =
     let f = z .before in
     let a = f .before .before .args in
     λ t h e.
-    free-did (a .s) (a .n) t (a .links) (now (a .mem)) (a .slot) (a .rec) e (f .free-refusal .result) (f .free-refusal .ensures t e)
+    free-did (a .s) (a .n) t (a .links) (now (a .mem)) (a .slot) (a .rec) e (f .free-refusal .result) (f .free-refusal .ensures t h e)
     (o .outcome-of .result) (o .outcome-of .ensures ∙ ap (outcomeOf Accepted false) (z .zero-record .ensures)) (c .settled .result)
     (c .settled .ensures)
 

@@ -32,21 +32,21 @@ returns c =
     let r2 = c .before in
     let r3 = r2 .before in
     let r7 = r3 .before in
-    let h = r7 .before .before in
-    let k = h .before .before in
+    let w = r7 .before .before in
+    let k = w .before .before in
     let z = k .before in
     let a = z .before .before .args in
-    λ t e.
+    λ t h e.
     (simp (
       c .refusal-if4 .ensures,
       r2 .refusal-if3 .ensures,
       r3 .refusal-if2 .ensures,
       r7 .refusal-if .ensures,
-      h .coherent .ensures,
+      w .coherent .ensures,
       k .slot-ok .ensures,
       z .sizes-ok .ensures,
     ))
-    ∙ free-number (a .s) (a .n) t (a .links) (now (a .mem)) (a .slot) (a .rec) e
+    ∙ free-number (a .s) (a .n) t (a .links) (now (a .mem)) (a .slot) (a .rec) e (a .count) h
 
 pub free-refusal-spec : {M : Type 1} → statement M
 free-refusal-spec =

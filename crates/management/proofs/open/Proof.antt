@@ -43,7 +43,7 @@ returns c =
     let a = f .before .before .before .args in
     λ t h hh e.
     open-did (a .s) (a .n) t (a .links) (now (a .mem)) (a .slot) (a .rec) e (a .given) (f .open-refusal .result)
-    (f .open-refusal .ensures t hh e) (o .outcome-of .result)
+    (f .open-refusal .ensures t h hh e) (o .outcome-of .result)
     (o .outcome-of .ensures ∙ ap (outcomeOf Accepted false) (r .opened-record .ensures)) (d .settled .result) (d .settled .ensures)
     (b .before .if1 .taken) _ (w .clear .ensures ∙ ap (λ (x : ℕ). clearedOf (now (a .mem)) x (a .n)) (b .base-of .ensures))
 
@@ -59,7 +59,7 @@ returns-2 c =
     let a = f .before .before .before .args in
     λ t h hh e.
     open-refused (a .s) (a .n) t (a .links) (now (a .mem)) (a .slot) (a .rec) e (a .given) (f .open-refusal .result)
-    (f .open-refusal .ensures t hh e) (o .outcome-of .result)
+    (f .open-refusal .ensures t h hh e) (o .outcome-of .result)
     (o .outcome-of .ensures ∙ ap (outcomeOf Accepted false) (r .opened-record .ensures)) (d .settled .result) (d .settled .ensures)
     (c .if1 .left)
 

@@ -56,7 +56,7 @@ returns c =
     let k = b .before in
     let z = k .before in
     let a = z .before .before .args in
-    λ t hh e.
+    λ t h hh e.
     (simp (
       c .refusal-if7 .ensures,
       r2 .refusal-if6 .ensures,
@@ -71,7 +71,7 @@ returns c =
       k .slot-ok .ensures,
       z .sizes-ok .ensures,
     ))
-    ∙ open-number (a .s) (a .n) t (a .links) (now (a .mem)) (a .slot) (a .rec) e (a .given) (a .holder) hh
+    ∙ open-number (a .s) (a .n) t (a .links) (now (a .mem)) (a .slot) (a .rec) e (a .given) (a .count) h (a .holder) hh
 
 pub open-refusal-spec : {M : Type 1} → statement M
 open-refusal-spec =

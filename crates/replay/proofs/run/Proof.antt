@@ -31,7 +31,15 @@ loop-less : tie.Need-loop-less Inv-loop μ-loop
 loop-less c = search needs
 
 loop-again : tie.Need-loop-again Inv-loop μ-loop
-loop-again c = search needs
+loop-again c =
+    let out = c .before in
+    let mem = out .before .before in
+    let act = mem .before in
+    let given = act .before .before .before .before .before .before .before in
+    let inv = given .before .before .before .before .before .before .loop .inv in (
+      search (needs, inv .0, act .act, mem .mem .given),
+      (search (needs, inv .1 .0, given .given .given), search (needs, inv .1 .1, act .act, out .out .given)),
+    )
 
 flush-requires : tie.Need-flush-requires Inv-loop μ-loop
 flush-requires c κs = search needs

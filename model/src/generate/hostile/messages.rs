@@ -145,7 +145,7 @@ impl Bench {
             self.list.all_links_up();
             let token = self.random.between(1, 0xFFFF_FFFF) as u32;
             let mut first_open = None;
-            for slot in 1..=elements as usize + 1 {
+            for slot in 1..=elements as usize {
                 let mut c = match self.random.below(5) {
                     0 => self.junk_record(token),
                     1 => {

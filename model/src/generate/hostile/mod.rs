@@ -41,6 +41,7 @@ pub fn list(seed: u64, count: Option<usize>) -> Vec<u8> {
         Bench::pairs_of_link_message,
         Bench::wrong_sizes,
         Bench::strange_slots,
+        Bench::many_elements,
         Bench::incoherent_records,
         Bench::damaged_eye_catchers,
         Bench::malformed_messages,
@@ -87,12 +88,23 @@ impl Bench {
     /// named and N is close to `size`.
     fn nearly_right_group(&mut self, elements: u32, size: u32) {
         let right = elements as usize * size as usize;
-        match self.random.below(6) {
+        let records = elements as usize;
+        match self.random.below(9) {
             0 => self.list.group_of(elements, size, right - 1),
             1 => self.list.group_of(elements, size, right + 1),
             2 => self.list.group_of(elements, size, right - size as usize),
-            3 => self.list.group_of(elements, 7, elements as usize * 7),
-            4 => self.list.group_of(17, size, 17 * size as usize),
+            3 => self.list.group_of(elements, 7, records * 7),
+            4 => self.list.group_of(256, size, 256 * size as usize),
+            5..=6 => {
+                let more = records + self.random.between(1, 4) as usize;
+                self.list.group_with_table(elements, size, right, more);
+            }
+            7 => {
+                // A table of one record too few, S and the memory one more.
+                let length = right + size as usize;
+                self.list
+                    .group_with_table(elements + 1, size, length, records);
+            }
             _ => self.list.group_of(elements, size, 0),
         }
     }

@@ -55,19 +55,7 @@ impl Bench {
         }
         self.list.record(slot as usize, c);
         if has(2) && c.open {
-            slot = *self.random.pick(&[
-                0,
-                elements + 1,
-                16,
-                17,
-                18,
-                u32::MAX,
-                0x8000_0001,
-                65_536 + 1,
-            ]);
-            if slot == elements + 1 || slot == 16 {
-                self.list.record(slot as usize, c);
-            }
+            slot = self.slot_outside(slot);
         }
         self.slot_call(call, slot, &c, n, has(9));
         self.look();
@@ -81,6 +69,14 @@ impl Bench {
                 self.spoiled_hear(&spoiled);
             }
         }
+    }
+
+    /// A slot outside 1 to S; some of them are this one when they are cut.
+    fn slot_outside(&mut self, slot: u32) -> u32 {
+        let elements = self.list.replay.group.elements;
+        let beyond = [0, elements + 1, 256, 256 + slot, 65_536 + slot];
+        let far = [0x8000_0000 | slot, u32::MAX];
+        *self.random.pick(&[&beyond[..], &far[..]].concat())
     }
 
     fn spoiled_hear(&mut self, spoiled: &[u8]) {
@@ -200,14 +196,7 @@ impl Bench {
             link = *self.random.pick(&[0, 5, 6, 255, 128]);
         }
         if has(2) {
-            let before = slot;
-            slot = *self
-                .random
-                .pick(&[0, elements + 1, 16, 17, u32::MAX, 0x8000_0000 | slot]);
-            if has(10) && (slot == 16 || slot == elements + 1) {
-                let held = self.list.replay.group.table[before as usize - 1];
-                self.list.record(slot as usize, held);
-            }
+            slot = self.slot_outside(slot);
         }
         // An element that held something before, to see it zeroed or left.
         let length = self.list.replay.group.memory.len();
@@ -253,10 +242,7 @@ impl Bench {
         }
         self.list.record(slot as usize, c);
         if has(2) && c.open {
-            slot = *self.random.pick(&[0, elements + 1, 16, 17, u32::MAX]);
-            if slot == elements + 1 || slot == 16 {
-                self.list.record(slot as usize, c);
-            }
+            slot = self.slot_outside(slot);
         }
         self.list.free(slot);
         self.look();

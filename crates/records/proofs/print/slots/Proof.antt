@@ -1,15 +1,17 @@
--- `records::print::slots` is safe and ends: the loop over the slots counts up to the most that a table has. Assumes nothing.
+-- `records::print::slots` is safe and ends: the loop over the slots counts up to how many rows there are. Assumes nothing.
 use borrow.Author.Needs.{needs}
 use Prim.Native.Nat.{_-_, _≤_}
-use Rattle.table.specs.Table.{mostSlots}
 use Rattle.records.proofs.print.slots.Statement.{statement}
 use Rattle.records.proofs.print.slots.Tie as tie
 
 abbrev Inv-loop : tie.InvT-loop
-Inv-loop o₀ at table to₀ k₀ o to k = k ≤ mostSlots
+Inv-loop o₀ at count table most to₀ k₀ o to k = (k ≤ most) × (most ≤ 300)
 
 abbrev μ-loop : tie.MeasureT-loop
-μ-loop o₀ at table to₀ k₀ o to k = mostSlots - k
+μ-loop o₀ at count table most to₀ k₀ o to k = most - k
+
+rows-requires : tie.Need-rows-requires Inv-loop μ-loop
+rows-requires c κs = search needs
 
 loop-holds : tie.Need-loop-holds Inv-loop μ-loop
 loop-holds c = search needs
@@ -41,6 +43,7 @@ slots-spec =
     (tie.spec
     Inv-loop
     μ-loop
+    rows-requires
     loop-holds
     mul-rec
     array-copy-out-rec

@@ -1,4 +1,4 @@
--- `records::read::record` is safe and ends: nineteen numbers leave no more bytes to come, and the slot is at most 16. Assumes nothing.
+-- `records::read::record` is safe and ends: nineteen numbers leave no more bytes to come, and the slot is at most 300. Assumes nothing.
 use borrow.Author.Needs.{needs}
 use native.Mathlib.Omega.{arith}
 use Rattle.records.proofs.read.record.Statement.{statement}

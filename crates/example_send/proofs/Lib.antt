@@ -1,0 +1,2 @@
+-- `Laws`: what the two calls give together.
+pub mod Laws

@@ -1,0 +1,2 @@
+-- `Laws`: what a call on lent rows gives.
+pub mod Laws
