@@ -14,6 +14,7 @@
 
 pub mod compare;
 pub mod count;
+pub mod gauge;
 pub mod generate;
 pub mod picture;
 pub mod pool;

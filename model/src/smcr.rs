@@ -4,6 +4,8 @@
 //! document 01's section on refusals. Distances are `i64` and may come out
 //! below zero, exactly as the page says.
 
+use crate::gauge::Gauge;
+
 // ---------------------------------------------------------------------------
 // The memory and the tables
 // ---------------------------------------------------------------------------
@@ -193,13 +195,15 @@ fn writing_distance_good(c: &Connection) -> bool {
 
 /// A group: S, N, the memory and the table lent to every call, and the links.
 /// S, N and both lengths stand here as they were handed in, right or not.
-#[derive(Clone, Debug, PartialEq, Eq)]
+#[derive(Clone, Debug, PartialEq)]
 pub struct Group {
     pub elements: u32,
     pub size: u32,
     pub memory: Vec<u8>,
     pub table: Vec<Connection>,
     pub links: [bool; LINKS],
+    /// One for each link (2026-10).
+    pub gauges: [Gauge; LINKS],
 }
 
 impl Group {
@@ -212,6 +216,7 @@ impl Group {
             memory: vec![0; length],
             table: vec![Connection::default(); records],
             links: [false; LINKS],
+            gauges: [Gauge::default(); LINKS],
         }
     }
 
@@ -1040,12 +1045,17 @@ impl Group {
         Ok(())
     }
 
-    /// **Link change** sets one link. Tests 13.
+    /// **Link change** sets one link. Tests 13. 2026-10: a new open does not clear
+    /// the gauge, "a link going down does".
     pub fn link_change(&mut self, link: u8, active: bool) -> Result<(), u8> {
         if !link_in_range(link) {
             return Err(13);
         }
-        self.links[usize::from(link) - 1] = active;
+        let index = usize::from(link) - 1;
+        self.links[index] = active;
+        if !active {
+            self.gauges[index] = Gauge::default();
+        }
         Ok(())
     }
 

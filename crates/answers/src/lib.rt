@@ -5,6 +5,7 @@ use closing::State;
 use connection::Reply;
 use flow::Placing;
 use flow::Placings;
+use gauge::Health;
 use group::Command;
 use management::Management;
 use stream::output;
@@ -149,6 +150,7 @@ fn management_accepted(o: &mut [u8; 65536], at: usize, call: Management, said: A
         Management::Free(_) => output::text(o, at, b"free\n"),
         Management::LinkChange(_, _) => output::text(o, at, b"link\n"),
         Management::LinkMessage(_) => with_message(o, at, b"linkmsg reply ", said),
+        Management::Sample(_, _) => output::text(o, at, b"sample\n"),
     }
 }
 
@@ -163,6 +165,14 @@ fn accepted(o: &mut [u8; 65536], at: usize, command: Command, said: Answered) ->
     }
 }
 
+// A sample's health.
+fn sampled(o: &mut [u8; 65536], at: usize, h: Health) -> usize
+    ensures { λ r. ⌜ r ≤ 65536 ⌝ }
+{
+    let a = output::text(o, at, b"sample ");
+    gauge_text::health(o, a, h)
+}
+
 pub fn answer(o: &mut [u8; 65536], at: usize, command: Command, said: Answered, out: &[u8]) -> usize
     ensures { λ r. ⌜ r ≤ 65536 ⌝ }
 {
@@ -175,6 +185,7 @@ pub fn answer(o: &mut [u8; 65536], at: usize, command: Command, said: Answered, 
         Reply::Torn => torn(o, at, said, out),
         Reply::Heard(moved, s) => heard(o, at, moved, s, said),
         Reply::Reset => with_message(o, at, b"reset message ", said),
+        Reply::Sampled(h) => sampled(o, at, h),
     }
 }
 

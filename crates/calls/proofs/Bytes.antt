@@ -17,7 +17,7 @@ use Rattle.element.proofs.Others.{put-back, splice-length, splice-part}
 use Rattle.element.proofs.Calls.{Readable, stored-in, stored-out, read-in}
 use Rattle.connection.specs.declared.Record.{Record}
 use Rattle.connection.specs.declared.Reply.{Reply}
-use Rattle.connection.specs.declared.Reply.the-variants.{Refused, Accepted, Sent, Read, Torn, Reset, Heard}
+use Rattle.connection.specs.declared.Reply.the-variants.{Refused, Accepted, Sent, Read, Torn, Reset, Heard, Sampled}
 use Rattle.connection.specs.declared.Effect.{Effect}
 use Rattle.connection.specs.declared.Effect.the-variants.{Nothing, Stores, Copies}
 use Rattle.connection.specs.Connection.{coherentB, marksTo, effectOf}
@@ -70,6 +70,7 @@ stores-is (Read n) e = cc
 stores-is Torn e = cc
 stores-is (Heard moved state) e = cc
 stores-is Reset e = cc
+stores-is (Sampled q) e = cc
 
 pub placed-not : (x : Effect) (e : List ℕ) (at : ℕ) (b : List ℕ) → storesB x ≡ false → placedIn x e at b ≡ e
 placed-not Nothing e at b h = refl
@@ -94,6 +95,7 @@ copies-is (Read k) n e = cc
 copies-is Torn n e = cc
 copies-is (Heard moved state) n e = cc
 copies-is Reset n e = cc
+copies-is (Sampled q) n e = cc
 
 pub read-into : (r : Reply) (cur : Cursor) (m : List ℕ) (base n : ℕ) (out : List ℕ)
     → ((j : ℕ) → r ≡ Read j → Readable m base n (cur .offset) j out)

@@ -95,7 +95,7 @@ place-base s n m count k c j f z =
 
 module _ (s n : ℕ) (t : List Record) (ls : Links) (m : List ℕ) where
   abbrev g : Group
-  g = groupOf s n t (ls .active) m
+  g = groupOf s n t ls m
 
   -- PLACE: the bytes are stored where it is accepted, and nothing else
   module _

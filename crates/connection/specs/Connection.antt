@@ -21,7 +21,7 @@ use Rattle.connection.specs.declared.Outbound.{Outbound}
 use Rattle.connection.specs.declared.Record.{Record}
 use Rattle.connection.specs.declared.Opening.{Opening}
 use Rattle.connection.specs.declared.Reply.{Reply}
-use Rattle.connection.specs.declared.Reply.the-variants.{Refused, Accepted, Sent, Read, Torn, Heard, Reset}
+use Rattle.connection.specs.declared.Reply.the-variants.{Refused, Accepted, Sent, Read, Torn, Heard, Reset, Sampled}
 use Rattle.connection.specs.declared.Effect.{Effect}
 use Rattle.connection.specs.declared.Effect.the-variants.{Nothing, Stores, Copies}
 use Rattle.connection.specs.declared.Outcome.{Outcome}
@@ -230,3 +230,4 @@ effectOf (Read n) = Copies n
 effectOf Torn = Nothing
 effectOf (Heard moved state) = Nothing
 effectOf Reset = Nothing
+effectOf (Sampled h) = Nothing

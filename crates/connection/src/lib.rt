@@ -12,6 +12,7 @@ use closing::Side;
 use closing::State;
 use cursor::Cursor;
 use flow::Placings;
+use gauge::Health;
 
 // The bytes of an element, ours or the peer's: at least and at most.
 pub const LEAST_SIZE: u32 = 8;
@@ -81,6 +82,8 @@ pub enum Reply {
     Heard(u64, State),
     // a close with unread bytes
     Reset,
+    // a sample: the health of its link
+    Sampled(Health),
 }
 
 // What a reply does with the bytes that the call was lent.
@@ -364,5 +367,6 @@ pub fn effect_of(reply: Reply) -> Effect
         Reply::Torn => Effect::Nothing,
         Reply::Heard(_, _) => Effect::Nothing,
         Reply::Reset => Effect::Nothing,
+        Reply::Sampled(_) => Effect::Nothing,
     }
 }

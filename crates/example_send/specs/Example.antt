@@ -16,4 +16,4 @@ saidOf sent done = record { sent = sent; done = done }
 abbrev pub LastWords : Group → ℕ → List ℕ → Said → List Record → List ℕ → Type 0
 LastWords g k b r t m =
     Made g (on k (send b) ∷ on k shutdown ∷ []) (answerOf (r .sent) [] ∷ answerOf (r .done) [] ∷ [])
-    (groupOf (g .S) (g .N) t (r .done .links .active) m)
+    (groupOf (g .S) (g .N) t (r .done .links) m)

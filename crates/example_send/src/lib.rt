@@ -55,7 +55,7 @@ pub fn last_words(
     out: &mut [u8],
 ) -> Said
     ensures { λ r.
-        ⌜ LastWords (groupOf s n (now (table .entry)) (links .active) (now (mem .entry))) slot (now (bytes .entry)) r
+        ⌜ LastWords (groupOf s n (now (table .entry)) links (now (mem .entry))) slot (now (bytes .entry)) r
         (now (table .exit)) (now (mem .exit)) ⌝ }
 {
     let sent = group::make(s, n, mem, table, links, send_on(slot), bytes, out);

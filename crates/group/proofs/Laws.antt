@@ -27,13 +27,13 @@ pub make-returns : (s n : ℕ) (m : List ℕ) (t : List Record) (ls : Links) (co
     → (rec : Record) → rec ≡ recordAt t slot → (d : Turned) (l left : List ℕ)
     → DidIn s n m l (length t) ls (callOf command b out) (tokenOf command b) holder (slotOf command holder) rec d (outLeft command left) × OutKept command out left
     → (after : Record) → after ≡ d .after → (u : Unit {0}) (z : List Record) → z ≡ withRecord t slot after → (a : Answered) → a ≡ d .answer
-    → Did (groupOf s n t (ls .active) m) (callOf command b out) (answerOf a (outLeft command left)) (groupOf s n z (a .links .active) l)
+    → Did (groupOf s n t ls m) (callOf command b out) (answerOf a (outLeft command left)) (groupOf s n z (a .links) l)
     × OutKept command out left
 make-returns s n m t ls command b out token et holder eh slot es rec ec d l left e after ef u z ez a ea =
     let p = e .0 t refl (eh ∙ ap (holderIn t) et) (ec ∙ ap (recordAt t) es) in (
       record {
         answered = ap (λ (w : Answered). answerOf w (outLeft command left)) ea ∙ p .answered;
-        left = (λ i. groupOf s n ((ez ∙ (λ j. withRecord t (es j) (ef j))) i) (ea i .links .active) l) ∙ p .left;
+        left = (λ i. groupOf s n ((ez ∙ (λ j. withRecord t (es j) (ef j))) i) (ea i .links) l) ∙ p .left;
       },
       e .1,
     )

@@ -118,10 +118,10 @@ pub fn make(
     out: &mut [u8],
 ) -> Answered
     ensures { λ r.
-        ⌜ Did (groupOf s n (now (table .entry)) (links .active) (now (mem .entry)))
+        ⌜ Did (groupOf s n (now (table .entry)) links (now (mem .entry)))
         (callOf command (now (bytes .entry)) (now (out .entry)))
         (answerOf r (outLeft command (now (out .exit))))
-        (groupOf s n (now (table .exit)) (r .links .active) (now (mem .exit)))
+        (groupOf s n (now (table .exit)) (r .links) (now (mem .exit)))
         × OutKept command (now (out .entry)) (now (out .exit)) ⌝ }
 {
     let token = token_of(command, bytes);

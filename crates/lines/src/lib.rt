@@ -1,9 +1,10 @@
-// A line of the input: a call with its numbers, one of the five lines that are no calls, or a line of the pool.
+// A line of the input: a call with its numbers, one of the seven lines that are no calls, or a line of the pool.
 ghost use Prim.Native.Nat.{_-_, _≤_};
 use calls::Request;
 use connection::Opening;
 use connection::Record;
 use connection::Remote;
+use gauge::Gauge;
 use group::Command;
 use management::Management;
 use pool_text::PoolLine;
@@ -27,6 +28,10 @@ pub enum Line {
     Poke(usize, usize),
     Table,
     Memory(usize, usize),
+    // a link, 1 to 4
+    Health(u8),
+    // a link, and the gauge to lay there
+    Gauge(u8, Gauge),
     // a line of the pool
     Pool(PoolLine),
 }
@@ -44,6 +49,7 @@ enum Verb {
     Free,
     Link,
     LinkMessage,
+    Sample,
     Send,
     Place,
     Read,
@@ -55,6 +61,8 @@ enum Verb {
     Poke,
     Table,
     Memory,
+    Health,
+    Gauge,
     Pool(PoolVerb),
     Unknown,
 }
@@ -139,6 +147,9 @@ fn management_verb(letters: &[u8; 8], count: usize) -> Verb
     if is(letters, count, b"linkmsg") {
         return Verb::LinkMessage;
     }
+    if is(letters, count, b"sample") {
+        return Verb::Sample;
+    }
     call_verb(letters, count)
 }
 
@@ -159,6 +170,12 @@ fn verb_of(letters: &[u8; 8], count: usize) -> Verb
     }
     if is(letters, count, b"memory") {
         return Verb::Memory;
+    }
+    if is(letters, count, b"health") {
+        return Verb::Health;
+    }
+    if is(letters, count, b"gauge") {
+        return Verb::Gauge;
     }
     management_verb(letters, count)
 }
@@ -255,6 +272,15 @@ fn linkmsg_line(buf: &mut [u8; 65536], given: &mut [u8], c: Scan) -> Parsed
     ended(buf, b.scan, Line::Call(command, b.count, 0))
 }
 
+fn sample_line(buf: &mut [u8; 65536], c: Scan) -> Parsed
+    ensures { λ r. ⌜ r .scan .left ≤ c .left - 1 ⌝ }
+{
+    let link = input::number(buf, c, 255);
+    let ms = input::number(buf, link.scan, MOST);
+    let command = Command::Manage(Management::Sample(link.value as u8, ms.value));
+    ended(buf, ms.scan, Line::Call(command, 0, 0))
+}
+
 fn send_line(buf: &mut [u8; 65536], given: &mut [u8], c: Scan) -> Parsed
     ensures { λ r. ⌜ r .scan .left ≤ c .left - 1 ⌝ }
 {
@@ -336,6 +362,21 @@ fn record_line(buf: &mut [u8; 65536], c: Scan) -> Parsed
     ended(buf, p.scan, Line::Record(p.slot, r))
 }
 
+fn health_line(buf: &mut [u8; 65536], c: Scan) -> Parsed
+    ensures { λ r. ⌜ r .scan .left ≤ c .left - 1 ⌝ }
+{
+    let link = gauge_text::link_of(buf, c);
+    ended(buf, link.scan, Line::Health(link.value as u8))
+}
+
+fn gauge_line(buf: &mut [u8; 65536], given: &mut [u8], c: Scan) -> Parsed
+    ensures { λ r. ⌜ r .scan .left ≤ c .left - 1 ⌝ }
+{
+    let p = gauge_text::gauge_of(buf, given, c);
+    let g = p.gauge;
+    ended(buf, p.scan, Line::Gauge(p.link, g))
+}
+
 fn pool_line(buf: &mut [u8; 65536], given: &mut [u8], c: Scan, verb: PoolVerb) -> Parsed
     ensures { λ r. ⌜ r .scan .left ≤ c .left - 1 ⌝ }
 {
@@ -352,6 +393,7 @@ fn call_line(buf: &mut [u8; 65536], given: &mut [u8], c: Scan, verb: Verb) -> Pa
         Verb::Open => open_line(buf, c),
         Verb::Link => link_line(buf, c),
         Verb::LinkMessage => linkmsg_line(buf, given, c),
+        Verb::Sample => sample_line(buf, c),
         Verb::Send => send_line(buf, given, c),
         Verb::Place => place_line(buf, given, c),
         Verb::Read => read_line(buf, c),
@@ -369,6 +411,8 @@ fn line_of(buf: &mut [u8; 65536], given: &mut [u8], c: Scan, verb: Verb) -> Pars
         Verb::Poke => poke_line(buf, given, c),
         Verb::Table => ended(buf, c, Line::Table),
         Verb::Memory => memory_line(buf, c),
+        Verb::Health => health_line(buf, c),
+        Verb::Gauge => gauge_line(buf, given, c),
         Verb::Pool(v) => pool_line(buf, given, c, v),
         Verb::Unknown => ended(buf, c, Line::Bad),
         _ => call_line(buf, given, c, verb),

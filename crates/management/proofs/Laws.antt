@@ -3,13 +3,16 @@ use Prim.Native.Nat.{ℕ}
 use mathlib.Core.Path.{_≡_, refl, sym, ap, _∙_, subst}
 use mathlib.Core.Bool.{Bool, true, false, _&&_, _||_, not, cond}
 use mathlib.Core.List.{List, []}
-use lib.Dec.{ltb, eqb}
+use native.Mathlib.Omega.{arith}
+use lib.Dec.{leb, ltb, eqb}
 use lib.ListN.{length}
 use borrow.Author.Tests.{eq-eqb, ne-eqb, eqb-false}
 use Rattle.llc.specs.declared.Kind.{Kind}
 use Rattle.llc.specs.declared.Kind.the-variants as Kinds
 use Rattle.llc.specs.declared.Received.{Received}
 use Rattle.llc.specs.Llc.{receivedOf}
+use Rattle.gauge.specs.declared.Gauge.{Gauge}
+use Rattle.gauge.specs.Gauge.{mostMs, sampledOf, healthOf}
 use Rattle.element.specs.Element.{baseOf, freshElement, clearedOf}
 use Rattle.connection.specs.declared.Record.{Record}
 use Rattle.connection.specs.declared.Opening.{Opening}
@@ -19,13 +22,13 @@ use Rattle.connection.specs.Connection.{coherentB, zeroRecord, openedRecord, ou
 use Rattle.table.specs.declared.Links.{Links}
 use Rattle.table.specs.declared.Answered.{Answered}
 use Rattle.table.specs.declared.Turned.{Turned}
-use Rattle.table.specs.Table.{sizesB, slotB, recordAt, openB, linkIn, activeB, findFrom, holderIn, withRecord, withLink, refusedBy, keptBy, settledBy}
+use Rattle.table.specs.Table.{sizesB, slotB, recordAt, openB, linkIn, activeB, gaugeAt, findFrom, holderIn, withRecord, gaugeSet, linkSet, refusedBy, keptBy, settledBy}
 use Rattle.table.proofs.Laws.{sizes-facts, two-passed, open-facts, holder-some}
-use Rattle.rules.specs.Rules.{Group, Call, Management, Done, Did, groupOf, answerOf, does, turnOf, putTurn, plain, plainTurn, refuses, sizesOk, withLinks, badOpening, openRefusal, openDoes, freeRefusal, freeDoes, linkDoes, linkAnswer, linkMessageDoes, elementIn}
+use Rattle.rules.specs.Rules.{Group, Call, Management, Done, Did, groupOf, answerOf, does, turnOf, putTurn, plain, plainTurn, healthy, accepted, refuses, sizesOk, linksOf, withLinks, badOpening, openRefusal, openDoes, freeRefusal, freeDoes, linkDoes, linkAnswer, linkMessageDoes, sampleRefusal, sampleDoes, elementIn}
 use Rattle.rules.specs.Promises.{Promise, DidIn, DidLinks}
 use Rattle.rules.proofs.Memory.{kept-memory, cleared-memory}
 use Rattle.rules.proofs.Settled.{settled}
-use Rattle.management.specs.Management.{answeredBy, kindAnswer, managementOf, tokenOf, slotOf}
+use Rattle.management.specs.Management.{answeredBy, kindAnswer, healthBy, managementOf, tokenOf, slotOf}
 use Rattle.management.specs.declared.Management.{Management as Managed}
 
 -- the turn of an accepted call that names nothing and makes no message
@@ -39,7 +42,7 @@ either-false false b h = refl
 
 module _ (s n : ℕ) (t : List Record) (ls : Links) (m : List ℕ) where
   abbrev g : Group
-  g = groupOf s n t (ls .active) m
+  g = groupOf s n t ls m
 
   -- OPEN
   module _ (k : ℕ) (rec : Record) (hc : rec ≡ recordAt t k) (given : Opening) where
@@ -145,9 +148,12 @@ module _ (s n : ℕ) (t : List Record) (ls : Links) (m : List ℕ) where
           (λ h. (free-refuses h, refl))
 
 -- THE LINKS
-module _ (ls : Links) (g : Group) (e : g .links ≡ ls .active) where
+module _ (ls : Links) (g : Group) (e : linksOf g ≡ ls) where
   abbrev DidIt : Call → Answered → Type 0
-  DidIt call r = Did g call (answerOf r []) (withLinks g (r .links .active))
+  DidIt call r = Did g call (answerOf r []) (withLinks g (r .links))
+
+  active-is : (l : ℕ) (b : Bool) → activeB (ls .active) l ≡ b → activeB (g .links) l ≡ b
+  active-is l b d = ap (λ (x : Links). activeB (x .active) l) e ∙ d
 
   links-refused : (call : Call) (k : ℕ) (r : Answered) → does g call ≡ refuses g k [] → r ≡ refusedBy k ls → DidIt call r
   unfolding refuses refusedBy
@@ -155,30 +161,32 @@ module _ (ls : Links) (g : Group) (e : g .links ≡ ls .active) where
       record {
         answered = ap (λ (b : Answered). answerOf b []) p ∙ sym (ap (λ (w : Done). w .answer) d);
         left =
-            ap (λ (b : Answered). withLinks g (b .links .active)) p
-            ∙ ap (withLinks g) (sym e)
-            ∙ sym (ap (λ (w : Done). w .group) d);
+            ap (λ (b : Answered). withLinks g (b .links)) p ∙ ap (withLinks g) (sym e) ∙ sym (ap (λ (w : Done). w .group) d);
+      }
+
+  -- what is answered and left, where the answer is a
+  links-left : (call : Call) (a r : Answered) → does g call ≡ record { answer = answerOf a []; group = withLinks g (a .links) } → r ≡ a
+      → DidIt call r
+  links-left call a r d p =
+      record {
+        answered = ap (λ (b : Answered). answerOf b []) p ∙ sym (ap (λ (w : Done). w .answer) d);
+        left = ap (λ (b : Answered). withLinks g (b .links)) p ∙ sym (ap (λ (w : Done). w .group) d);
       }
 
   links-answered : (call : Call) (made : Bool) (message : List ℕ) (u : Links) (r : Answered)
-      → does g call
-      ≡ record { answer = answerOf (answeredBy made message u) []; group = withLinks g (u .active) } → r ≡ answeredBy made message u
+      → does g call ≡ record { answer = answerOf (answeredBy made message u) []; group = withLinks g u } → r ≡ answeredBy made message u
       → DidIt call r
   unfolding answeredBy
-  links-answered call made message u r d p =
-      record {
-        answered = ap (λ (b : Answered). answerOf b []) p ∙ sym (ap (λ (w : Done). w .answer) d);
-        left = ap (λ (b : Answered). withLinks g (b .links .active)) p ∙ sym (ap (λ (w : Done). w .group) d);
-      }
+  links-answered call made message u r d p = links-left call (answeredBy made message u) r d p
 
   module _ (l : ℕ) where
-    pub change-did : (up : Bool) (u : Links) (r : Answered) → linkIn l ≡ true → u .active ≡ withLink (ls .active) l up
-        → r ≡ answeredBy false noMessage u → DidIt (Call.manage (Management.linkChange l up)) r
+    pub change-did : (up : Bool) (u : Links) (r : Answered) → linkIn l ≡ true → u ≡ linkSet ls l up → r ≡ answeredBy false noMessage u
+        → DidIt (Call.manage (Management.linkChange l up)) r
     unfolding linkDoes answeredBy
     change-did up u r h q p =
         links-answered (Call.manage (Management.linkChange l up)) false noMessage u r
         ((simp h)
-        ∙ ap (λ (x : List Bool). record { answer = plain; group = withLinks g x }) (sym (q ∙ ap (λ (x : List Bool). withLink x l up) (sym e))))
+        ∙ ap (λ (x : Links). record { answer = plain; group = withLinks g x }) (sym (q ∙ ap (λ (x : Links). linkSet x l up) (sym e))))
         p
 
     pub change-refused : (up : Bool) (r : Answered) → linkIn l ≡ false → r ≡ refusedBy 13 ls
@@ -197,26 +205,74 @@ module _ (ls : Links) (g : Group) (e : g .links ≡ ls .active) where
       module _ (h : linkIn l ≡ true) where
         pub message-down : activeB (ls .active) l ≡ false → r ≡ refusedBy 6 ls → DidIt message r
         unfolding linkMessageDoes
-        message-down d p =
-            let d′ : activeB (g .links) l ≡ false = ap (λ (x : List Bool). activeB x l) e ∙ d in
-            links-refused message 6 r (simp (h, d′)) p
+        message-down d p = links-refused message 6 r (simp (h, active-is l false d)) p
+
+        -- a message that changes no link
+        kept-links : (made : Bool) (m : List ℕ)
+            → linkMessageDoes g l b ≡ record { answer = record { says = accepted; made = made; message = m; out = [] }; group = g }
+            → r ≡ answeredBy made m ls → DidIt message r
+        unfolding answeredBy
+        kept-links made m d p =
+            links-answered message made m ls r
+            (d ∙ ap (λ (x : Links). record { answer = record { says = accepted; made = made; message = m; out = [] }; group = withLinks g x }) e)
+            p
 
         by-kind : (x : Kind) (reply : List ℕ) → linkMessageDoes g l b ≡ linkAnswer g x reply → r ≡ kindAnswer x reply ls → DidIt message r
-        unfolding answeredBy
         by-kind Kinds.Malformed reply d p = links-refused message 4 r d p
-        by-kind Kinds.Optional reply d p =
-            links-answered message false noMessage ls r (d ∙ ap (λ (x : List Bool). record { answer = plain; group = withLinks g x }) e) p
+        by-kind Kinds.Optional reply d p = kept-links false noMessage d p
         by-kind Kinds.Named reply d p = links-refused message 14 r d p
-        by-kind Kinds.TestRequest reply d p = links-answered message true reply ls r (d ∙ ap (λ (x : List Bool). record { answer = answerOf (answeredBy true reply ls) []; group = withLinks g x }) e) p
-        by-kind Kinds.TestReply reply d p =
-            links-answered message false noMessage ls r (d ∙ ap (λ (x : List Bool). record { answer = plain; group = withLinks g x }) e) p
+        by-kind Kinds.TestRequest reply d p = kept-links true reply d p
+        by-kind Kinds.TestReply reply d p = kept-links false noMessage d p
 
         pub message-did : activeB (ls .active) l ≡ true → (w : Received) → w ≡ receivedOf b → r ≡ kindAnswer (w .kind) (w .reply) ls
             → DidIt message r
         unfolding linkMessageDoes
         message-did d w hw p =
-            let d′ : activeB (g .links) l ≡ true = ap (λ (x : List Bool). activeB x l) e ∙ d in
-            by-kind (w .kind) (w .reply) ((simp (h, d′)) ∙ ap (λ (x : Received). linkAnswer g (x .kind) (x .reply)) (sym hw)) p
+            by-kind (w .kind) (w .reply)
+            ((simp (h, active-is l true d)) ∙ ap (λ (x : Received). linkAnswer g (x .kind) (x .reply)) (sym hw)) p
+
+    -- SAMPLE, by the number of its refusal
+    module _ (ms j : ℕ) (f : j ≡ sampleRefusal (ls .active) l ms) (r : Answered) where
+      abbrev sampling : Call
+      sampling = Call.manage (Management.sample l ms)
+
+      number-is : sampleRefusal (g .links) l ms ≡ j
+      number-is = ap (λ (x : Links). sampleRefusal (x .active) l ms) e ∙ sym f
+
+      pub sample-refused : (j ≡ 0 → ⊥) → r ≡ refusedBy j ls → DidIt sampling r
+      unfolding sampleDoes
+      sample-refused h p = links-refused sampling j r (simp (number-is, ne-eqb j 0 h)) p
+
+      -- a number that is refused nowhere is a sample
+      in-range : j ≡ 0 → leb ms mostMs ≡ true
+      unfolding sampleRefusal
+      in-range z = go (linkIn l) (activeB (ls .active) l) (leb ms mostMs) (sym f ∙ z)
+        where
+          go : (a b d : Bool) → _≡_ {A = ℕ} (cond (not a) 13 (cond (not b) 6 (cond (not d) 17 0))) 0 → d ≡ true
+          go true true true h = refl
+          go true true false h = absurd (omega arith)
+          go true false d h = absurd (omega arith)
+          go false b d h = absurd (omega arith)
+
+      module _ (z : j ≡ 0) where
+        pub sampled-is : (q after : Gauge) → q ≡ gaugeAt (ls .gauges) l → after ≡ cond (leb ms mostMs) (sampledOf q ms) q
+            → after ≡ sampledOf (gaugeAt (ls .gauges) l) ms
+        sampled-is q after hq ha =
+            ha ∙ (simp (in-range z)) ∙ ap (λ (x : Gauge). sampledOf x ms) hq
+
+        pub sample-did : (after : Gauge) → after ≡ sampledOf (gaugeAt (ls .gauges) l) ms → r ≡ healthBy (healthOf after) (gaugeSet ls l after)
+            → DidIt sampling r
+        unfolding sampleDoes healthBy
+        sample-did after ha p =
+            links-left sampling (healthBy (healthOf after) (gaugeSet ls l after)) r
+            ((simp (number-is, eq-eqb j 0 z)) ∙ (λ i. left (e i) (after-is i)))
+            p
+          where
+            after-is : sampledOf (gaugeAt (g .gauges) l) ms ≡ after
+            after-is = ap (λ (x : Links). sampledOf (gaugeAt (x .gauges) l) ms) e ∙ sym ha
+
+            left : Links → Gauge → Done
+            left x q = record { answer = healthy q; group = withLinks g (gaugeSet x l q) }
 
 -- ANY CALL: what holds of the call that was matched holds of the call
 module _ {x y : Managed} (e : x ≡ y) (s n : ℕ) (m l : List ℕ) (count : ℕ) (ls : Links) (holder : ℕ) (rec : Record) (b : List ℕ) (r : Turned) where
@@ -231,8 +287,8 @@ pub links-did : (s n : ℕ) (m : List ℕ) (count : ℕ) (ls : Links) (q : Manag
     → DidLinks ls (Call.manage q) r → (d : Turned) → d ≡ keptBy rec r → DidIn s n m m count ls (Call.manage q) token holder 0 rec d []
 unfolding withRecord keptBy
 links-did s n m count ls q token holder rec r h d p t e f i =
-    let y = h (groupOf s n t (ls .active) m) refl in
+    let y = h (groupOf s n t ls m) refl in
     record {
       answered = ap (λ (x : Turned). answerOf (x .answer) []) p ∙ y .answered;
-      left = ap (λ (x : Turned). groupOf s n t (x .answer .links .active) m) p ∙ y .left;
+      left = ap (λ (x : Turned). groupOf s n t (x .answer .links) m) p ∙ y .left;
     }

@@ -1,18 +1,19 @@
 // The calls of management, document 01's desk calls ("Desk calls"). Open and free act on one record, as the calls of a connection do: each is
-// lent S, N and the memory, and is given the table's length, the links, a slot and the record that the slot shows. Link change and link
-// message see the links alone.
+// lent S, N and the memory, and is given the table's length, the links, a slot and the record that the slot shows. Link change, link message
+// and sample (request 2026-10) see the links and their gauges alone.
 ghost use mathlib.Core.Path.{_≡_};
 ghost use mathlib.Core.List.{List, []};
 ghost use lib.ListN.{length};
 ghost use Rattle.connection.specs.declared.Record.{Record};
 ghost use Rattle.table.specs.Table.{recordAt, holderIn};
 ghost use Rattle.rules.specs.Rules as Rules;
-ghost use Rattle.rules.specs.Rules.{Call, badOpening, openRefusal, freeRefusal, groupOf};
+ghost use Rattle.rules.specs.Rules.{Call, badOpening, openRefusal, freeRefusal, sampleRefusal, groupOf};
 ghost use Rattle.rules.specs.Promises.{DidOn, DidIn, DidLinks};
-ghost use Rattle.management.specs.Management.{answeredBy, kindAnswer, managementOf, tokenOf, slotOf};
+ghost use Rattle.management.specs.Management.{answeredBy, kindAnswer, healthBy, managementOf, tokenOf, slotOf};
 use connection::Opening;
 use connection::Record;
 use connection::Reply;
+use gauge::Health;
 use llc::Kind;
 use table::Answered;
 use table::Links;
@@ -28,6 +29,8 @@ pub enum Management {
     LinkChange(u8, bool),
     // a link
     LinkMessage(u8),
+    // a link, and an answer time in milliseconds
+    Sample(u8, u32),
 }
 
 // Whether what open is given is refused with 12: a zero token, or N' out of range.
@@ -53,7 +56,7 @@ fn open_refusal(
 ) -> u8
     ensures { λ r.
         ⌜ ((t : List Record) → length t ≡ count → holder ≡ holderIn t (given .own) → rec ≡ recordAt t slot
-        → r ≡ openRefusal (groupOf s n t (links .active) (now (mem .entry))) slot given) ⌝ }
+        → r ≡ openRefusal (groupOf s n t links (now (mem .entry))) slot given) ⌝ }
 {
     let wrong = !table::sizes_ok(s, n, mem.len(), count);
     let outside = !table::slot_ok(s, slot);
@@ -108,7 +111,7 @@ fn free_refusal(
 ) -> u8
     ensures { λ r.
         ⌜ ((t : List Record) → length t ≡ count → rec ≡ recordAt t slot
-        → r ≡ freeRefusal (groupOf s n t (links .active) (now (mem .entry))) slot) ⌝ }
+        → r ≡ freeRefusal (groupOf s n t links (now (mem .entry))) slot) ⌝ }
 {
     let wrong = !table::sizes_ok(s, n, mem.len(), count);
     let closed = !(table::slot_ok(s, slot) & rec.id.opened);
@@ -189,6 +192,43 @@ pub fn link_message(links: Links, link: u8, bytes: &[u8]) -> Answered
     }
 }
 
+// The refusal that sample gives: 13, 6, 17; 0 for none.
+fn sample_refusal(links: Links, link: u8, ms: u32) -> u8
+    ensures { λ r. ⌜ r ≡ sampleRefusal (links .active) link ms ⌝ }
+{
+    let outside = !table::link_ok(link);
+    let down = !table::link_active(links, link);
+    let long = !gauge::is_sample(ms);
+    let no_17 = table::refusal_if(long, 17, 0);
+    let no_6 = table::refusal_if(down, 6, no_17);
+    table::refusal_if(outside, 13, no_6)
+}
+
+// A sample's answer: the health, no message, and the links with the gauge that it leaves.
+fn health_answer(health: Health, links: Links) -> Answered
+    ensures { λ r. ⌜ r ≡ healthBy health links ⌝ }
+{
+    Answered {
+        reply: Reply::Sampled(health),
+        made: false,
+        message: [0u8; 44],
+        links: links,
+    }
+}
+
+pub fn sample(links: Links, link: u8, ms: u32) -> Answered
+    ensures { λ r. ⌜ DidLinks links (Call.manage (Rules.Management.sample link ms)) r ⌝ }
+{
+    let no = sample_refusal(links, link, ms);
+    if no == 0 {
+        let after = gauge::sampled(table::gauge_of(links, link), ms);
+        let next = table::set_gauge(links, link, after);
+        health_answer(gauge::health_of(after), next)
+    } else {
+        table::refuse(no, links)
+    }
+}
+
 // The own token that an open looks for in the table; 0 for none.
 pub fn token_of(call: Management) -> u32
     ensures { λ r. ⌜ r ≡ tokenOf call ⌝ }
@@ -198,6 +238,7 @@ pub fn token_of(call: Management) -> u32
         Management::Free(_) => 0,
         Management::LinkChange(_, _) => 0,
         Management::LinkMessage(_) => 0,
+        Management::Sample(_, _) => 0,
     }
 }
 
@@ -210,6 +251,7 @@ pub fn slot_of(call: Management) -> u32
         Management::Free(slot) => slot,
         Management::LinkChange(_, _) => 0,
         Management::LinkMessage(_) => 0,
+        Management::Sample(_, _) => 0,
     }
 }
 
@@ -234,5 +276,6 @@ pub fn manage(
         Management::Free(slot) => free(s, n, mem, count, links, slot, rec),
         Management::LinkChange(link, up) => table::kept(rec, link_change(links, link, up)),
         Management::LinkMessage(link) => table::kept(rec, link_message(links, link, bytes)),
+        Management::Sample(link, ms) => table::kept(rec, sample(links, link, ms)),
     }
 }

@@ -13,13 +13,16 @@ use borrow.Author.Tests.{eqb-true, ltb-false, not-false}
 use Rattle.llc.specs.declared.Kind.{Kind}
 use Rattle.llc.specs.declared.Kind.the-variants as Kinds
 use Rattle.llc.specs.Llc.{receivedOf}
+use Rattle.gauge.specs.declared.Gauge.{Gauge}
+use Rattle.gauge.specs.Gauge.{sampledOf}
 use Rattle.element.specs.Element.{freshElement}
 use Rattle.element.proofs.Others.{fresh-length}
 use Rattle.connection.specs.Connection.{zeroRecord}
 use Rattle.connection.specs.declared.Opening.{Opening}
-use Rattle.table.specs.Table.{slotB, openB, linkIn, activeB, findFrom, withLink}
+use Rattle.table.specs.declared.Links.{Links}
+use Rattle.table.specs.Table.{slotB, openB, linkIn, activeB, findFrom, gaugeAt, gaugeSet, linkSet}
 use Rattle.connection.specs.Connection.{openedRecord}
-use Rattle.rules.specs.Rules.{Group, manage, Management, openSlot, freeSlot, linkChange, linkMessage, Turn, next, plain, refuses, sizesOk, recordOf, elementIn, putTurn, plainTurn, badOpening, withLinks, openRefusal, openDoes, freeRefusal, freeDoes, linkDoes, linkAnswer, linkMessageDoes}
+use Rattle.rules.specs.Rules.{Group, manage, Management, openSlot, freeSlot, linkChange, linkMessage, sample, Turn, next, plain, healthy, refuses, sizesOk, recordOf, elementIn, putTurn, plainTurn, badOpening, linksOf, withLinks, openRefusal, openDoes, freeRefusal, freeDoes, linkDoes, linkAnswer, linkMessageDoes, sampleRefusal, sampleDoes}
 use Rattle.order.proofs.Slots.{slot-in, open-in, open-is, open-found, element-long, Sizes, sizes-in, Put, put}
 use Rattle.order.proofs.Acts.{OpenAt, ownOf}
 use Rattle.order.proofs.Near.{Good, enough}
@@ -121,15 +124,16 @@ free-good g k good = go (eqb (freeRefusal g k) 0) refl
         let b = past (not (openB (g .S) (g .table) k)) 1 _ (a .1) in
         by k (not-false (openB (g .S) (g .table) k) (b .0))
 
+-- whatever its links and gauges
+links-good : (g : Group) (ls : Links) → Good g → Good (withLinks g ls)
+links-good g ls good = record { sizes = good .sizes; apart = good .apart }
+
 link-good : (g : Group) (l : ℕ) (up : Bool) → Good g → Good ((linkDoes g l up) .group)
 unfolding linkDoes refuses
 link-good g l up good = go (linkIn l)
   where
-    with-link : Group
-    with-link = withLinks g (withLink (g .links) l up)
-
-    go : (t : Bool) → Good ((cond t (record { answer = plain; group = with-link }) (refuses g 13 [])) .group)
-    go true = record { sizes = good .sizes; apart = good .apart }
+    go : (t : Bool) → Good ((cond t (record { answer = plain; group = withLinks g (linkSet (linksOf g) l up) }) (refuses g 13 [])) .group)
+    go true = links-good g (linkSet (linksOf g) l up) good
     go false = good
 
 answer-good : (g : Group) (k : Kind) (reply : List ℕ) → Good g → Good ((linkAnswer g k reply) .group)
@@ -149,8 +153,21 @@ message-good g l b good = go (linkIn l) (activeB (g .links) l)
     go true false = good
     go false u = good
 
+sample-good : (g : Group) (l ms : ℕ) → Good g → Good ((sampleDoes g l ms) .group)
+unfolding sampleDoes refuses
+sample-good g l ms good = go (eqb (sampleRefusal (g .links) l ms) 0)
+  where
+    q : Gauge
+    q = sampledOf (gaugeAt (g .gauges) l) ms
+
+    go : (t : Bool)
+        → Good ((cond t (record { answer = healthy q; group = withLinks g (gaugeSet (linksOf g) l q) }) (refuses g (sampleRefusal (g .links) l ms) [])) .group)
+    go true = links-good g (gaugeSet (linksOf g) l q) good
+    go false = good
+
 pub manage-good : (g : Group) (d : Management) → Good g → Good (next g (manage d))
 manage-good g (openSlot k o) good = open-good g k o good
 manage-good g (freeSlot k) good = free-good g k good
 manage-good g (linkChange l up) good = link-good g l up good
 manage-good g (linkMessage l b) good = message-good g l b good
+manage-good g (sample l ms) good = sample-good g l ms good

@@ -36,6 +36,7 @@ pub record Near (b g : Group) : Type 0 where
   pub kept-S : g .S ≡ b .S
   pub kept-N : g .N ≡ b .N
   pub kept-links : g .links ≡ b .links
+  pub kept-gauges : g .gauges ≡ b .gauges
   pub kept-memory : length (g .memory) ≡ length (b .memory)
   pub kept-table : length (g .table) ≡ length (b .table)
   -- nothing is opened, and what is open is what it was
@@ -48,6 +49,7 @@ near-start b h =
       kept-S = refl;
       kept-N = refl;
       kept-links = refl;
+      kept-gauges = refl;
       kept-memory = refl;
       kept-table = refl;
       kept-open = λ i o. (o, refl);
@@ -84,6 +86,7 @@ module _ (b g : Group) (n : Near b g) where
         kept-S = p .put-S ∙ n .kept-S;
         kept-N = p .put-N ∙ n .kept-N;
         kept-links = p .put-links ∙ n .kept-links;
+        kept-gauges = p .put-gauges ∙ n .kept-gauges;
         kept-memory = p .put-memory ∙ n .kept-memory;
         kept-table = p .put-table ∙ n .kept-table;
         kept-open = λ j x. opened j x (ℕ-discrete j i);
@@ -213,6 +216,7 @@ module _ (b g h : Group) (n : Near b g) (m : Near b h) where
         N = same-N x;
         table = tables x;
         links = (n .kept-links ∙ sym (m .kept-links)) x;
+        gauges = (n .kept-gauges ∙ sym (m .kept-gauges)) x;
         memory = memories x;
       }
     where

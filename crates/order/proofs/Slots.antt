@@ -182,6 +182,7 @@ module _ (g : Group) (i : ℕ) (t : Turn) where
     pub put-S : h .S ≡ g .S
     pub put-N : h .N ≡ g .N
     pub put-links : h .links ≡ g .links
+    pub put-gauges : h .gauges ≡ g .gauges
     pub put-memory : length (h .memory) ≡ length (g .memory)
     pub put-table : length (h .table) ≡ length (g .table)
     pub this-record : recordOf h (suc i) ≡ t .after
@@ -196,6 +197,7 @@ module _ (g : Group) (i : ℕ) (t : Turn) where
         put-S = refl;
         put-N = refl;
         put-links = refl;
+        put-gauges = refl;
         put-memory = memory-long (g .N) (g .S) (g .memory) whole i inside (t .element) fits;
         put-table = table-long (g .table) (suc i) (t .after);
         this-record = record-same (g .table) i (t .after) there;

@@ -12,10 +12,11 @@ use lib.ListN.{length, getElem?, replicate, length-append}
 use Rattle.cursor.specs.Cursor.{inRange, movedOf, stepOf, turnsOf, distanceOf, goodB, gapOf}
 use Rattle.cdc.specs.Cdc.{highByte, lowByte, encodeOf}
 use Rattle.flow.specs.Flow.{roomOf, takenOf, firstOf, placingsOf}
+use Rattle.gauge.specs.Gauge.{clearedOf}
 use Rattle.element.specs.Element.{part, elementOf, splice, freshElement}
 use Rattle.connection.specs.Connection.{zeroRecord, numbersOk, offsetsOk, distancesOk, coherentB, refusalOf, messageOf, toldIn, usedIn, toldOf, outcomeOf, refusedOf}
 use Rattle.transmit.specs.Transmit.{sendForbids, nOf, producedOut, producedOf, tellsOf, sentOf, sendOf}
-use Rattle.table.specs.Table.{sizesB, slotB, recordAt, openB, activeB, holdsB, lowest, findFrom, withRecord, withLink}
+use Rattle.table.specs.Table.{sizesB, slotB, recordAt, openB, activeB, gaugeAt, holdsB, lowest, findFrom, withRecord, withLink, linkSet}
 use Rattle.connection.specs.declared.Opening.{Opening}
 use Rattle.connection.specs.Connection.{openedRecord}
 use Rattle.rules.specs.Rules.{Group, send, openSlot, linkChange, Call, on, manage, Says, accepted, sent, Answer, turnOf, requestTurn, refuses, putTurn, onDoes, openRefusal, openDoes, linkDoes, next, Fresh}
@@ -30,12 +31,13 @@ aGroup =
       N = 8;
       table = zeroRecord ∷ zeroRecord ∷ [];
       links = false ∷ false ∷ false ∷ false ∷ [];
+      gauges = clearedOf ∷ clearedOf ∷ clearedOf ∷ clearedOf ∷ [];
       memory = replicate 16 0;
     }
 
 pub a-fresh-group : Fresh aGroup
-unfolding sizesB slotB recordAt openB activeB zeroRecord
-a-fresh-group = record { sizes = refl; closed = shut; down = off; zeros = refl }
+unfolding sizesB slotB recordAt openB activeB gaugeAt zeroRecord
+a-fresh-group = record { sizes = refl; closed = shut; down = off; unheard = empty; zeros = refl }
   where
     shut : (k : ℕ) → openB 2 (zeroRecord ∷ zeroRecord ∷ []) k ≡ false
     shut zero = refl
@@ -50,6 +52,14 @@ a-fresh-group = record { sizes = refl; closed = shut; down = off; zeros = refl }
     off (suc (suc (suc zero))) = refl
     off (suc (suc (suc (suc zero)))) = refl
     off (suc (suc (suc (suc (suc l))))) = refl
+
+    empty : (l : ℕ) → gaugeAt (clearedOf ∷ clearedOf ∷ clearedOf ∷ clearedOf ∷ []) l ≡ clearedOf
+    empty zero = refl
+    empty (suc zero) = refl
+    empty (suc (suc zero)) = refl
+    empty (suc (suc (suc zero))) = refl
+    empty (suc (suc (suc (suc zero)))) = refl
+    empty (suc (suc (suc (suc (suc l))))) = refl
 
 -- numbers n and n + 1 change places
 swap : ℕ → ℕ → ℕ
@@ -162,7 +172,7 @@ secondly = opening ++ two ∷ one ∷ []
 
 -- whose each call is, by the groups as the spans begin
 pub owners-are : whose aGroup firstly ≡ the-manager ∷ the-manager ∷ the-manager ∷ connection 1 ∷ connection 2 ∷ []
-unfolding whoseFrom ownerOf inRange movedOf stepOf turnsOf distanceOf goodB gapOf highByte lowByte encodeOf roomOf takenOf firstOf placingsOf part elementOf splice freshElement zeroRecord numbersOk offsetsOk distancesOk coherentB refusalOf messageOf toldIn usedIn toldOf outcomeOf refusedOf sendForbids nOf producedOut producedOf tellsOf sentOf sendOf sizesB slotB recordAt openB activeB holdsB lowest findFrom withRecord withLink turnOf requestTurn refuses putTurn onDoes openedRecord openRefusal openDoes linkDoes
+unfolding whoseFrom ownerOf inRange movedOf stepOf turnsOf distanceOf goodB gapOf highByte lowByte encodeOf roomOf takenOf firstOf placingsOf part elementOf splice freshElement zeroRecord numbersOk offsetsOk distancesOk coherentB refusalOf messageOf toldIn usedIn toldOf outcomeOf refusedOf sendForbids nOf producedOut producedOf tellsOf sentOf sendOf sizesB slotB recordAt openB activeB holdsB lowest findFrom withRecord withLink linkSet turnOf requestTurn refuses putTurn onDoes openedRecord openRefusal openDoes linkDoes
 owners-are = refl
 
 pub sends-swapped : AnotherOrder aGroup firstly secondly
@@ -177,11 +187,11 @@ abbrev sends : ℕ → Says
 sends n = sent n (record { offset = 4; start = 0; len = n } ∷ [])
 
 pub said-first : map (λ (a : Answer). a .says) (answers aGroup firstly) ≡ accepted ∷ accepted ∷ accepted ∷ sends 2 ∷ sends 3 ∷ []
-unfolding answers inRange movedOf stepOf turnsOf distanceOf goodB gapOf highByte lowByte encodeOf roomOf takenOf firstOf placingsOf part elementOf splice freshElement zeroRecord numbersOk offsetsOk distancesOk coherentB refusalOf messageOf toldIn usedIn toldOf outcomeOf refusedOf sendForbids nOf producedOut producedOf tellsOf sentOf sendOf sizesB slotB recordAt openB activeB holdsB lowest findFrom withRecord withLink turnOf requestTurn refuses putTurn onDoes openedRecord openRefusal openDoes linkDoes
+unfolding answers inRange movedOf stepOf turnsOf distanceOf goodB gapOf highByte lowByte encodeOf roomOf takenOf firstOf placingsOf part elementOf splice freshElement zeroRecord numbersOk offsetsOk distancesOk coherentB refusalOf messageOf toldIn usedIn toldOf outcomeOf refusedOf sendForbids nOf producedOut producedOf tellsOf sentOf sendOf sizesB slotB recordAt openB activeB holdsB lowest findFrom withRecord withLink linkSet turnOf requestTurn refuses putTurn onDoes openedRecord openRefusal openDoes linkDoes
 said-first = refl
 
 pub said-second : map (λ (a : Answer). a .says) (answers aGroup secondly) ≡ accepted ∷ accepted ∷ accepted ∷ sends 3 ∷ sends 2 ∷ []
-unfolding answers inRange movedOf stepOf turnsOf distanceOf goodB gapOf highByte lowByte encodeOf roomOf takenOf firstOf placingsOf part elementOf splice freshElement zeroRecord numbersOk offsetsOk distancesOk coherentB refusalOf messageOf toldIn usedIn toldOf outcomeOf refusedOf sendForbids nOf producedOut producedOf tellsOf sentOf sendOf sizesB slotB recordAt openB activeB holdsB lowest findFrom withRecord withLink turnOf requestTurn refuses putTurn onDoes openedRecord openRefusal openDoes linkDoes
+unfolding answers inRange movedOf stepOf turnsOf distanceOf goodB gapOf highByte lowByte encodeOf roomOf takenOf firstOf placingsOf part elementOf splice freshElement zeroRecord numbersOk offsetsOk distancesOk coherentB refusalOf messageOf toldIn usedIn toldOf outcomeOf refusedOf sendForbids nOf producedOut producedOf tellsOf sentOf sendOf sizesB slotB recordAt openB activeB holdsB lowest findFrom withRecord withLink linkSet turnOf requestTurn refuses putTurn onDoes openedRecord openRefusal openDoes linkDoes
 said-second = refl
 
 -- sentence 3, of these two lists

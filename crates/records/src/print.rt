@@ -1,4 +1,4 @@
-// The tables as the answer of a `table` line: a line for each slot, and the links.
+// The tables as the answer of a `table` line: a line for each slot, the links, and a line for each gauge.
 ghost use Prim.Native.Nat.{_≤_};
 use connection::Record;
 use cursor::Cursor;
@@ -84,7 +84,7 @@ fn slots(o: &mut [u8; 65536], at: usize, table: [Record; crate::ROWS], count: us
     to
 }
 
-// The lines of the slots that a table of `count` records has, and whether each link is up.
+// The lines of the slots that a table of `count` records has, whether each link is up, and the gauges.
 pub fn tables(
     o: &mut [u8; 65536],
     at: usize,
@@ -95,11 +95,13 @@ pub fn tables(
     ensures { λ r. ⌜ r ≤ 65536 ⌝ }
 {
     let up = links.active;
+    let gauges = links.gauges;
     let a = slots(o, at, table, count);
     let b = output::text(o, a, b"links");
     let c = flag(o, b, up[0]);
     let d = flag(o, c, up[1]);
     let e = flag(o, d, up[2]);
     let f = flag(o, e, up[3]);
-    output::byte(o, f, b'\n')
+    let g = output::byte(o, f, b'\n');
+    gauge_text::lines(o, g, gauges)
 }

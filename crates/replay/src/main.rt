@@ -1,6 +1,6 @@
 // Replays calls on one group: reads a call from each line of the standard input, makes it, and prints its answer. What a line may be and
 // what is printed is fixed by the replay format; what a call answers is the group's alone. Lines are parsed by `lines`, answers printed by
-// `answers`, both over the streams of `stream`; a record's numbers are read and printed by `records`.
+// `answers`, both over the streams of `stream`; a record's numbers are read and printed by `records`, a gauge's by `gauge_text`.
 //
 // Five buffers are lent throughout: `mem` the receive memory, `given` the bytes of a line, `out` the out buffer of a read, `buf` the
 // input and `o` the output.
@@ -8,6 +8,7 @@ ghost use mathlib.Core.Path.{_≡_};
 ghost use Prim.Native.Nat.{_≤_};
 ghost use Rattle.group.specs.Group.{OutKept};
 use connection::Record;
+use gauge::Gauge;
 use group::Command;
 use lines::Line;
 use pool_text::PoolLine;
@@ -89,10 +90,14 @@ fn on_rows(
     beside(rows, answer)
 }
 
-// A fresh group: every slot all zeros, every link down. The pool stays as it is.
+// A fresh group: every slot all zeros, every link down, every gauge cleared. The pool stays as it is.
 fn fresh(s: u32, n: u32, len: usize, count: usize, books: [u8; 64], at: usize) -> World {
     let z = connection::zero_record();
-    let links = Links { active: [false; 4] };
+    let g = gauge::cleared();
+    let links = Links {
+        active: [false; 4],
+        gauges: [g; 4],
+    };
     World {
         s: s,
         n: n,
@@ -253,6 +258,26 @@ fn table(o: &mut [u8; 65536], w: World) -> World {
     filled_to(w, at)
 }
 
+// A link's health, as the press room sees it.
+fn health(o: &mut [u8; 65536], w: World, link: u8) -> World {
+    let links = w.links;
+    let g = table::gauge_of(links, link);
+    let a = output::text(o, w.at, b"health ");
+    let at = gauge_text::health(o, a, gauge::health_of(g));
+    filled_to(w, at)
+}
+
+// Lays a gauge in at a link.
+fn lay_gauge(o: &mut [u8; 65536], w: World, link: u8, g: Gauge) -> World {
+    let before = w.links;
+    let after = table::set_gauge(before, link, g);
+    let at = output::text(o, w.at, b"gauge\n");
+    let mut next = w;
+    next.links = after;
+    next.at = at;
+    next
+}
+
 // A line of the pool, made on its books.
 fn pool_line(given: &[u8], o: &mut [u8; 65536], w: World, line: PoolLine) -> World {
     let books = w.books;
@@ -272,6 +297,8 @@ fn aside(mem: &mut [u8], given: &[u8], o: &mut [u8; 65536], w: World, line: Line
         Line::Poke(at, count) => poke(mem, given, o, w, at, count),
         Line::Table => table(o, w),
         Line::Memory(at, count) => memory(mem, o, w, at, count),
+        Line::Health(link) => health(o, w, link),
+        Line::Gauge(link, g) => lay_gauge(o, w, link, g),
         Line::Pool(p) => pool_line(given, o, w, p),
         Line::Skipped => w,
         _ => bad(o, w),

@@ -29,7 +29,7 @@ two-tests f x false b j e h = ap f (sym e)
 
 module _ (s n : ℕ) (t : List Record) (ls : Links) (m : List ℕ) where
   abbrev g : Group
-  g = groupOf s n t (ls .active) m
+  g = groupOf s n t ls m
 
   -- what the rules refuse: the record that the slot shows is put back
   pub refused : (call : Call) (out : List ℕ) (k j : ℕ) (c : Record) (a : Turned) → c ≡ recordAt t k → does g call ≡ refuses g j out
@@ -39,8 +39,8 @@ module _ (s n : ℕ) (t : List Record) (ls : Links) (m : List ℕ) where
       record {
         answered = ap (λ (b : Turned). answerOf (b .answer) out) e ∙ sym (ap (λ (w : Done). w .answer) d);
         left =
-            ap (λ (b : Turned). groupOf s n (withRecord t k (b .after)) (b .answer .links .active) m) e
-            ∙ ap (λ (u : List Record). groupOf s n u (ls .active) m) (ap (withRecord t k) hc ∙ record-kept t k)
+            ap (λ (b : Turned). groupOf s n (withRecord t k (b .after)) (b .answer .links) m) e
+            ∙ ap (λ (u : List Record). groupOf s n u ls m) (ap (withRecord t k) hc ∙ record-kept t k)
             ∙ sym (ap (λ (w : Done). w .group) d);
       }
 
@@ -52,7 +52,7 @@ module _ (s n : ℕ) (t : List Record) (ls : Links) (m : List ℕ) where
       record {
         answered = ap (λ (b : Turned). answerOf (b .answer) out) p ∙ sym (ap (λ (w : Done). w .answer) d);
         left =
-            (λ i. groupOf s n (withRecord t k (p i .after)) (p i .answer .links .active) (h i)) ∙ sym (ap (λ (w : Done). w .group) d);
+            (λ i. groupOf s n (withRecord t k (p i .after)) (p i .answer .links) (h i)) ∙ sym (ap (λ (w : Done). w .group) d);
       }
 
   -- ANY CALL ON ONE RECORD, by the number of its refusal

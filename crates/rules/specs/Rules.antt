@@ -1,4 +1,4 @@
--- Document 01's rules for a whole group: what each of the eleven calls answers, and the group that it leaves.
+-- Document 01's rules for a whole group: what each of the twelve calls answers, and the group that it leaves.
 -- The contracts of the calls cite `Did`, which is `answer` and `next`; the theorems about lists of calls cite these and `Fresh`, and, for
 -- whose a call is and what it sees, `recordOf`, `elementIn`, `linkOf` and `holderOf`.
 -- Assumes nothing.
@@ -21,11 +21,14 @@ use Rattle.closing.specs.declared.State.{State}
 use Rattle.flow.specs.declared.Placing.{Placing}
 use Rattle.flow.specs.declared.Placings.{Placings}
 use Rattle.flow.specs.declared.Placings.the-variants.{Nowhere, One, Two}
+use Rattle.gauge.specs.declared.Gauge.{Gauge}
+use Rattle.gauge.specs.declared.Health.{Health}
+use Rattle.gauge.specs.Gauge.{mostMs, clearedOf, sampledOf, healthOf}
 use Rattle.element.specs.Element.{baseOf, elementOf, splice, intactB, freshElement, intoOut}
 use Rattle.connection.specs.declared.Record.{Record}
 use Rattle.connection.specs.declared.Opening.{Opening}
 use Rattle.connection.specs.declared.Reply.{Reply}
-use Rattle.connection.specs.declared.Reply.the-variants.{Refused, Accepted, Sent, Read, Torn, Reset, Heard}
+use Rattle.connection.specs.declared.Reply.the-variants.{Refused, Accepted, Sent, Read, Torn, Reset, Heard, Sampled}
 use Rattle.connection.specs.declared.Effect.{Effect}
 use Rattle.connection.specs.declared.Effect.the-variants.{Nothing, Stores, Copies}
 use Rattle.connection.specs.declared.Outcome.{Outcome}
@@ -34,27 +37,33 @@ use Rattle.transmit.specs.Transmit.{sendOf}
 use Rattle.receive.specs.Receive.{placeOf, readOf}
 use Rattle.hear.specs.Hear.{hearOf}
 use Rattle.finish.specs.Finish.{shutdownOf, closeOf, abortOf}
+use Rattle.table.specs.declared.Links.{Links}
 use Rattle.table.specs.declared.Answered.{Answered}
-use Rattle.table.specs.Table.{sizesB, slotB, recordAt, openB, linkIn, activeB, findFrom, withRecord, withLink}
+use Rattle.table.specs.Table.{sizesB, slotB, recordAt, openB, linkIn, activeB, gaugeAt, findFrom, withRecord, gaugeSet, linkSet}
 
--- A group: S and N, one connection table, four links, one receive memory. The code is given four links by its type; the rules are said for
--- lists of any length.
+-- A group: S and N, one connection table, four links, a gauge for each, one receive memory. The code is given four links and gauges by its
+-- type; the rules are said for lists of any length.
 pub record Group : Type 0 where
   pub S : ℕ
   pub N : ℕ
   pub table : List Record
   pub links : List Bool
+  pub gauges : List Gauge
   pub memory : List ℕ
 
 -- the group with another table, other links, another memory
 abbrev pub withTable : Group → List Record → Group
-withTable g t = record { S = g .S; N = g .N; table = t; links = g .links; memory = g .memory }
+withTable g t = record { S = g .S; N = g .N; table = t; links = g .links; gauges = g .gauges; memory = g .memory }
 
-abbrev pub withLinks : Group → List Bool → Group
-withLinks g l = record { S = g .S; N = g .N; table = g .table; links = l; memory = g .memory }
+abbrev pub withLinks : Group → Links → Group
+withLinks g l = record { S = g .S; N = g .N; table = g .table; links = l .active; gauges = l .gauges; memory = g .memory }
 
 abbrev pub withMemory : Group → List ℕ → Group
-withMemory g m = record { S = g .S; N = g .N; table = g .table; links = g .links; memory = m }
+withMemory g m = record { S = g .S; N = g .N; table = g .table; links = g .links; gauges = g .gauges; memory = m }
+
+-- its links with their gauges
+abbrev pub linksOf : Group → Links
+linksOf g = record { active = g .links; gauges = g .gauges }
 
 -- THE CALLS, each with all bytes lent to it.
 
@@ -68,12 +77,13 @@ pub data Request : Type 0 where
   abort : Request
 
 -- of management, document 01's desk calls: open takes a slot and what the connection is given (own token, peer token, link, N'); link change
--- a link and whether it is active; link message a link and bytes
+-- a link and whether it is active; link message a link and bytes; sample (request 2026-10) a link and milliseconds
 pub data Management : Type 0 where
   openSlot : ℕ → Opening → Management
   freeSlot : ℕ → Management
   linkChange : ℕ → Bool → Management
   linkMessage : ℕ → List ℕ → Management
+  sample : ℕ → ℕ → Management
 
 pub data Call : Type 0 where
   on : ℕ → Request → Call
@@ -90,6 +100,7 @@ pub data Says : Type 0 where
   torn : Says
   heard : ℕ → State → Says
   reset : Says
+  sampled : Health → Says
 
 -- 44 zeros stand in the place of a message where none is made
 pub record Answer : Type 0 where
@@ -112,6 +123,7 @@ saysOf (Read n) = wasRead n
 saysOf Torn = torn
 saysOf (Heard moved state) = heard moved state
 saysOf Reset = reset
+saysOf (Sampled h) = sampled h
 
 -- ONE SLOT. A call of a connection, from N, whether its link is active, its record, its element's bytes and what is lent: its answer,
 -- the record and the bytes that it leaves. It sees nothing else.
@@ -260,10 +272,9 @@ freeDoes g k =
     let j = freeRefusal g k in
     cond (eqb j 0) (putTurn g k (plainTurn zeroRecord (elementIn g k))) (refuses g j [])
 
--- Link change: 13; it sets one link
+-- Link change: 13; it sets one link, and one that is set down loses its gauge
 unfoldable pub linkDoes : Group → ℕ → Bool → Done
-linkDoes g l up =
-    cond (linkIn l) (record { answer = plain; group = withLinks g (withLink (g .links) l up) }) (refuses g 13 [])
+linkDoes g l up = cond (linkIn l) (record { answer = plain; group = withLinks g (linkSet (linksOf g) l up) }) (refuses g 13 [])
 
 -- Link message: optional is discarded, a TEST LINK request is answered by a reply, a reply is taken and nothing follows;
 -- 4: malformed; 14: a named link message other than 07
@@ -281,11 +292,27 @@ linkMessageDoes g l b =
     (cond (activeB (g .links) l) (linkAnswer g (receivedOf b .kind) (receivedOf b .reply)) (refuses g 6 []))
     (refuses g 13 [])
 
+-- Sample: 13, 6, 17 (above 60,000 milliseconds); 0: not refused
+unfoldable pub sampleRefusal : List Bool → ℕ → ℕ → ℕ
+sampleRefusal links l ms = cond (not (linkIn l)) 13 (cond (not (activeB links l)) 6 (cond (not (leb ms mostMs)) 17 0))
+
+-- it answers the health that the gauge then has
+abbrev pub healthy : Gauge → Answer
+healthy q = record { says = sampled (healthOf q); made = false; message = noMessage; out = [] }
+
+-- that link's gauge has one sample more, and nothing else changes
+unfoldable pub sampleDoes : Group → ℕ → ℕ → Done
+sampleDoes g l ms =
+    let j = sampleRefusal (g .links) l ms in
+    let q = sampledOf (gaugeAt (g .gauges) l) ms in
+    cond (eqb j 0) (record { answer = healthy q; group = withLinks g (gaugeSet (linksOf g) l q) }) (refuses g j [])
+
 abbrev pub manageDoes : Group → Management → Done
 manageDoes g (openSlot k o) = openDoes g k o
 manageDoes g (freeSlot k) = freeDoes g k
 manageDoes g (linkChange l up) = linkDoes g l up
 manageDoes g (linkMessage l b) = linkMessageDoes g l b
+manageDoes g (sample l ms) = sampleDoes g l ms
 
 abbrev pub does : Group → Call → Done
 does g (on k q) = onDoes g k q
@@ -305,15 +332,17 @@ pub record Did (g : Group) (c : Call) (a : Answer) (h : Group) : Type 0 where
   pub left : h ≡ next g c
 
 -- what is lent to the code, as a group; and what it returns, as an answer
-abbrev pub groupOf : ℕ → ℕ → List Record → List Bool → List ℕ → Group
-groupOf s n t l m = record { S = s; N = n; table = t; links = l; memory = m }
+abbrev pub groupOf : ℕ → ℕ → List Record → Links → List ℕ → Group
+groupOf s n t l m = record { S = s; N = n; table = t; links = l .active; gauges = l .gauges; memory = m }
 
 abbrev pub answerOf : Answered → List ℕ → Answer
 answerOf r out = record { says = saysOf (r .reply); made = r .made; message = r .message; out = out }
 
--- A fresh group has S and N in range, a table of S records, every slot closed (whatever else it holds), every link down and memory all zeros.
+-- A fresh group has S and N in range, a table of S records, every slot closed (whatever else it holds), every link down, every gauge cleared
+-- and memory all zeros.
 pub record Fresh (g : Group) : Type 0 where
   pub sizes : sizesOk g ≡ true
   pub closed : (k : ℕ) → openB (g .S) (g .table) k ≡ false
   pub down : (l : ℕ) → activeB (g .links) l ≡ false
+  pub unheard : (l : ℕ) → gaugeAt (g .gauges) l ≡ clearedOf
   pub zeros : g .memory ≡ replicate (length (g .memory)) 0

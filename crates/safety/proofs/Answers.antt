@@ -6,14 +6,14 @@ use native.Mathlib.Omega.{arith}
 use Rattle.cdc.specs.declared.Message.{Message}
 use Rattle.connection.specs.declared.Record.{Record}
 use Rattle.connection.specs.declared.Reply.{Reply}
-use Rattle.connection.specs.declared.Reply.the-variants.{Refused, Accepted, Sent, Read, Torn, Reset, Heard}
+use Rattle.connection.specs.declared.Reply.the-variants.{Refused, Accepted, Sent, Read, Torn, Reset, Heard, Sampled}
 use Rattle.connection.specs.declared.Outcome.{Outcome}
 use Rattle.connection.specs.Connection.{coherentB, refusalOf, refusedOf, outcomeOf, closedIf}
 use Rattle.transmit.specs.Transmit.{sendOf, sentOf}
 use Rattle.receive.specs.Receive.{placeOf, readOf, takeOf}
 use Rattle.hear.specs.Hear.{ruledOf, hearOf, abortedOf, followedOf, acceptedOf}
 use Rattle.finish.specs.Finish.{resetOf, closingOf, shutdownOf, closeOf, abortOf}
-use Rattle.rules.specs.Rules.{Says, refusal, accepted, sent, wasRead, torn, reset, heard, saysOf}
+use Rattle.rules.specs.Rules.{Says, refusal, accepted, sent, wasRead, torn, reset, heard, sampled, saysOf}
 use Rattle.safety.specs.Statement.{acceptedB}
 
 -- from an equation of two constructors
@@ -29,6 +29,7 @@ Fair (Read n) = Unit {0}
 Fair Torn = ⊥
 Fair (Heard moved state) = Unit {0}
 Fair Reset = Unit {0}
+Fair (Sampled q) = Unit {0}
 
 pub fair-3 : (r : Reply) → Fair r → saysOf r ≡ refusal 3 → ⊥
 fair-3 (Refused k) f e = f (cc)
@@ -38,6 +39,7 @@ fair-3 (Read n) f e = clash (cc)
 fair-3 Torn f e = f
 fair-3 (Heard moved state) f e = clash (cc)
 fair-3 Reset f e = clash (cc)
+fair-3 (Sampled q) f e = clash (cc)
 
 pub fair-torn : (r : Reply) → Fair r → saysOf r ≡ torn → ⊥
 fair-torn (Refused k) f e = clash (cc)
@@ -47,6 +49,7 @@ fair-torn (Read n) f e = clash (cc)
 fair-torn Torn f e = f
 fair-torn (Heard moved state) f e = clash (cc)
 fair-torn Reset f e = clash (cc)
+fair-torn (Sampled q) f e = clash (cc)
 
 pub record Answers (o : Outcome) : Type 0 where
   pub fair : Fair (o .reply)
@@ -125,3 +128,4 @@ says-accepted (wasRead n) e = absurd (false≢true e)
 says-accepted torn e = absurd (false≢true e)
 says-accepted (heard moved state) e = absurd (false≢true e)
 says-accepted reset e = absurd (false≢true e)
+says-accepted (sampled q) e = absurd (false≢true e)

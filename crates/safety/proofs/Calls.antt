@@ -19,14 +19,14 @@ use Rattle.connection.proofs.Laws.{and-left, and-right, coherent-from}
 use Rattle.connection.specs.declared.Opening as Given
 use Rattle.connection.specs.Connection.{startCursor, openedRecord}
 use Rattle.table.specs.Table.{linkIn}
-use Rattle.rules.specs.Rules.{Group, Request, openSlot, freeSlot, linkChange, Call, on, hear, manage, refusal, accepted, torn, reset, Turn, turnOf, requestTurn, hearTurn, Done, does, refuses, putTurn, recordOf, elementIn, linkOf}
+use Rattle.rules.specs.Rules.{Group, Request, openSlot, freeSlot, linkChange, sample, Call, on, hear, manage, refusal, accepted, torn, reset, Turn, turnOf, requestTurn, hearTurn, Done, does, refuses, putTurn, recordOf, elementIn, linkOf}
 use Rattle.order.proofs.Records.{long-by}
 use Rattle.order.proofs.Near.{enough}
 use Rattle.order.proofs.Slots.{slot-in, open-in, element-long, Put, put}
 use Rattle.safety.specs.Statement.{OpenAt, acceptedB, changedBy}
 use Rattle.safety.specs.Refusals.{lentOut}
 use Rattle.safety.proofs.Answers.{clash}
-use Rattle.safety.proofs.Effects.{Openable, open-facts, openTurn, free-facts, freeTurn, Acts, asks, hears, opens, frees, Incoherent, Effect, refuses-it, answers-it, sets-link, puts-turn, relinked}
+use Rattle.safety.proofs.Effects.{Openable, open-facts, openTurn, free-facts, freeTurn, Acts, asks, hears, opens, frees, Incoherent, Effect, refuses-it, answers-it, sets-link, samples-it, puts-turn, relinked, resampled}
 use Rattle.safety.proofs.Effects
 use Rattle.safety.proofs.Invariant.{Sound, no-slot-0, sizes}
 use Rattle.safety.proofs.Turns.{Kept, same, request, heard}
@@ -110,6 +110,14 @@ module _ (g : Group) (s : Sound g) where
   aside c x a p q r m h =
       record {
         effect = inl (record { same-S = p; same-N = q; same-table = r; same-memory = m; same-held = λ k e. rw a (h k e) });
+        not-3 = λ e. clash (cc);
+        not-torn = λ e. clash (cc);
+      }
+
+  sampled-aside : (l ms : ℕ) → Does g (manage (sample l ms)) (resampled g l ms)
+  sampled-aside l ms =
+      record {
+        effect = inl (record { same-S = refl; same-N = refl; same-table = refl; same-memory = refl; same-held = λ k e. refl });
         not-3 = λ e. clash (cc);
         not-torn = λ e. clash (cc);
       }
@@ -217,4 +225,5 @@ module _ (g : Group) (s : Sound g) where
           aside c x a (ap (λ (h : Group). h .S) e) (ap (λ (h : Group). h .N) e) (ap (λ (h : Group). h .table) e)
           (ap (λ (h : Group). h .memory) e) (λ k f. rw p)
       go x (sets-link l up p e) = rw (p, e) (aside (manage (linkChange l up)) (relinked g l up) refl refl refl refl refl (λ k f. refl))
+      go x (samples-it l ms p z e) = rw (p, e) (sampled-aside l ms)
       go x (puts-turn k t z a e) = rw e (acts-does c k t a)

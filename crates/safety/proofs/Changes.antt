@@ -5,11 +5,12 @@ use mathlib.Core.Bool.{true, false≢true, cond, Bool, false, not, _&&_, _||_}
 use Prim.Native.Nat.{ℕ, zero, suc}
 use native.Mathlib.Omega.{arith}
 use lib.ListN.{length}
-use Rattle.table.specs.Table.{recordAt, withRecord}
-use Rattle.rules.specs.Rules.{Group, Call, Turn, Done, does, answer, refuses, putTurn, recordOf, sizesOk, on, requestTurn, next, elementIn, linkOf, close, hearTurn, turnOf, saysOf, refusal, heard, Answer, holderOf, sent, Request, hear}
+use Rattle.table.specs.declared.Links.{Links}
+use Rattle.table.specs.Table.{recordAt, withRecord, withLink, linkSet}
+use Rattle.rules.specs.Rules.{linksOf, Group, Call, Turn, Done, does, answer, refuses, putTurn, recordOf, sizesOk, on, requestTurn, next, elementIn, linkOf, close, hearTurn, turnOf, saysOf, refusal, heard, Answer, holderOf, sent, Request, hear}
 use Rattle.order.proofs.Slots.{slot-in, record-other, table-long, memory-long, open-in, open-is, open-there, record-same}
 use Rattle.safety.specs.Changes.{OneTurned, OneRecord, SetsLink, LinksByLinkChange, HeardFor, Closes, ClosedBy, Forward, NeverBack, by-close, by-hear, by-abort, by-free, AbortAnswer, AbortHeard, slotOf, Closing}
-use Rattle.safety.proofs.Effects.{Acts, Effect, refuses-it, answers-it, sets-link, puts-turn, effect, opens, open-facts, free-facts, asks, hears, frees}
+use Rattle.safety.proofs.Effects.{Acts, Effect, refuses-it, answers-it, sets-link, samples-it, puts-turn, effect, opens, open-facts, free-facts, asks, hears, frees}
 use Rattle.safety.proofs.Acted.{acts-slot, acts-in, is-sizes, acts-high, acts-long}
 use Rattle.safety.proofs.Course.{Course, goes, ends, stays, EndsSlot, request-course, hear-course, ClosesSlot}
 use Rattle.safety.specs.Statement.{OpenAt}
@@ -67,9 +68,16 @@ one-record g c = go (does g c) (effect g c)
     go x (answers-it l b p a e) = as-was (x .group) e
     go x (sets-link l up p e) =
         rw e (record { same-S = refl; same-N = refl; as-many = refl; as-long = refl; others = λ k d. refl })
+    go x (samples-it l ms p z e) =
+        rw e (record { same-S = refl; same-N = refl; as-many = refl; as-long = refl; others = λ k d. refl })
     go x (puts-turn k t s a e) = rw e (turn-one g c k t s a)
 
 -- 2. Links
+linked : (ls : Links) (l : ℕ) (up : Bool) → linkSet ls l up .active ≡ withLink (ls .active) l up
+unfolding linkSet
+linked ls l true = refl
+linked ls l false = refl
+
 pub links-by-link-change : LinksByLinkChange
 unfolding refuses putTurn
 links-by-link-change g c = go (does g c) refl (effect g c)
@@ -83,8 +91,9 @@ links-by-link-change g c = go (does g c) refl (effect g c)
           up = up;
           is = p;
           took = ap (λ (d : Done). d .answer .says) (q ∙ e);
-          sets = ap (λ (d : Done). d .group .links) (q ∙ e);
+          sets = ap (λ (d : Done). d .group .links) (q ∙ e) ∙ linked (linksOf g) l up;
         })
+    go x q (samples-it l ms p z e) = inl (ap (λ (d : Done). d .group .links) e)
     go x q (puts-turn k t s a e) = inl (ap (λ (d : Done). d .group .links) e)
 
 -- WHAT A CALL MAKES OF AN OPEN SLOT'S RECORD
@@ -205,6 +214,8 @@ module _ (g : Group) (c : Call) (i : ℕ) (o : OpenAt g (suc i)) where
           (ap (λ (d : Done). recordOf (d .group) (suc i)) q ∙ ap (λ (h : Group). recordOf h (suc i)) e)
       go x q (sets-link l up p e) =
           as-it-was (elsewhere (λ z. omega (arith, sym (ap (slotOf g) p) ∙ z))) _ (ap (λ (d : Done). recordOf (d .group) (suc i)) (q ∙ e))
+      go x q (samples-it l ms p y e) =
+          as-it-was (elsewhere (λ z. omega (arith, sym (ap (slotOf g) p) ∙ z))) _ (ap (λ (d : Done). recordOf (d .group) (suc i)) (q ∙ e))
       go x q (puts-turn k t s a e) = turned k t (q ∙ e) s a (ℕ-discrete (suc i) k)
 
 -- 4. Closing
@@ -313,4 +324,5 @@ abort-heard g c k m for a = go (does g c) refl (effect g c)
     go x q (refuses-it n h e) = absurd (for .took n (ap (λ (d : Done). d .answer .says) (q ∙ e)))
     go x q (answers-it l b p a e) = let w = for .is in clash (cc)
     go x q (sets-link l up p e) = let w = for .is in clash (cc)
+    go x q (samples-it l ms p z e) = let w = for .is in clash (cc)
     go x q (puts-turn j t s a e) = by j t (q ∙ e) a

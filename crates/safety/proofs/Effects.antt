@@ -6,7 +6,7 @@ use mathlib.Core.Bool.{Bool, true, false, false≢true, not, cond, _||_}
 use mathlib.Core.List.{List, []}
 use Prim.Native.Nat.{ℕ, zero, suc, _≤_}
 use native.Mathlib.Omega.{arith}
-use lib.Dec.{ltb, eqb, eqb·suc-zero}
+use lib.Dec.{leb, ltb, eqb, eqb·suc-zero}
 use borrow.Author.Tests.{eqb-true, eqb-false, not-false, ltb-false}
 use Rattle.cdc.specs.declared.Message.{Message}
 use Rattle.cdc.specs.declared.Decoded.{Decoded}
@@ -17,11 +17,13 @@ use Rattle.llc.specs.declared.Kind.the-variants as Kinds
 use Rattle.llc.specs.Llc.{receivedOf}
 use Rattle.element.specs.Element.{freshElement}
 use Rattle.connection.specs.Connection.{zeroRecord, coherentB}
+use Rattle.gauge.specs.declared.Gauge.{Gauge}
+use Rattle.gauge.specs.Gauge.{mostMs, sampledOf}
 use Rattle.connection.specs.declared.Opening as Given
 use Rattle.connection.specs.Connection.{openedRecord}
 use Rattle.table.specs.Table.{linkIn}
-use Rattle.rules.specs.Rules.{plainTurn, badOpening, Group, Request, openSlot, freeSlot, linkChange, linkMessage, Call, on, hear, manage, accepted, Turn, requestTurn, hearTurn, Done, does, answer, refuses, putTurn, recordOf, elementIn, linkOf, sizesOk, outOf, onDoes, holderOf, hearAt, hearMessage, hearDoes, plain, openRefusal, openDoes, freeRefusal, freeDoes, linkDoes, linkAnswer, linkMessageDoes}
-use Rattle.table.specs.Table.{slotB, openB, activeB, findFrom, withLink}
+use Rattle.rules.specs.Rules.{plainTurn, badOpening, Group, Request, openSlot, freeSlot, linkChange, linkMessage, sample, Call, on, hear, manage, accepted, Turn, requestTurn, hearTurn, Done, does, answer, refuses, putTurn, recordOf, elementIn, linkOf, sizesOk, outOf, onDoes, holderOf, hearAt, hearMessage, hearDoes, plain, openRefusal, openDoes, freeRefusal, freeDoes, linkDoes, linkAnswer, linkMessageDoes, linksOf, withLinks, healthy, sampleRefusal, sampleDoes}
+use Rattle.table.specs.Table.{slotB, openB, activeB, gaugeAt, findFrom, gaugeSet, linkSet}
 use Rattle.order.proofs.Slots.{found-open}
 use Rattle.safety.specs.Statement.{OpenAt, ownOf}
 use Rattle.safety.specs.Refusals.{lentOut}
@@ -42,12 +44,16 @@ pub data Acts (g : Group) (c : Call) (k : ℕ) (t : Turn) : Type 0 where
       → t ≡ openTurn g given → Acts g c k t
   frees : c ≡ manage (freeSlot k) → freeRefusal g k ≡ 0 → t ≡ freeTurn g k → Acts g c k t
 
+-- what an accepted link change does, and an accepted sample
 abbrev pub relinked : Group → ℕ → Bool → Done
-relinked g l up =
-    record {
-      answer = plain;
-      group = record { S = g .S; N = g .N; table = g .table; links = withLink (g .links) l up; memory = g .memory };
-    }
+relinked g l up = record { answer = plain; group = withLinks g (linkSet (linksOf g) l up) }
+
+abbrev pub gaugeAfter : Group → ℕ → ℕ → Gauge
+gaugeAfter g l ms = sampledOf (gaugeAt (g .gauges) l) ms
+
+abbrev pub resampled : Group → ℕ → ℕ → Done
+resampled g l ms =
+    record { answer = healthy (gaugeAfter g l ms); group = withLinks g (gaugeSet (linksOf g) l (gaugeAfter g l ms)) }
 
 -- refusal 3 is given for an open record that is not coherent
 abbrev pub Incoherent : Group → ℕ → Type 0
@@ -57,6 +63,7 @@ pub data Effect (g : Group) (c : Call) (x : Done) : Type 0 where
   refuses-it : (n : ℕ) → Incoherent g n → x ≡ refuses g n (lentOut c) → Effect g c x
   answers-it : (l : ℕ) (b : List ℕ) → c ≡ manage (linkMessage l b) → x .answer .says ≡ accepted → x .group ≡ g → Effect g c x
   sets-link : (l : ℕ) (up : Bool) → c ≡ manage (linkChange l up) → x ≡ relinked g l up → Effect g c x
+  samples-it : (l ms : ℕ) → c ≡ manage (sample l ms) → sampleRefusal (g .links) l ms ≡ 0 → x ≡ resampled g l ms → Effect g c x
   puts-turn : (k : ℕ) (t : Turn) → sizesOk g ≡ true → Acts g c k t → x ≡ putTurn g k t → Effect g c x
 
 -- WHAT AN ACCEPTED OPEN, AND AN ACCEPTED FREE, WERE TESTED FOR
@@ -147,6 +154,26 @@ free-3 g k = or-else g (not (sizesOk g)) 1 _ (number g 1 refl) (go (openB (g .S)
     go true true o e = or-else g (not (recordOf g k .marks .abort)) 7 0 (number g 7 refl) (number g 0 refl)
 
 -- EVERY CALL
+-- what an accepted sample was tested for
+pub sample-facts : (links : List Bool) (l ms : ℕ) → sampleRefusal links l ms ≡ 0 → (linkIn l ≡ true) × (leb ms mostMs ≡ true)
+unfolding sampleRefusal
+sample-facts links l ms e =
+    let a = past (not (linkIn l)) 12 _ e in
+    let b = past (not (activeB links l)) 5 _ (a .1) in
+    let d = past (not (leb ms mostMs)) 16 0 (b .1) in
+    (not-false (linkIn l) (a .0), not-false (leb ms mostMs) (d .0))
+
+-- sample's refusals are 13, 6 and 17
+sample-3 : (links : List Bool) (l ms : ℕ) → eqb (sampleRefusal links l ms) 3 ≡ false
+unfolding sampleRefusal
+sample-3 links l ms = go (not (linkIn l)) (not (activeB links l)) (not (leb ms mostMs))
+  where
+    go : (a b d : Bool) → eqb (cond a 13 (cond b 6 (cond d 17 0))) 3 ≡ false
+    go true b d = refl
+    go false true d = refl
+    go false false true = refl
+    go false false false = refl
+
 module _ (g : Group) where
   not3 : (n : ℕ) → eqb n 3 ≡ false → Incoherent g n
   not3 n h = number g n h .incoherent
@@ -185,7 +212,7 @@ module _ (g : Group) where
   message l b Kinds.TestReply reply = answers-it l b refl refl refl
 
   pub effect : (c : Call) → Effect g c (does g c)
-  unfolding onDoes hearDoes openDoes freeDoes linkDoes linkMessageDoes
+  unfolding onDoes hearDoes openDoes freeDoes linkDoes linkMessageDoes sampleDoes
   effect (on k q) = asked k q (sizesOk g) (openB (g .S) (g .table) k) refl refl
   effect (hear b) = go (sizesOk g) refl
     where
@@ -220,3 +247,12 @@ module _ (g : Group) where
       go true true = message l b (receivedOf b .kind) (receivedOf b .reply)
       go true false = refuses-it 6 (not3 6 refl) refl
       go false z = refuses-it 13 (not3 13 refl) refl
+  effect (manage (sample l ms)) = go (eqb (sampleRefusal (g .links) l ms) 0) refl
+    where
+      never-3 : Incoherent g (sampleRefusal (g .links) l ms)
+      never-3 = not3 _ (sample-3 (g .links) l ms)
+
+      go : (z : Bool) → eqb (sampleRefusal (g .links) l ms) 0 ≡ z
+          → Effect g (manage (sample l ms)) (cond z (resampled g l ms) (refuses g (sampleRefusal (g .links) l ms) []))
+      go true e = samples-it l ms refl (eqb-true (sampleRefusal (g .links) l ms) 0 e) refl
+      go false e = refuses-it (sampleRefusal (g .links) l ms) never-3 refl

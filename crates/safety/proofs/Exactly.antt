@@ -34,11 +34,13 @@ use Rattle.receive.specs.Receive.{unreadOf, placeForbids, mayPlace, placeOf, re
 use Rattle.hear.specs.Hear.{ruledOf, nextB, producerB, consumerB, abortedOf, acceptedOf, followedOf, hearOf}
 use Rattle.finish.specs.Finish.{resetOf, closingOf, shutdownForbids, shutdownOf, closeForbids, closeOf, abortOf}
 use Rattle.connection.proofs.Laws.{outcome-reply, closed-reply}
-use Rattle.table.specs.Table.{sizesB, slotB, openB, activeB, findFrom}
+use Rattle.gauge.specs.declared.Gauge.{Gauge}
+use Rattle.gauge.specs.Gauge.{mostMs, sampledOf}
+use Rattle.table.specs.Table.{sizesB, slotB, openB, activeB, gaugeAt, findFrom, gaugeSet}
 use Rattle.connection.specs.declared.Opening.{Opening}
 use Rattle.table.specs.Table.{linkIn}
-use Rattle.rules.specs.Rules.{Group, Request, send, place, read, shutdown, close, abort, openSlot, freeSlot, linkChange, linkMessage, Call, on, hear, manage, Says, refusal, accepted, sent, wasRead, torn, reset, heard, saysOf, turnOf, requestTurn, hearTurn, Done, refuses, answer, sizesOk, recordOf, elementIn, linkOf, putTurn, onDoes, holderOf, hearAt, hearMessage, hearDoes, openRefusal, openDoes, freeRefusal, freeDoes, linkDoes, linkAnswer, linkMessageDoes, does}
-use Rattle.safety.specs.Refusals.{outside, sizesWrong, slotOutside, slotClosed, incoherent, byteIs, malformedLink, tokenUnheld, connectionDown, linkDown, stateForbids, aborting, notAborting, producerBroken, consumerBroken, byteFree, unplaceable, alreadyOpen, tokenHeld, zeroOrOut, linkOutside, otherNamed, Test, _when_, placeTest, tests, firstOf, Exactly, ExactlyWhen}
+use Rattle.rules.specs.Rules.{Group, Request, send, place, read, shutdown, close, abort, openSlot, freeSlot, linkChange, linkMessage, sample, Call, on, hear, manage, Says, refusal, accepted, sent, wasRead, torn, reset, heard, sampled, saysOf, turnOf, requestTurn, hearTurn, Done, refuses, answer, sizesOk, recordOf, elementIn, linkOf, putTurn, onDoes, holderOf, hearAt, hearMessage, hearDoes, openRefusal, openDoes, freeRefusal, freeDoes, linkDoes, linkAnswer, linkMessageDoes, linksOf, withLinks, healthy, sampleRefusal, sampleDoes, does}
+use Rattle.safety.specs.Refusals.{outside, sizesWrong, slotOutside, slotClosed, incoherent, byteIs, malformedLink, tokenUnheld, connectionDown, linkDown, stateForbids, aborting, notAborting, producerBroken, consumerBroken, byteFree, unplaceable, alreadyOpen, tokenHeld, zeroOrOut, linkOutside, otherNamed, tooLong, Test, _when_, placeTest, tests, firstOf, Exactly, ExactlyWhen}
 use Rattle.safety.proofs.Answers.{clash}
 
 -- the number of a refusal
@@ -50,6 +52,7 @@ number (wasRead n) = none
 number torn = none
 number (heard moved state) = none
 number reset = none
+number (sampled q) = none
 
 number-is : (s : Says) (k : ℕ) → number s ≡ some k → s ≡ refusal k
 number-is (refusal j) k e = cc
@@ -59,6 +62,7 @@ number-is (wasRead n) k e = cc
 number-is torn k e = cc
 number-is (heard moved state) k e = cc
 number-is reset k e = cc
+number-is (sampled q) k e = cc
 
 unnumbered : (s : Says) → ((k : ℕ) → s ≡ refusal k → ⊥) → number s ≡ none
 unnumbered (refusal k) h = absurd (h k refl)
@@ -68,6 +72,7 @@ unnumbered (wasRead n) h = refl
 unnumbered torn h = refl
 unnumbered (heard moved state) h = refl
 unnumbered reset h = refl
+unnumbered (sampled q) h = refl
 
 -- TESTS. What F makes of the outcome of a test: where the test fails, its number; else what the tests after it give
 module _ {A : Type 0} (F : A → Option ℕ) (n : ℕ) (l : List Test) where
@@ -455,6 +460,26 @@ module _ (g : Group) (d : Done) where
         refl)
         refl
 
+-- sample, by the number of its refusal
+sample-first : (g : Group) (l ms : ℕ) → refusedBy (sampleDoes g l ms) ≡ firstOf (tests g (manage (sample l ms)))
+unfolding sampleDoes sampleRefusal refuses firstOf
+sample-first g l ms =
+    go (linkOutside l) (linkDown g l) (tooLong ms) (not (linkIn l)) (linkDown g l) (not (leb ms mostMs)) (outside-is 1 4 l) refl
+    (sym (not-leb ms mostMs))
+  where
+    q : Gauge
+    q = sampledOf (gaugeAt (g .gauges) l) ms
+
+    done : ℕ → Done
+    done j = cond (eqb j 0) (record { answer = healthy q; group = withLinks g (gaugeSet (linksOf g) l q) }) (refuses g j [])
+
+    go : (x y z a b d : Bool) → x ≡ a → y ≡ b → z ≡ d
+        → refusedBy (done (cond a 13 (cond b 6 (cond d 17 0)))) ≡ firstOf (13 when x ∷ 6 when y ∷ 17 when z ∷ [])
+    go x y z true b d e f h = rw e
+    go x y z false true d e f h = rw (e, f)
+    go x y z false false true e f h = rw (e, f, h)
+    go x y z false false false e f h = rw (e, f, h)
+
 call-first : (g : Group) (c : Call) → refusedBy (does g c) ≡ firstOf (tests g c)
 unfolding onDoes hearDoes hearAt hearTurn openDoes freeDoes linkDoes linkMessageDoes putTurn turnOf refuses decodeOf
 call-first g (on k q) =
@@ -477,6 +502,7 @@ call-first g (manage (linkMessage l b)) =
     must refusedBy 13 _ (linkOutside l) (linkIn l) _ _ (outside-is 1 4 l)
     (must refusedBy 6 _ (linkDown g l) (activeB (g .links) l) _ _ refl (bytes-first g b) refl)
     refl
+call-first g (manage (sample l ms)) = sample-first g l ms
 
 pub exactly-when : ExactlyWhen
 exactly-when g c =

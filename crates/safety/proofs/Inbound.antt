@@ -17,7 +17,7 @@ use Rattle.receive.specs.Receive.{placeOf, readOf, takeOf, tornOf, consumedOf, 
 use Rattle.hear.specs.Hear.{ruledOf, hearOf, heardRecord, abortedOf, followedOf, acceptedOf, heardIn}
 use Rattle.hear.proofs.Laws.{Produces, aborted-shut, repliedTo, hear-cases, accepted-is}
 use Rattle.finish.specs.Finish.{resetOf, closingOf, shutdownOf, closeOf, abortOf}
-use Rattle.rules.specs.Rules.{Says, saysOf, refusal, accepted, Request, read, turnOf, requestTurn, send, place, shutdown, close, abort, hearTurn, heard, torn, reset, sent, wasRead, Turn}
+use Rattle.rules.specs.Rules.{Says, saysOf, refusal, accepted, Request, read, turnOf, requestTurn, send, place, shutdown, close, abort, hearTurn, heard, torn, reset, sampled, sent, wasRead, Turn}
 use Rattle.flow.specs.Flow.{takenOf}
 use Rattle.connection.specs.declared.Inbound.{Inbound}
 use Rattle.closing.specs.declared.State.the-variants.{PeerAbortWait}
@@ -200,6 +200,7 @@ module _ (n : ℕ) (a : Bool) (c : Record) where
   reader q out p torn = inl refl
   reader q out p (heard moved state) = inl refl
   reader q out p reset = inl refl
+  reader q out p (sampled h) = inl refl
 
   pub request-reader : (e : List ℕ) (q : Request) → Reader q (requestTurn n a c e q .answer .says)
   unfolding requestTurn turnOf

@@ -5,7 +5,7 @@
 -- bytes a call touches and sees. `Theorem`, `Progress`, `Dropped`: the claims of specs/Statement.
 -- Of positions: `Places`, `Inbound`, `Journals`, what is said of a slot and its record and element over one turn; `Noted`, `Followed`, over each
 -- call, and all; `HandedOut`, how what is said grows. `Positions`, `Unwritten`: the claims of specs/Positions.
--- `Numbers`: the claim of specs/Numbers.
+-- `Numbers`: the claim of specs/Numbers. `Gauges`: those of specs/Gauges.
 pub mod Lists
 pub mod Cursors
 pub mod Effects
@@ -38,3 +38,4 @@ pub mod HandedOut
 pub mod Positions
 pub mod Unwritten
 pub mod Numbers
+pub mod Gauges

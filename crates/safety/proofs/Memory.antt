@@ -13,14 +13,14 @@ use Rattle.element.proofs.Elements.{base-end, element-in}
 use Rattle.element.proofs.Others.{splice-length, splice-below, splice-in, splice-above}
 use Rattle.connection.specs.declared.Record.{Record}
 use Rattle.connection.specs.declared.Reply.{Reply}
-use Rattle.connection.specs.declared.Reply.the-variants.{Refused, Accepted, Sent, Read, Torn, Reset, Heard}
+use Rattle.connection.specs.declared.Reply.the-variants.{Refused, Accepted, Sent, Read, Torn, Reset, Heard, Sampled}
 use Rattle.receive.specs.Receive.{placeOf}
 use Rattle.receive.proofs.Laws.{Placeable, place-accepted}
 use Rattle.connection.specs.Connection.{effectOf}
 use Rattle.rules.specs.Rules.{Group, Request, send, place, read, shutdown, close, abort, Call, on, accepted, Turn, turnOf, requestTurn, hearTurn, saysOf, placedIn, Done, does, answer, refuses, putTurn, recordOf, elementIn, linkOf, sizesOk}
 use Rattle.order.proofs.Slots.{slot-in, element-long, Sizes, sizes-in}
 use Rattle.safety.specs.Changes.{InElement, MayChange, by-place, by-open, BytesByPlaceAndOpen}
-use Rattle.safety.proofs.Effects.{Acts, asks, hears, opens, frees, Effect, refuses-it, answers-it, sets-link, puts-turn, effect}
+use Rattle.safety.proofs.Effects.{Acts, asks, hears, opens, frees, Effect, refuses-it, answers-it, sets-link, samples-it, puts-turn, effect}
 use Rattle.safety.proofs.Acted.{acts-in, is-sizes, acts-high, acts-long}
 use Rattle.safety.proofs.Lists.{same-byte, splice-none}
 
@@ -59,6 +59,7 @@ module _ (n : ℕ) (a : Bool) (c : Record) (e : List ℕ) where
       go Torn h = inl refl
       go (Heard moved state) h = inl refl
       go Reset h = inl refl
+      go (Sampled q) h = inl refl
   puts-in (read out) = inl refl
   puts-in shutdown = inl refl
   puts-in close = inl refl
@@ -178,4 +179,5 @@ bytes-by-place-and-open g c x = go (does g c) refl (effect g c)
     go d q (refuses-it n h e) = inl (ap (λ (d : Done). getElem? (d .group .memory) x) e)
     go d q (answers-it l b p a e) = inl (ap (λ (h : Group). getElem? (h .memory) x) e)
     go d q (sets-link l up p e) = inl (ap (λ (d : Done). getElem? (d .group .memory) x) e)
+    go d q (samples-it l ms p z e) = inl (ap (λ (d : Done). getElem? (d .group .memory) x) e)
     go d q (puts-turn k t s a e) = rw e (turned k t s a (q ∙ e))

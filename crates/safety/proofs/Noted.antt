@@ -14,15 +14,15 @@ use borrow.Author.Tests.{eqb-true, eq-eqb, ne-eqb, le-ltb}
 use Rattle.receive.proofs.Laws.{Placeable, place-accepted}
 use Rattle.connection.specs.declared.Opening as Given
 use Rattle.connection.specs.Connection.{effectOf, openedRecord}
-use Rattle.rules.specs.Rules.{accepted, Group, Request, read, on, turnOf, requestTurn, Done, answer, next, refuses, putTurn, recordOf, elementIn, linkOf, send, place, shutdown, close, abort, Says, saysOf, hearTurn, refusal, Call, Turn, does, openSlot, freeSlot, linkChange, linkMessage, hear, manage, sizesOk, placedIn, Answer}
+use Rattle.rules.specs.Rules.{accepted, Group, Request, read, on, turnOf, requestTurn, Done, answer, next, refuses, putTurn, recordOf, elementIn, linkOf, send, place, shutdown, close, abort, Says, saysOf, hearTurn, refusal, Call, Turn, does, openSlot, freeSlot, linkChange, linkMessage, sample, hear, manage, sizesOk, placedIn, Answer}
 use Rattle.safety.specs.Statement.{acceptedB, OpenAt, ownOf}
 use Rattle.safety.proofs.Invariant.{Sound, sizes}
-use Rattle.safety.proofs.Effects.{opens, open-facts, Acts, asks, hears, frees, Effect, refuses-it, answers-it, sets-link, puts-turn, effect}
+use Rattle.safety.proofs.Effects.{opens, open-facts, Acts, asks, hears, frees, Effect, refuses-it, answers-it, sets-link, samples-it, puts-turn, effect}
 use Rattle.cursor.specs.declared.Cursor.{Cursor}
 use Rattle.cdc.specs.declared.Message.{Message}
 use Rattle.connection.specs.declared.Record.{Record}
 use Rattle.connection.specs.declared.Reply.{Reply}
-use Rattle.connection.specs.declared.Reply.the-variants.{Accepted, Heard, Refused, Read, Sent, Torn, Reset}
+use Rattle.connection.specs.declared.Reply.the-variants.{Accepted, Heard, Refused, Read, Sent, Torn, Reset, Sampled}
 use Rattle.connection.specs.Connection.{zeroRecord, noMessage}
 use Rattle.receive.specs.Receive.{placeOf}
 use Rattle.cdc.specs.declared.Decoded.the-variants.{Good}
@@ -58,6 +58,7 @@ module _ (d : ℕ) (j : Journal) where
   after-refused k (manage (freeSlot i)) n out = refl
   after-refused k (manage (linkChange l up)) n out = refl
   after-refused k (manage (linkMessage l b)) n out = refl
+  after-refused k (manage (sample l ms)) n out = refl
 
 -- WHAT A REQUEST STORES
 nothing-covers : (t : Bool) (x : ℕ) → t && coversB nothing x ≡ false
@@ -83,6 +84,7 @@ module _ (n : ℕ) (a : Bool) (c : Record) (e : List ℕ) where
       go Torn h = keeps-all (λ x. refl) refl
       go (Heard moved state) h = keeps-all (λ x. refl) refl
       go Reset h = keeps-all (λ x. refl) refl
+      go (Sampled q) h = keeps-all (λ x. refl) refl
   request-stores (read out) = stores-none n c e _
   request-stores shutdown = stores-none n c e _
   request-stores close = stores-none n c e _
@@ -308,6 +310,9 @@ module _ (g : Group) (s : Sound g) (c : Call) (i : ℕ) (j : Journal) (own-is : 
           (ap (λ (d : Done). elementIn (d .group) (suc i)) q ∙ ap (λ (h : Group). elementIn h (suc i)) e)
           (ap (λ z. afterCall (g .N - 4) (suc i) j z (answer g c)) p)
       go x q (sets-link l up p e) =
+          aside (ap (λ (d : Done). recordOf (d .group) (suc i)) (q ∙ e)) (ap (λ (d : Done). elementIn (d .group) (suc i)) (q ∙ e))
+          (ap (λ z. afterCall (g .N - 4) (suc i) j z (answer g c)) p)
+      go x q (samples-it l ms p y e) =
           aside (ap (λ (d : Done). recordOf (d .group) (suc i)) (q ∙ e)) (ap (λ (d : Done). elementIn (d .group) (suc i)) (q ∙ e))
           (ap (λ z. afterCall (g .N - 4) (suc i) j z (answer g c)) p)
       go x q (puts-turn l t ok a e) = turned l t (q ∙ e) ok a

@@ -26,14 +26,14 @@ use Rattle.closing.specs.Closing.{doneSent, closedSent, abortSent, marksHeard}
 use Rattle.hear.specs.Hear.{nextB, producerB, consumerB, heardIn, heardRecord, abortedOf, acceptedOf, ruledOf, followedOf, hearOf}
 use Rattle.hear.proofs.Laws.{aborted-shut, accepted-is, accepted-reply, shutBy, repliedTo}
 use Rattle.finish.specs.Finish.{resetOf, closingOf, shutdownOf, closeOf, abortOf}
-use Rattle.rules.specs.Rules.{Group, Request, send, place, read, shutdown, close, abort, openSlot, freeSlot, linkChange, linkMessage, Call, on, hear, manage, Says, refusal, saysOf, Turn, turnOf, requestTurn, hearTurn, Done, does, answer, next, refuses, putTurn, recordOf, elementIn, linkOf, sizesOk, holderOf}
+use Rattle.rules.specs.Rules.{Group, Request, send, place, read, shutdown, close, abort, openSlot, freeSlot, linkChange, linkMessage, sample, Call, on, hear, manage, Says, refusal, saysOf, Turn, turnOf, requestTurn, hearTurn, Done, does, answer, next, refuses, putTurn, recordOf, elementIn, linkOf, sizesOk, holderOf}
 use Rattle.table.specs.Table.{recordAt}
 use Rattle.order.specs.Statement.{leaves}
 use Rattle.order.proofs.Near.{enough}
 use Rattle.order.proofs.Slots.{slot-in, open-in, open-is, record-same}
 use Rattle.safety.specs.Statement.{OpenAt, acceptedB}
 use Rattle.safety.specs.Numbers.{Taken, nothingYet, refusedB, sendsA, asked, countsB, withNumber, withMessage, takenAfter, takenFrom, firstNumber, countedFrom, InOrder, NumbersInOrder}
-use Rattle.safety.proofs.Effects.{Acts, asks, hears, opens, frees, Effect, refuses-it, answers-it, sets-link, puts-turn, effect}
+use Rattle.safety.proofs.Effects.{Acts, asks, hears, opens, frees, Effect, refuses-it, answers-it, sets-link, samples-it, puts-turn, effect}
 use Rattle.safety.proofs.Acted.{acts-slot, acts-in, acts-high}
 use Rattle.safety.proofs.Changes.{one-record}
 use Rattle.safety.proofs.Invariant.{Sound}
@@ -314,6 +314,7 @@ module _ (g : Group) (c : Call) (k : ℕ) (j : Taken) (w : InOrder g k j) where
   none-refused n (manage (freeSlot i)) = refl
   none-refused n (manage (linkChange l up)) = refl
   none-refused n (manage (linkMessage l b)) = refl
+  none-refused n (manage (sample l ms)) = refl
 
   call-in-order : Sound g → After now
   unfolding refuses takenAfter putTurn recordAt
@@ -340,6 +341,8 @@ module _ (g : Group) (c : Call) (k : ℕ) (j : Taken) (w : InOrder g k j) where
           (ap (λ (d : Done). recordOf (d .group) k) q ∙ ap (λ (h : Group). recordOf h k) e)
       go x q (sets-link l up p e) =
           as-it-was (after (manage (linkChange l up)) p) (ap (λ (d : Done). recordOf (d .group) k) (q ∙ e))
+      go x q (samples-it l ms p z e) =
+          as-it-was (after (manage (sample l ms)) p) (ap (λ (d : Done). recordOf (d .group) k) (q ∙ e))
       go x q (puts-turn l t ok a e) = turned l t (q ∙ e) ok a (ℕ-discrete l k)
 
 -- ALL CALLS

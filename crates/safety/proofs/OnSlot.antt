@@ -5,7 +5,7 @@ use mathlib.Core.List.{List}
 use Prim.Native.Nat.{ℕ}
 use lib.ListN.{length}
 use Rattle.connection.specs.declared.Reply.{Reply}
-use Rattle.connection.specs.declared.Reply.the-variants.{Refused, Accepted, Sent, Read, Torn, Reset, Heard}
+use Rattle.connection.specs.declared.Reply.the-variants.{Refused, Accepted, Sent, Read, Torn, Reset, Heard, Sampled}
 use Rattle.receive.specs.Receive.{placeOf}
 use Rattle.receive.proofs.Laws.{Placeable, place-accepted}
 use Rattle.table.specs.Table.{openB}
@@ -44,6 +44,7 @@ accepted-is (Read n) e = clash (cc)
 accepted-is Torn e = clash (cc)
 accepted-is (Heard moved state) e = clash (cc)
 accepted-is Reset e = clash (cc)
+accepted-is (Sampled q) e = clash (cc)
 
 -- an accepted place lies in the data, or has no bytes
 pub placed-inside : (g : Group) → Sound g → (k at : ℕ) (b : List ℕ) → answer g (on k (place at b)) .says ≡ accepted

@@ -10,7 +10,7 @@ use Rattle.cursor.proofs.Laws.{range-is, good-most}
 use Rattle.element.specs.Element.{intactB, ringFrom, unread}
 use Rattle.element.proofs.Others.{unread-length, unread-at}
 use Rattle.connection.specs.declared.Reply.{Reply}
-use Rattle.connection.specs.declared.Reply.the-variants.{Refused, Accepted, Sent, Read, Torn, Reset, Heard}
+use Rattle.connection.specs.declared.Reply.the-variants.{Refused, Accepted, Sent, Read, Torn, Reset, Heard, Sampled}
 use Rattle.connection.proofs.Laws.{Coherent, coherent-facts}
 use Rattle.receive.specs.Receive.{readOf, unreadOf}
 use Rattle.receive.proofs.Laws.{read-most}
@@ -31,6 +31,7 @@ read-is (Read m) n e = let p : m ≡ n = cc in ap Read p
 read-is Torn n e = clash (cc)
 read-is (Heard moved state) n e = clash (cc)
 read-is Reset n e = clash (cc)
+read-is (Sampled q) n e = clash (cc)
 
 -- no call on slot 0 reads
 pub not-slot-0 : (h : Group) → Sound h → (n : ℕ) (out : List ℕ) → answer h (on 0 (read out)) .says ≡ wasRead n → ⊥

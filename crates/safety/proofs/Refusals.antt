@@ -23,7 +23,7 @@ use Rattle.receive.specs.Receive.{placeOf, readOf, takeOf, tornOf}
 use Rattle.hear.specs.Hear.{ruledOf, hearOf, abortedOf, followedOf, acceptedOf}
 use Rattle.finish.specs.Finish.{resetOf, closingOf, shutdownOf, closeOf, abortOf}
 use Rattle.table.specs.Table.{recordAt, withRecord}
-use Rattle.rules.specs.Rules.{Group, Request, send, place, read, shutdown, close, abort, openSlot, freeSlot, linkChange, linkMessage, Call, on, hear, manage, Says, refusal, accepted, sent, wasRead, torn, reset, heard, saysOf, turnOf, placedIn, readInto, requestTurn, hearTurn, Done, refuses, recordOf, elementIn, linkOf, putTurn, outOf, onDoes, holderOf, hearAt, hearMessage, hearDoes, openDoes, freeDoes, linkDoes, linkAnswer, linkMessageDoes, does}
+use Rattle.rules.specs.Rules.{Group, Request, send, place, read, shutdown, close, abort, openSlot, freeSlot, linkChange, linkMessage, sample, Call, on, hear, manage, Says, refusal, accepted, sent, wasRead, torn, reset, heard, sampled, saysOf, turnOf, placedIn, readInto, requestTurn, hearTurn, Done, refuses, recordOf, elementIn, linkOf, putTurn, outOf, onDoes, holderOf, hearAt, hearMessage, hearDoes, openDoes, freeDoes, linkDoes, linkAnswer, linkMessageDoes, sampleDoes, does}
 use Rattle.safety.specs.Refusals.{lentOut, RefusedKeeps}
 
 -- PUTTING BACK WHAT WAS THERE changes nothing, whatever the table and the memory
@@ -55,6 +55,7 @@ refusalB (wasRead n) = false
 refusalB torn = false
 refusalB (heard moved state) = false
 refusalB reset = false
+refusalB (sampled q) = false
 
 -- what x does, by F: where it refuses, it does no more than that
 module _ {A : Type 0} (g : Group) (out : List ℕ) (F : A → Done) where
@@ -142,13 +143,14 @@ module _ (g : Group) where
   message Kinds.TestReply reply = search never
 
   call : (c : Call) → Refuses g (lentOut c) (λ d. d) (does g c)
-  unfolding onDoes hearDoes openDoes freeDoes linkDoes linkMessageDoes putTurn
+  unfolding onDoes hearDoes openDoes freeDoes linkDoes linkMessageDoes sampleDoes putTurn
   call (on k q) = search (by-test, gives, request)
   call (hear b) = search (by-test, gives, heard-by)
   call (manage (openSlot k o)) = search (by-test, gives, never)
   call (manage (freeSlot k)) = search (by-test, gives, never)
   call (manage (linkChange l up)) = search (by-test, gives, never)
   call (manage (linkMessage l b)) = search (by-test, gives, message)
+  call (manage (sample l ms)) = search (by-test, gives, never)
 
 pub refused-keeps : RefusedKeeps
 unfolding refuses

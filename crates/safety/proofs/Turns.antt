@@ -12,7 +12,7 @@ use Rattle.element.specs.Element.{splice, intactB}
 use Rattle.element.proofs.Others.{intact-kept}
 use Rattle.connection.specs.declared.Record.{Record}
 use Rattle.connection.specs.declared.Reply.{Reply}
-use Rattle.connection.specs.declared.Reply.the-variants.{Refused, Accepted, Sent, Read, Torn, Reset, Heard}
+use Rattle.connection.specs.declared.Reply.the-variants.{Refused, Accepted, Sent, Read, Torn, Reset, Heard, Sampled}
 use Rattle.connection.specs.declared.Outcome.{Outcome}
 use Rattle.connection.specs.Connection.{effectOf, coherentB, zeroRecord}
 use Rattle.transmit.specs.Transmit.{sendOf}
@@ -64,6 +64,7 @@ module _ (n : ℕ) (a : Bool) (c : Record) (e : List ℕ) (long : length e ≡ n
   placed-held Torn at b = refl
   placed-held (Heard moved state) at b = refl
   placed-held Reset at b = refl
+  placed-held (Sampled q) at b = refl
 
   placed-eye : (r : Reply) (at : ℕ) (b : List ℕ) → (r ≡ Accepted → Placeable n (c .inbound) at (length b))
       → intactB (placedIn (effectOf r) e at b) ≡ true
@@ -78,6 +79,7 @@ module _ (n : ℕ) (a : Bool) (c : Record) (e : List ℕ) (long : length e ≡ n
   placed-eye Torn at b h = eye
   placed-eye (Heard moved state) at b h = eye
   placed-eye Reset at b h = eye
+  placed-eye (Sampled q) at b h = eye
 
   pub request : (q : Request) → Kept n (cond (acceptedB (requestTurn n a c e q .answer .says)) (placedBy q e) e) (requestTurn n a c e q)
   unfolding requestTurn turnOf

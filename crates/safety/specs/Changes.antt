@@ -18,7 +18,7 @@ use Rattle.element.specs.Element.{baseOf}
 use Rattle.connection.specs.Connection.{zeroRecord}
 use Rattle.table.specs.Table.{withLink}
 use Rattle.connection.specs.declared.Opening as Given
-use Rattle.rules.specs.Rules.{Group, place, close, openSlot, freeSlot, linkChange, linkMessage, Call, on, hear, manage, refusal, accepted, heard, answer, next, recordOf, holderOf}
+use Rattle.rules.specs.Rules.{Group, place, close, openSlot, freeSlot, linkChange, linkMessage, sample, Call, on, hear, manage, refusal, accepted, heard, answer, next, recordOf, holderOf}
 use Rattle.order.specs.Statement.{hearer}
 use Rattle.safety.specs.Statement.{OpenAt, InData}
 
@@ -30,6 +30,7 @@ slotOf g (manage (openSlot k given)) = k
 slotOf g (manage (freeSlot k)) = k
 slotOf g (manage (linkChange l up)) = 0
 slotOf g (manage (linkMessage l b)) = 0
+slotOf g (manage (sample l ms)) = 0
 
 -- 1. ONE RECORD. Every record but that of the slot acted on stays, in every field. S, N, the table's length and the memory's stay.
 pub record OneTurned (g : Group) (c : Call) (h : Group) : Type 0 where

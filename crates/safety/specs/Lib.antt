@@ -3,3 +3,4 @@ pub mod Refusals
 pub mod Changes
 pub mod Positions
 pub mod Numbers
+pub mod Gauges

@@ -16,9 +16,10 @@ use Rattle.cdc.specs.declared.Decoded.{Decoded}
 use Rattle.cdc.specs.declared.Decoded.the-variants.{Good, Malformed}
 use Rattle.cdc.specs.declared.Flags.{Flags}
 use Rattle.cdc.specs.Cdc.{encodeOf, decodeOf}
+use Rattle.gauge.specs.Gauge.{clearedOf}
 use Rattle.connection.specs.Connection.{zeroRecord}
 use Rattle.connection.specs.Connection.{startCursor}
-use Rattle.rules.specs.Rules.{Group, Request, send, place, read, shutdown, close, abort, openSlot, freeSlot, linkChange, linkMessage, Call, on, hear, manage, Says, refusal, accepted, sent, wasRead, torn, reset, heard, Answer, answer, next, recordOf, elementIn, Fresh}
+use Rattle.rules.specs.Rules.{Group, Request, send, place, read, shutdown, close, abort, openSlot, freeSlot, linkChange, linkMessage, sample, Call, on, hear, manage, Says, refusal, accepted, sent, wasRead, torn, reset, heard, sampled, Answer, answer, next, recordOf, elementIn, Fresh}
 use Rattle.order.specs.Statement.{leaves, answers, At}
 use Rattle.safety.specs.Statement.{OpenAt, acceptedB, Opens}
 
@@ -53,6 +54,7 @@ movedIn (wasRead n) = 0
 movedIn torn = 0
 movedIn (heard moved state) = moved
 movedIn reset = 0
+movedIn (sampled q) = 0
 
 abbrev pub readIn : Says → ℕ
 readIn (refusal k) = 0
@@ -62,6 +64,7 @@ readIn (wasRead n) = n
 readIn torn = 0
 readIn (heard moved state) = 0
 readIn reset = 0
+readIn (sampled q) = 0
 
 -- the bytes that a call places, and their offset; of other calls, none
 pub record Placed : Type 0 where
@@ -114,6 +117,7 @@ afterCall d k j (manage (openSlot i given)) a = cond (eqb i k && acceptedB (a .s
 afterCall d k j (manage (freeSlot i)) a = j
 afterCall d k j (manage (linkChange l up)) a = j
 afterCall d k j (manage (linkMessage l b)) a = j
+afterCall d k j (manage (sample l ms)) a = j
 
 unfoldable pub journalFrom : ℕ → ℕ → Journal → List Call → List Answer → Journal
 journalFrom d k j [] said = j
@@ -225,7 +229,7 @@ NoOldLap = OfEachSlot StoredAhead × OfEachSlot NotOld
 -- read; then four more are announced and none placed. The read hands out the first four again, at positions that no place wrote
 abbrev pub oneSlot : Group
 oneSlot =
-    record { S = 1; N = 8; table = zeroRecord ∷ []; links = replicate 4 false; memory = replicate 8 0 }
+    record { S = 1; N = 8; table = zeroRecord ∷ []; links = replicate 4 false; gauges = replicate 4 clearedOf; memory = replicate 8 0 }
 
 -- a message to token 1, with its number, that announces y positions in all
 abbrev pub announces : ℕ → ℕ → Call

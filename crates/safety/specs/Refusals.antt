@@ -22,7 +22,7 @@ use Rattle.element.specs.Element.{freeB}
 use Rattle.connection.specs.declared.Record.{Record}
 use Rattle.connection.specs.Connection.{noMessage, coherentB, sequenceAfter}
 use Rattle.table.specs.Table.{activeB, findFrom}
-use Rattle.rules.specs.Rules.{Group, Request, send, place, read, shutdown, close, abort, openSlot, freeSlot, linkChange, linkMessage, Call, on, hear, manage, refusal, answer, next, outOf, recordOf, linkOf, holderOf}
+use Rattle.rules.specs.Rules.{Group, Request, send, place, read, shutdown, close, abort, openSlot, freeSlot, linkChange, linkMessage, sample, Call, on, hear, manage, refusal, answer, next, outOf, recordOf, linkOf, holderOf}
 
 -- EACH NUMBER'S CONDITION, as the page's table has it.
 
@@ -156,6 +156,10 @@ linkOutside l = outside 1 4 l
 abbrev pub otherNamed : List ℕ → Bool
 otherNamed b = classIs b named && not (byteIs b 0 0x07)
 
+-- 17: a sample is above 60,000 milliseconds (request 2026-10)
+abbrev pub tooLong : ℕ → Bool
+tooLong ms = ltb 60000 ms
+
 -- THE TESTS OF EACH CALL, in the page's order: a number, and when it is given.
 infix 68 _when_
 pub data Test : Type 0 where
@@ -208,6 +212,7 @@ tests g (manage (freeSlot k)) =
     ∷ []
 tests g (manage (linkChange l up)) = 13 when linkOutside l ∷ []
 tests g (manage (linkMessage l b)) = 13 when linkOutside l ∷ 6 when linkDown g l ∷ 4 when malformedLink b ∷ 14 when otherNamed b ∷ []
+tests g (manage (sample l ms)) = 13 when linkOutside l ∷ 6 when linkDown g l ∷ 17 when tooLong ms ∷ []
 
 -- the number of the first test whose condition holds; `none`: none does
 unfoldable pub firstOf : List Test → Option ℕ

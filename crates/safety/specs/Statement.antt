@@ -16,7 +16,7 @@ use Rattle.connection.specs.Connection.{coherentB}
 use Rattle.transmit.specs.Transmit.{sendForbids}
 use Rattle.receive.specs.Receive.{readForbids, unreadOf}
 use Rattle.table.specs.Table.{slotB, openB}
-use Rattle.rules.specs.Rules.{Group, Request, send, place, read, shutdown, close, abort, openSlot, freeSlot, linkChange, linkMessage, Call, on, hear, manage, Says, refusal, accepted, sent, wasRead, torn, reset, heard, Answer, answer, next, sizesOk, recordOf, elementIn, linkOf, holderOf, Fresh}
+use Rattle.rules.specs.Rules.{Group, Request, send, place, read, shutdown, close, abort, openSlot, freeSlot, linkChange, linkMessage, sample, Call, on, hear, manage, Says, refusal, accepted, sent, wasRead, torn, reset, heard, sampled, Answer, answer, next, sizesOk, recordOf, elementIn, linkOf, holderOf, Fresh}
 use Rattle.order.specs.Statement.{leaves, At}
 
 -- whatever calls are made of a fresh group, this holds of the group that they leave
@@ -67,6 +67,7 @@ acceptedB (wasRead n) = false
 acceptedB torn = false
 acceptedB (heard moved state) = false
 acceptedB reset = false
+acceptedB (sampled q) = false
 
 abbrev pub placedBy : Request → List ℕ → List ℕ
 placedBy (send b) e = e
@@ -83,6 +84,7 @@ changedBy N k (manage (openSlot j o)) e = cond (eqb j k) (freshElement N) e
 changedBy N k (manage (freeSlot j)) e = e
 changedBy N k (manage (linkChange l up)) e = e
 changedBy N k (manage (linkMessage l b)) e = e
+changedBy N k (manage (sample l ms)) e = e
 
 -- one call on, from the bytes e
 unfoldable pub heldAfter : Group → Call → ℕ → List ℕ → List ℕ

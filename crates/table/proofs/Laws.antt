@@ -13,16 +13,21 @@ use mir.Val.{Val}
 use denote.Laws.{Is}
 use borrow.Author.Tests.{le-leb, lt-leb, leb-true, eqb-true, eq-eqb, ne-eqb}
 use borrow.Author.Needs.{length-unmapped}
+use Rattle.gauge.specs.declared.Gauge.{Gauge}
+use Rattle.gauge.specs.Gauge.{clearedOf}
 use Rattle.connection.specs.declared.Record.{Record}
 use Rattle.connection.specs.Connection.{leastSize, mostSize, zeroRecord}
 use Rattle.connection.proofs.Laws.{and-left, and-right, holds}
 use Rattle.table.specs.declared.Links.{Links}
-use Rattle.table.specs.Table.{mostSlots, sizesB, slotB, indexOf, recordAt, openB, activeB, holdsB, orLater, lowest, findFrom, holderIn, withRecord, withLink, foundOf}
+use Rattle.table.specs.Table.{mostSlots, sizesB, slotB, indexOf, recordAt, openB, activeB, gaugeAt, holdsB, orLater, lowest, findFrom, holderIn, withRecord, withLink, withGauge, foundOf}
 use Rattle.table.proofs.Links.{the-row}
 
 -- THE ARRAYS' LENGTHS, which a value of the type has
 pub links-length : (l : Links) (vs : List Val) (is : Is the-row l vs) → length (l .active) ≡ 4
 links-length l vs is = length-unmapped Bool (l .active) 4 (is .1 .1 .0 .1 .0 .1)
+
+pub gauges-length : (l : Links) (vs : List Val) (is : Is the-row l vs) → length (l .gauges) ≡ 4
+gauges-length l vs is = sym (length-map (l .gauges) _) ∙ is .1 .1 .1 .0 .1 .0 .1
 
 -- SIZES AND SLOTS: what a test that holds tells
 pub record Sizes (s n len count : ℕ) : Type 0 where
@@ -217,6 +222,73 @@ module _ (t : List Record) (k : ℕ) where
 
     pub put-record-returns-2 : Holds (not (ltb r (length t))) → t ≡ withRecord t k c
     put-record-returns-2 h = sym (set-out t r c (nltb→le r (length t) h)) ∙ ap (λ (i : ℕ). set t i c) e ∙ with-index c
+
+-- THE GAUGES
+-- within a list, what stands beyond it does not matter
+any-beyond : (l : List Gauge) (i : ℕ) (d e : Gauge) → i < length l → getD l i d ≡ getD l i e
+any-beyond [] i d e h = absurd (omega arith)
+any-beyond (q ∷ l) zero d e h = refl
+any-beyond (q ∷ l) (suc i) d e h = any-beyond l i d e (omega arith)
+
+module _ (l : List Gauge) where
+  pub gauge-low : (k : ℕ) → k < 1 → gaugeAt l k ≡ clearedOf
+  unfolding gaugeAt
+  gauge-low k h = let e : k ≡ 0 = omega arith in rw e
+
+  pub gauge-suc : (i : ℕ) → gaugeAt l (suc i) ≡ getD l i clearedOf
+  unfolding gaugeAt
+  gauge-suc i = refl
+
+  gauge-of : (k : ℕ) → 1 ≤ k → gaugeAt l k ≡ getD l (k - 1) clearedOf
+  gauge-of k h =
+      let e : k ≡ suc (k - 1) = omega arith in
+      ap (gaugeAt l) e ∙ gauge-suc (k - 1)
+
+  pub gauge-in : (k : ℕ) (d : Gauge) → 1 ≤ k → k ≤ length l → gaugeAt l k ≡ getD l (k - 1) d
+  gauge-in k d h g = gauge-of k h ∙ any-beyond l (k - 1) clearedOf d (omega arith)
+
+  pub gauge-out : (k : ℕ) → length l < k → gaugeAt l k ≡ clearedOf
+  gauge-out k h = gauge-of k (omega arith) ∙ List·getD-eq-default l clearedOf (omega arith)
+
+  pub with-gauge-low : (k : ℕ) (q : Gauge) → k < 1 → withGauge l k q ≡ l
+  unfolding withGauge
+  with-gauge-low k q h = let e : k ≡ 0 = omega arith in rw e
+
+  pub with-gauge-suc : (i : ℕ) (q : Gauge) → withGauge l (suc i) q ≡ set l i q
+  unfolding withGauge
+  with-gauge-suc i q = refl
+
+  pub with-gauge-in : (k : ℕ) (q : Gauge) → 1 ≤ k → withGauge l k q ≡ set l (k - 1) q
+  with-gauge-in k q h =
+      let e : k ≡ suc (k - 1) = omega arith in
+      ap (λ (j : ℕ). withGauge l j q) e ∙ with-gauge-suc (k - 1) q
+
+  pub with-gauge-out : (k : ℕ) (q : Gauge) → length l < k → withGauge l k q ≡ l
+  with-gauge-out k q h = with-gauge-in k q (omega arith) ∙ set-out l (k - 1) q (omega arith)
+
+  pub with-gauge-length : (k : ℕ) (q : Gauge) → length (withGauge l k q) ≡ length l
+  with-gauge-length zero q = ap length (with-gauge-low zero q (omega arith))
+  with-gauge-length (suc i) q = ap length (with-gauge-suc i q) ∙ length-set l i q
+
+-- a gauge put at a link is there, and nowhere else
+pub gauge-set-same : (l : List Gauge) (k : ℕ) (q : Gauge) → 1 ≤ k → k ≤ length l → gaugeAt (withGauge l k q) k ≡ q
+unfolding gaugeAt withGauge
+gauge-set-same l zero q h g = absurd (omega arith)
+gauge-set-same l (suc i) q h g = getD-set-same l i q clearedOf (omega arith)
+
+pub gauge-set-other : (l : List Gauge) (k j : ℕ) (q : Gauge) → (j ≡ k → ⊥) → gaugeAt (withGauge l k q) j ≡ gaugeAt l j
+unfolding gaugeAt withGauge
+gauge-set-other l zero j q h = refl
+gauge-set-other l (suc i) zero q h = refl
+gauge-set-other l (suc i) (suc j) q h = getD-set-other l i j q clearedOf (λ e. h (ap suc e))
+
+-- a cleared one is there even beyond them
+pub gauge-cleared : (l : List Gauge) (k : ℕ) → gaugeAt (withGauge l k clearedOf) k ≡ clearedOf
+unfolding gaugeAt withGauge
+gauge-cleared l zero = refl
+gauge-cleared [] (suc i) = refl
+gauge-cleared (q ∷ l) (suc zero) = refl
+gauge-cleared (q ∷ l) (suc (suc i)) = gauge-cleared l (suc i)
 
 module _ (l : List Bool) where
   pub link-low : (k : ℕ) → k < 1 → activeB l k ≡ false

@@ -5,6 +5,8 @@ use mathlib.Core.Bool.{Bool, true, false, _&&_, not, cond}
 use mathlib.Core.List.{List, [], _∷_}
 use lib.Dec.{leb, eqb}
 use lib.ListN.{length, getD, set}
+use Rattle.gauge.specs.declared.Gauge.{Gauge}
+use Rattle.gauge.specs.Gauge.{clearedOf}
 use Rattle.connection.specs.declared.Record.{Record}
 use Rattle.connection.specs.declared.Outcome.{Outcome}
 use Rattle.connection.specs.declared.Reply.the-variants.{Refused}
@@ -47,6 +49,11 @@ unfoldable pub activeB : List Bool → ℕ → Bool
 activeB links zero = false
 activeB links (suc i) = getD links i false
 
+-- its gauge (request 2026-10); beyond the links, a cleared one
+unfoldable pub gaugeAt : List Gauge → ℕ → Gauge
+gaugeAt gauges zero = clearedOf
+gaugeAt gauges (suc i) = getD gauges i clearedOf
+
 -- the record is open and has the token
 unfoldable pub holdsB : ℕ → Record → Bool
 holdsB token c = c .id .opened && eqb (c .id .own) token
@@ -79,6 +86,21 @@ withRecord t (suc i) c = set t i c
 unfoldable pub withLink : List Bool → ℕ → Bool → List Bool
 withLink l zero up = l
 withLink l (suc i) up = set l i up
+
+unfoldable pub withGauge : List Gauge → ℕ → Gauge → List Gauge
+withGauge gauges zero q = gauges
+withGauge gauges (suc i) q = set gauges i q
+
+-- THE LINKS AND THEIR GAUGES: link l active or down; another gauge for it
+abbrev pub activeSet : Links → ℕ → Bool → Links
+activeSet links l up = record { active = withLink (links .active) l up; gauges = links .gauges }
+
+abbrev pub gaugeSet : Links → ℕ → Gauge → Links
+gaugeSet links l q = record { active = links .active; gauges = withGauge (links .gauges) l q }
+
+-- a link change: one that is set down loses its gauge, also where it was down already
+unfoldable pub linkSet : Links → ℕ → Bool → Links
+linkSet links l up = cond up (activeSet links l up) (gaugeSet (activeSet links l up) l clearedOf)
 
 -- WHAT THE CODE ANSWERS. What a call on slot k, whose record is c, tests first: 1, then 2 (outside 1 to S, or closed); 0: neither
 unfoldable pub foundOf : ℕ → ℕ → ℕ → ℕ → ℕ → Record → ℕ

@@ -1,19 +1,22 @@
-// The connection table, lent as a slice of records, and the links, by value: sizes, slots, links, the search by token, putting a record back,
-// and what a call on one record answers (document 01, "The memory and the tables", "When the desk says no").
+// The connection table, lent as a slice of records, and the links with their gauges, by value: sizes, slots, links, the search by token,
+// putting a record back, and what a call on one record answers (document 01, "The memory and the tables", "When the desk says no").
 ghost use mathlib.Core.Path.{_≡_};
 ghost use mathlib.Core.Bool.{cond};
 ghost use Prim.Native.Nat.{ℕ, _+_, _*_, _≤_, _<_};
-ghost use Rattle.table.specs.Table.{sizesB, slotB, indexOf, recordAt, linkIn, activeB, holdsB, holderIn, withRecord, withLink};
+ghost use Rattle.table.specs.Table.{sizesB, slotB, indexOf, recordAt, linkIn, activeB, gaugeAt, holdsB, holderIn, withRecord};
+ghost use Rattle.table.specs.Table.{activeSet, gaugeSet, linkSet};
 ghost use Rattle.table.specs.Table.{foundOf, refusedBy, keptBy, turnedBy, settledBy};
 use connection::Outcome;
 use connection::Record;
 use connection::Reply;
+use gauge::Gauge;
 
 pub const MOST_SLOTS: usize = 255;
 
-// The four links, active or down.
+// The four links, active or down, and a gauge for each.
 pub struct Links {
     pub active: [bool; 4],
+    pub gauges: [Gauge; 4],
 }
 
 // What a call answers: what its line names, the message's bytes where one was made (else zeros), and the links that it leaves.
@@ -77,9 +80,9 @@ pub fn link_active(links: Links, link: u8) -> bool
     links.active[k]
 }
 
-// The links with one from 1 to 4 set.
-pub fn set_link(links: Links, link: u8, up: bool) -> Links
-    ensures { λ r. ⌜ r .active ≡ withLink (links .active) link up ⌝ }
+// The links with one from 1 to 4 active or down, and every gauge as it was.
+fn set_active(links: Links, link: u8, up: bool) -> Links
+    ensures { λ r. ⌜ r ≡ activeSet links link up ⌝ }
 {
     if link < 1 {
         return links;
@@ -91,6 +94,48 @@ pub fn set_link(links: Links, link: u8, up: bool) -> Links
     let mut next = links;
     next.active[i] = up;
     next
+}
+
+// The gauge of a link; a cleared one for a link outside 1 to 4.
+pub fn gauge_of(links: Links, link: u8) -> Gauge
+    ensures { λ r. ⌜ r ≡ gaugeAt (links .gauges) link ⌝ }
+{
+    if link < 1 {
+        return gauge::cleared();
+    }
+    if connection::MOST_LINK < link {
+        return gauge::cleared();
+    }
+    let j = link as usize - 1;
+    links.gauges[j]
+}
+
+// Another gauge for a link; nothing changes for a link outside 1 to 4.
+pub fn set_gauge(links: Links, link: u8, g: Gauge) -> Links
+    ensures { λ r. ⌜ r ≡ gaugeSet links link g ⌝ }
+{
+    if link < 1 {
+        return links;
+    }
+    if connection::MOST_LINK < link {
+        return links;
+    }
+    let at = link as usize - 1;
+    let mut next = links;
+    next.gauges[at] = g;
+    next
+}
+
+// The links with one from 1 to 4 set; one that is set down loses its gauge.
+pub fn set_link(links: Links, link: u8, up: bool) -> Links
+    ensures { λ r. ⌜ r ≡ linkSet links link up ⌝ }
+{
+    let next = set_active(links, link, up);
+    if up {
+        next
+    } else {
+        set_gauge(next, link, gauge::cleared())
+    }
 }
 
 // Where the record of a slot stands in a table of `count` records; `count` for a slot outside it.

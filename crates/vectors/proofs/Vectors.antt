@@ -1,5 +1,7 @@
 -- Every row of specs/Vectors comes out as it says, by computation. Assumes nothing.
 use mathlib.Core.Path.{_≡_, refl}
+use lib.Ieee.{add, sub, mul, lt, ofInt, ofBits}
+use Rattle.gauge.specs.Gauge.{smoothed, lateAt, sampledOf, healthOf}
 use Rattle.cursor.specs.Cursor.{inRange, sameB, movedOf, stepOf, turnsOf, distanceOf, goodB, gapOf}
 use Rattle.cdc.specs.Cdc.{highByte, lowByte, encodeOf, num2, num4, cursorOf, flagsOf, fieldsOf, decodeOf}
 use Rattle.llc.specs.Llc.{classOf, namedOf, kindOf, testReplyOf, noReply, answeredOf, receivedOf}
@@ -11,9 +13,9 @@ use Rattle.transmit.specs.Transmit.{sendForbids, nOf, producedOut, producedOf, 
 use Rattle.receive.specs.Receive.{placeForbids, mayPlace, placeOf, readForbids, unreadOf, consumedIn, consumedOf, updateOf, tornOf, takeOf, readOf}
 use Rattle.hear.specs.Hear.{ruledOf, nextB, abortedOf, producerB, consumerB, heardIn, heardOut, heardRecord, answersB, acceptedOf, followedOf, hearOf}
 use Rattle.finish.specs.Finish.{resetOf, closingOf, shutdownForbids, shutdownOf, closeForbids, closeOf, abortOf}
-use Rattle.table.specs.Table.{sizesB, slotB, recordAt, openB, activeB, holdsB, lowest, findFrom, withRecord, withLink}
+use Rattle.table.specs.Table.{sizesB, slotB, recordAt, openB, activeB, holdsB, lowest, findFrom, withRecord, withLink, gaugeAt, withGauge, linkSet}
 use Rattle.connection.specs.Connection.{openedRecord}
-use Rattle.rules.specs.Rules.{turnOf, requestTurn, hearTurn, refuses, putTurn, onDoes, hearAt, hearDoes, openRefusal, openDoes, freeRefusal, freeDoes, linkDoes, linkMessageDoes}
+use Rattle.rules.specs.Rules.{turnOf, requestTurn, hearTurn, refuses, putTurn, onDoes, hearAt, hearDoes, openRefusal, openDoes, freeRefusal, freeDoes, linkDoes, linkMessageDoes, sampleRefusal, sampleDoes}
 use Rattle.vectors.specs.Vectors.{played, found, vectors, VectorsRight}
 
 pub vectors-right : VectorsRight
@@ -28,8 +30,9 @@ unfolding inRange sameB movedOf stepOf turnsOf distanceOf goodB gapOf
     placeForbids mayPlace placeOf readForbids unreadOf consumedIn consumedOf updateOf tornOf takeOf readOf
     abortedOf producerB consumerB heardIn heardOut heardRecord answersB acceptedOf followedOf ruledOf nextB hearOf
     shutdownForbids shutdownOf closeForbids closeOf resetOf closingOf abortOf
-    sizesB slotB recordAt openB activeB holdsB lowest findFrom withRecord withLink
+    sizesB slotB recordAt openB activeB holdsB lowest findFrom withRecord withLink gaugeAt withGauge linkSet
     turnOf requestTurn hearTurn refuses putTurn onDoes hearAt hearDoes openedRecord openRefusal openDoes freeRefusal freeDoes linkDoes
-    linkMessageDoes
+    linkMessageDoes sampleRefusal sampleDoes
+    smoothed lateAt sampledOf healthOf add sub mul lt ofInt ofBits
     played found vectors
 vectors-right = refl

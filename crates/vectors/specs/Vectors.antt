@@ -8,6 +8,7 @@ use mathlib.Core.Option.{Option, some, none}
 use mathlib.Core.List.{List, [], _∷_, _++_, map}
 use lib.IntN.{ℤ, pos, negsuc}
 use lib.ListN.{replicate}
+use lib.Ieee.{Float, nan, binary64, ofBits}
 use Rattle.cursor.specs.declared.Cursor.{Cursor}
 use Rattle.cursor.specs.Cursor.{dataOf, distanceOf}
 use Rattle.cdc.specs.declared.Message.{Message}
@@ -16,13 +17,17 @@ use Rattle.closing.specs.declared.Marks.{Marks}
 use Rattle.closing.specs.declared.State.the-variants.{Active, PeerCloseWait1, PeerCloseWait2, AppCloseWait1, AppCloseWait2, PeerAbortWait, Closed}
 use Rattle.flow.specs.declared.Placing.{Placing}
 use Rattle.flow.specs.Flow.{windowOf}
+use Rattle.gauge.specs.declared.Gauge.{Gauge}
+use Rattle.gauge.specs.declared.Health.the-variants.{Steady, Late}
+use Rattle.gauge.specs.Gauge.{clearedOf}
 use Rattle.element.specs.Element.{freshElement}
 use Rattle.connection.specs.declared.Inbound.{Inbound}
 use Rattle.connection.specs.declared.Outbound.{Outbound}
 use Rattle.connection.specs.declared.Record.{Record}
 use Rattle.connection.specs.declared.Opening.{Opening}
 use Rattle.connection.specs.Connection.{zeroRecord, noMarks}
-use Rattle.rules.specs.Rules.{Group, Request, send, place, read, shutdown, close, abort, openSlot, freeSlot, linkChange, linkMessage, Call, on, hear, manage, Says, refusal, accepted, sent, wasRead, torn, reset, heard, Answer, answer, next, recordOf}
+use Rattle.table.specs.Table.{gaugeAt}
+use Rattle.rules.specs.Rules.{Group, Request, send, place, read, shutdown, close, abort, openSlot, freeSlot, linkChange, linkMessage, sample, Call, on, hear, manage, Says, refusal, accepted, sent, wasRead, torn, reset, heard, sampled, Answer, answer, next, recordOf}
 
 -- WHAT A ROW LAYS. An offset and a wrap number
 abbrev pub cur : ℕ → ℕ → Cursor
@@ -60,7 +65,8 @@ laid own peer size i o m =
     }
 
 abbrev pub aGroup : ℕ → ℕ → List Record → List ℕ → Group
-aGroup s n table memory = record { S = s; N = n; table = table; links = true ∷ true ∷ false ∷ false ∷ []; memory = memory }
+aGroup s n table memory =
+    record { S = s; N = n; table = table; links = true ∷ true ∷ false ∷ false ∷ []; gauges = replicate 4 clearedOf; memory = memory }
 
 -- host A with one connection, R and Q in B's element of N' bytes
 abbrev pub hostA : ℕ → Cursor → Cursor → Group
@@ -118,6 +124,8 @@ pub data Line : Type 0 where
   -- a slot's record, as it is now; and the memory
   slot : ℕ → Record → Line
   memory : List ℕ → Line
+  -- a link's gauge
+  gauge : ℕ → Gauge → Line
 
 pub data Vector : Type 0 where
   -- N', and a cursor plus k: Q, of a send of k bytes
@@ -142,6 +150,7 @@ named (wasRead n) = some n
 named torn = none
 named (heard moved state) = none
 named reset = none
+named (sampled q) = none
 
 abbrev pub messageIn : Answer → Option (List ℕ)
 messageIn a = cond (a .made) (some (a .message)) none
@@ -152,6 +161,7 @@ played g (gives c s m ∷ l) = gives c (answer g c .says) (messageIn (answer g c
 played g (hands c s m out ∷ l) = hands c (answer g c .says) (messageIn (answer g c)) (answer g c .out) ∷ played (next g c) l
 played g (slot k c ∷ l) = slot k (recordOf g k) ∷ played g l
 played g (memory m ∷ l) = memory (g .memory) ∷ played g l
+played g (gauge k q ∷ l) = gauge k (gaugeAt (g .gauges) k) ∷ played g l
 
 unfoldable pub found : Vector → Vector
 found (steps size c k e) = steps size c k (recordOf (next (hostA size c c) (on 1 (send (bytes k)))) 1 .outbound .producer)
@@ -168,7 +178,8 @@ found (plays g l) = plays g (played g l)
 
 -- WHAT THE WORKED EXAMPLES LAY. A fresh group of one slot; link 1 brought up, and slot 1 opened on it
 abbrev pub freshGroup : ℕ → Group
-freshGroup n = record { S = 1; N = n; table = zeroRecord ∷ []; links = false ∷ false ∷ false ∷ false ∷ []; memory = replicate n 0 }
+freshGroup n =
+    record { S = 1; N = n; table = zeroRecord ∷ []; links = replicate 4 false; gauges = replicate 4 clearedOf; memory = replicate n 0 }
 
 abbrev pub given : ℕ → ℕ → ℕ → Opening
 given own peer size = record { own = own; peer = peer; link = 1; remote = record { size = size } }
@@ -254,6 +265,31 @@ toB s l = told (0xFE2C_0000_01020304_0000_0000_00000004_0000_0000_00000004_0000 
 -- a link message by its first two bytes
 abbrev pub begins : ℕ → ℕ → Call
 begins first second = manage (linkMessage 1 (first ∷ second ∷ replicate 42 0))
+
+-- a double by its bits; a gauge; a group with such a gauge at link 1, which is active, and at link 3, which is down
+abbrev pub double : ℕ → Float
+double b = ofBits binary64 b
+
+abbrev pub gauged : ℕ → ℕ → ℕ → Bool → Gauge
+gauged mean worst count late = record { mean = double mean; worst = double worst; count = count; late = late }
+
+abbrev pub laidGauge : Gauge → Group
+laidGauge q =
+    record {
+      S = 1;
+      N = 8;
+      table = zeroRecord ∷ [];
+      links = true ∷ false ∷ false ∷ false ∷ [];
+      gauges = q ∷ clearedOf ∷ q ∷ clearedOf ∷ [];
+      memory = bytes 8;
+    }
+
+-- a sample's answer
+abbrev pub steady : ℕ → Says
+steady mean = sampled (Steady (double mean))
+
+abbrev pub late : ℕ → ℕ → Says
+late mean worst = sampled (Late (double mean) (double worst))
 
 -- THE ROWS. Those marked * come first, in the page's order. N is 10,000 unless said.
 unfoldable pub vectors : List Vector
@@ -472,6 +508,43 @@ vectors =
     (some (octets 20 0x072C0080_0102030405060708090A0B0C0D0E0F10 ++ replicate 24 0))
     ∷ gives (manage (linkMessage 1 (octets 20 0x072C0080_0102030405060708090A0B0C0D0E0F10 ++ replicate 24 0))) accepted none
     ∷ [])
+    -- SAMPLES (request 2026-10). The first, 100, is the mean and the worst; exactly 4 x 100 + 20 is not late; the mean goes to 140
+    ∷ plays (laidGauge clearedOf)
+    (gives (manage (sample 1 100)) (steady 0x4059000000000000) none
+    ∷ gives (manage (sample 1 420)) (steady 0x4061800000000000) none
+    ∷ gauge 1 (gauged 0x4061800000000000 0x407A400000000000 2 false)
+    ∷ [])
+    -- one above is late, with its mean, 140.125, and its worst, which stays when the link is steady again
+    ∷ plays (laidGauge clearedOf)
+    (gives (manage (sample 1 100)) (steady 0x4059000000000000) none
+    ∷ gives (manage (sample 1 421)) (late 0x4061840000000000 0x407A500000000000) none
+    ∷ gives (manage (sample 1 0)) (steady 0x405EA70000000000) none
+    ∷ gauge 1 (gauged 0x405EA70000000000 0x407A500000000000 3 false)
+    ∷ [])
+    -- 13, then 6, then 17; a link that goes down, or was down, loses its gauge
+    ∷ plays (laidGauge (gauged 0x4059000000000000 0x4059000000000000 255 true))
+    (gives (manage (sample 5 60001)) (refusal 13) none
+    ∷ gives (manage (sample 3 60001)) (refusal 6) none
+    ∷ gives (manage (sample 1 60001)) (refusal 17) none
+    ∷ gives (manage (sample 1 60000)) (late 0x40BDA38000000000 0x40ED4C0000000000) none
+    ∷ gauge 1 (gauged 0x40BDA38000000000 0x40ED4C0000000000 8 true)
+    ∷ gives (manage (linkChange 3 false)) accepted none
+    ∷ gauge 3 clearedOf
+    ∷ gives (manage (linkChange 1 false)) accepted none
+    ∷ gives (manage (linkChange 1 true)) accepted none
+    ∷ gives (manage (sample 1 7)) (steady 0x401C000000000000) none
+    ∷ [])
+    -- each operation rounds once: 0.1 + (8 - 0.1) x 0.125
+    ∷ plays (laidGauge (gauged 0x3FB999999999999A 0x3FB999999999999A 8 false))
+    (gives (manage (sample 1 8)) (steady 0x3FF1666666666667) none
+    ∷ [])
+    -- a mean that is not a number, and one that is minus infinity
+    ∷ plays (laidGauge (gauged 0x7FF8000000000000 0x7FF8000000000000 1 true))
+    (gives (manage (sample 1 7)) (sampled (Steady nan)) none
+    ∷ gauge 1 (record { mean = nan; worst = nan; count = 2; late = false })
+    ∷ [])
+    ∷ plays (laidGauge (gauged 0xFFF0000000000000 0xFFF0000000000000 1 false))
+    (gives (manage (sample 1 7)) (sampled (Late nan (double 0x401C000000000000))) none ∷ [])
     ∷ []
 
 -- computed by the rules, every row is the row that stands there

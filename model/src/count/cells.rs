@@ -77,6 +77,7 @@ impl Cells {
             cells.can(format!("bad line: {}", reason.name()));
         }
         super::pool::declare(&mut cells);
+        super::gauges::declare(&mut cells);
         for name in FURTHER {
             cells.can(name.to_string());
         }

@@ -7,6 +7,7 @@
 
 mod answers;
 mod cells;
+mod gauges;
 mod order;
 mod pool;
 mod refusals;
@@ -18,6 +19,7 @@ use answers::count_answer;
 use order::{count_order, holding};
 use refusals::count_refusal;
 
+use crate::gauge::Gauge;
 use crate::replay::{lines, skipped, Answer, Line, Replay};
 use crate::smcr::*;
 
@@ -104,6 +106,8 @@ fn count_call(cells: &mut Cells, replay: &mut Replay, line: &Line) {
         n: group.n(),
         s: group.s(),
         length: group.memory.len() as i64,
+        links: group.links,
+        gauges: group.gauges,
         element_used,
     };
     let answer = replay.execute(line);
@@ -113,6 +117,7 @@ fn count_call(cells: &mut Cells, replay: &mut Replay, line: &Line) {
         Some(number) => count_refusal(cells, word, number, line, &details),
         None => count_answer(cells, line, &answer, &replay.group, &details),
     }
+    gauges::count(cells, line, &answer, &details, &replay.group);
 }
 
 fn refusal(answer: &Answer) -> Option<u8> {
@@ -128,6 +133,8 @@ struct Details {
     n: i64,
     s: i64,
     length: i64,
+    links: [bool; LINKS],
+    gauges: [Gauge; LINKS],
     element_used: bool,
 }
 
@@ -153,6 +160,9 @@ fn word_of(line: &Line) -> &'static str {
         Line::Take { .. } => "take",
         Line::Return { .. } => "return",
         Line::Books { .. } | Line::BooksShown => "books",
+        Line::Sample { .. } => "sample",
+        Line::Health { .. } => "health",
+        Line::Gauge { .. } => "gauge",
     }
 }
 

@@ -1,6 +1,7 @@
 //! The order of refusals: which of them hold, and which one is given.
 
 use super::cells::Cells;
+use super::gauges;
 use super::tables::ORDERS;
 use crate::replay::Line;
 use crate::smcr::*;
@@ -85,6 +86,7 @@ pub(super) fn holding(group: &Group, line: &Line) -> Vec<u8> {
             hold(group.token_held_elsewhere(*own, *slot), 11);
         }
         Line::Link { link, .. } => hold(!link_in_range(*link), 13),
+        Line::Sample { link, milliseconds } => return gauges::holding(group, *link, *milliseconds),
         Line::LinkMsg { link, bytes } => {
             hold(!link_in_range(*link), 13);
             hold(link_down(*link), 6);

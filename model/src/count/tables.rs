@@ -13,6 +13,7 @@ pub(super) const ORDERS: &[(&str, &[u8])] = &[
     ("free", &[1, 2, 3, 7]),
     ("link", &[13]),
     ("linkmsg", &[13, 6, 4, 14]),
+    ("sample", &[13, 6, 17]),
     ("take", &[3, 18, 19]),
     ("return", &[3, 20]),
 ];
@@ -22,11 +23,14 @@ pub(super) const BESIDE: &[&str] = &["take", "return"];
 
 /// Why a call on the group that does not test a number never gives it.
 pub(super) const NOT_TESTED: &[(u8, &str)] = &[
-    (1, "link change and link message do not look at S, N or LEN"),
-    (2, "hear, link change and link message name no slot"),
+    (
+        1,
+        "the calls on links do not look at S, N, LEN or the table",
+    ),
+    (2, "hear and the calls on links name no slot"),
     (
         3,
-        "open, link change and link message read no open record of their own",
+        "open and the calls on links read no open record of their own",
     ),
     (4, "only hear and link message take a message"),
     (5, "only hear finds its slot by a token"),
@@ -36,16 +40,17 @@ pub(super) const NOT_TESTED: &[(u8, &str)] = &[
     ),
     (
         7,
-        "hear gives no 7, and open and the link calls ask for no state",
+        "hear gives no 7, and open and the calls on links ask for no state",
     ),
     (8, "only hear is given cursors"),
     (9, "only place stores bytes"),
     (10, "given by open alone"),
     (11, "given by open alone"),
     (12, "given by open alone"),
-    (13, "only open, link change and link message name a link"),
+    (13, "only open and the calls on links name a link"),
     (14, "given by link message alone"),
     (16, "only hear is given a sequence number"),
+    (17, "given by sample alone"),
 ];
 
 /// Pairs of refusals that cannot hold at once.
@@ -65,7 +70,7 @@ pub(super) const NOT_AT_ONCE: &[(&[&str], u8, &[u8], &str)] = &[
         "a slot outside 1 to S counts as none, open or not",
     ),
     (
-        &["open", "linkmsg"],
+        &["open", "linkmsg", "sample"],
         13,
         &[6],
         "a link outside 1 to 4 is neither active nor down",

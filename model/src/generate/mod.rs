@@ -1,11 +1,13 @@
 //! Lists of calls, made from a seed.
 
 pub mod exhaust;
+pub mod gauges;
 pub mod hostile;
 pub mod orders;
 pub mod pool;
 pub mod traffic;
 
+use crate::gauge::Gauge;
 use crate::pool::Books;
 use crate::replay::{print_line, Answer, Line, Replay};
 use crate::smcr::*;
@@ -153,6 +155,14 @@ impl List {
 
     pub fn memory(&mut self, at: usize, count: usize) {
         self.add(Line::Memory { at, count });
+    }
+
+    pub fn sample(&mut self, link: u8, milliseconds: u32) -> Answer {
+        self.add(Line::Sample { link, milliseconds })
+    }
+
+    pub fn gauge(&mut self, link: u8, gauge: Gauge) {
+        self.add(Line::Gauge { link, gauge });
     }
 
     pub fn take(&mut self, units: u32) -> Answer {

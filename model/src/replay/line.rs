@@ -1,10 +1,11 @@
 //! The lines that parse, the reasons why others do not, and the answers.
 
+use crate::gauge::{Gauge, Health};
 use crate::pool::Books;
 use crate::smcr::*;
 
 /// A line that parsed.
-#[derive(Clone, Debug, PartialEq, Eq)]
+#[derive(Clone, Debug, PartialEq)]
 pub enum Line {
     Group {
         elements: u32,
@@ -81,6 +82,17 @@ pub enum Line {
         books: Books,
     },
     BooksShown,
+    Sample {
+        link: u8,
+        milliseconds: u32,
+    },
+    Health {
+        link: u8,
+    },
+    Gauge {
+        link: u8,
+        gauge: Gauge,
+    },
 }
 
 /// Why a line did not parse. The answer is `bad line` for each.
@@ -94,11 +106,12 @@ pub enum BadLine {
     OddHex,
     LongHex,
     ByteCount,
+    NotFinite,
     LeavesMemory,
 }
 
 impl BadLine {
-    pub const ALL: [BadLine; 9] = [
+    pub const ALL: [BadLine; 10] = [
         BadLine::Word,
         BadLine::WordCount,
         BadLine::Number,
@@ -107,6 +120,7 @@ impl BadLine {
         BadLine::OddHex,
         BadLine::LongHex,
         BadLine::ByteCount,
+        BadLine::NotFinite,
         BadLine::LeavesMemory,
     ];
 
@@ -120,13 +134,14 @@ impl BadLine {
             BadLine::OddHex => "odd count of hex digits",
             BadLine::LongHex => "over 70,000 bytes of hex",
             BadLine::ByteCount => "wrong count of bytes",
+            BadLine::NotFinite => "a double that is not finite",
             BadLine::LeavesMemory => "poke or memory leaves LEN",
         }
     }
 }
 
 /// What a line answered.
-#[derive(Clone, Debug, PartialEq, Eq)]
+#[derive(Clone, Debug, PartialEq)]
 pub enum Answer {
     Bad,
     Refused(u8),
@@ -141,4 +156,5 @@ pub enum Answer {
     Memory { at: usize, count: usize },
     Taken(u32),
     Books,
+    Health(&'static str, Health),
 }

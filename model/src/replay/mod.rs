@@ -27,7 +27,7 @@ pub fn usual_records(elements: u32) -> usize {
 }
 
 /// What the lines work on: a group, and beside it what `group` leaves alone.
-#[derive(Clone, Debug, PartialEq, Eq)]
+#[derive(Clone, Debug, PartialEq)]
 pub struct Replay {
     pub group: Group,
     pub pool: Books,
@@ -119,6 +119,17 @@ impl Replay {
                 Answer::Word("books")
             }
             Line::BooksShown => Answer::Books,
+            Line::Sample { link, milliseconds } => {
+                let health = group.sample(*link, *milliseconds);
+                answered(health, |health| Answer::Health("sample", health))
+            }
+            Line::Health { link } => {
+                Answer::Health("health", group.gauges[usize::from(*link) - 1].health())
+            }
+            Line::Gauge { link, gauge } => {
+                group.gauges[usize::from(*link) - 1] = *gauge;
+                Answer::Word("gauge")
+            }
         }
     }
 

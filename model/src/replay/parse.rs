@@ -1,6 +1,7 @@
 //! Reading a line.
 
 use super::{BadLine, Line, Replay, MAX_RECORDS};
+use crate::gauge::Gauge;
 use crate::pool::Books;
 use crate::smcr::*;
 
@@ -78,16 +79,36 @@ fn hex_of<const COUNT: usize>(word: &[u8]) -> Result<[u8; COUNT], BadLine> {
     hex(word)?.try_into().map_err(|_| BadLine::ByteCount)
 }
 
+/// "A double is the 16 digits of its bits in HEX"; it must be finite.
+fn double(word: &[u8]) -> Result<f64, BadLine> {
+    let value = f64::from_be_bytes(hex_of(word)?);
+    if value.is_finite() {
+        Ok(value)
+    } else {
+        Err(BadLine::NotFinite)
+    }
+}
+
+/// A link from 1 to 4.
+fn gauged_link(word: &[u8]) -> Result<u8, BadLine> {
+    match number8(word)? {
+        link if link_in_range(link) => Ok(link),
+        _ => Err(BadLine::NumberRange),
+    }
+}
+
 /// How many words a line may have, its first word included.
 fn word_counts(first: &[u8]) -> Option<&'static [usize]> {
     Some(match first {
         b"table" | b"pool" => &[1],
         b"books" => &[1, 2],
-        b"free" | b"hear" | b"shutdown" | b"close" | b"abort" | b"take" => &[2],
-        b"link" | b"linkmsg" | b"send" | b"read" | b"poke" | b"memory" | b"return" => &[3],
+        b"free" | b"hear" | b"shutdown" | b"close" | b"abort" | b"take" | b"health" => &[2],
+        b"link" | b"linkmsg" | b"send" | b"read" | b"poke" | b"memory" | b"return" | b"sample" => {
+            &[3]
+        }
         b"group" => &[4, 5],
         b"place" => &[4],
-        b"open" => &[6],
+        b"open" | b"gauge" => &[6],
         b"record" => &[20],
         _ => return None,
     })
@@ -181,6 +202,22 @@ impl Replay {
             b"return" => Line::Return {
                 start: number32(words[1])?,
                 units: number32(words[2])?,
+            },
+            b"sample" => Line::Sample {
+                link: number8(words[1])?,
+                milliseconds: number32(words[2])?,
+            },
+            b"health" => Line::Health {
+                link: gauged_link(words[1])?,
+            },
+            b"gauge" => Line::Gauge {
+                link: gauged_link(words[1])?,
+                gauge: Gauge {
+                    mean: double(words[2])?,
+                    worst: double(words[3])?,
+                    count: number8(words[4])?,
+                    late: zero_or_one(words[5])?,
+                },
             },
             b"books" if words.len() == 1 => Line::BooksShown,
             b"books" => Line::Books {

@@ -2,6 +2,7 @@
 
 use super::parse::marks;
 use super::{Answer, Line, Replay};
+use crate::gauge::{Gauge, Health};
 use crate::smcr::*;
 
 const DIGITS: &[u8; 16] = b"0123456789ABCDEF";
@@ -53,6 +54,28 @@ fn push_record(out: &mut Vec<u8>, c: &Connection) {
     for field in fields {
         push(out, &format!(" {field}"));
     }
+}
+
+fn bits(double: f64) -> String {
+    format!("{:016X}", double.to_bits())
+}
+
+fn push_gauge(out: &mut Vec<u8>, link: usize, gauge: &Gauge) {
+    let (mean, worst) = (bits(gauge.mean), bits(gauge.worst));
+    let late = u8::from(gauge.late);
+    push(
+        out,
+        &format!("gauge {link} {mean} {worst} {} {late}", gauge.count),
+    );
+}
+
+fn push_health(out: &mut Vec<u8>, word: &str, health: &Health) {
+    let text = match health {
+        Health::Unheard => "unheard".to_string(),
+        Health::Steady(mean) => format!("steady {}", bits(*mean)),
+        Health::Late(mean, worst) => format!("late {} {}", bits(*mean), bits(*worst)),
+    };
+    push(out, &format!("{word} {text}"));
 }
 
 impl Replay {
@@ -122,12 +145,17 @@ impl Replay {
                 for active in group.links {
                     push(out, if active { " 1" } else { " 0" });
                 }
+                for (index, gauge) in group.gauges.iter().enumerate() {
+                    out.push(b'\n');
+                    push_gauge(out, index + 1, gauge);
+                }
             }
             Answer::Memory { at, count } => {
                 push(out, "memory ");
                 push_hex(out, &group.memory[*at..at + count]);
             }
             Answer::Taken(start) => push(out, &format!("take {start}")),
+            Answer::Health(word, health) => push_health(out, word, health),
             Answer::Books => {
                 push(out, "books ");
                 push_hex(out, &self.pool.0);
@@ -202,5 +230,8 @@ pub fn print_line(out: &mut Vec<u8>, line: &Line) {
             push_hex(out, &books.0);
         }
         Line::BooksShown => push(out, "books"),
+        Line::Sample { link, milliseconds } => push(out, &format!("sample {link} {milliseconds}")),
+        Line::Health { link } => push(out, &format!("health {link}")),
+        Line::Gauge { link, gauge } => push_gauge(out, usize::from(*link), gauge),
     }
 }

@@ -221,7 +221,7 @@ module _ {M : Type 1} (𝓤 : URA M) (H : Heap 𝓤) (A : Atoms 𝓤) (W : Given
   abbrev Post : Val → SProp 𝓤
   Post = walkOf 𝓤 H A call.ended stayed (call.clauses 𝓤 H A mem run) .post ((κs, qs, tt, x, at), tt)
 
-  exits : (res : Said) (v : Val) (w-mem : List ℕ) (w-table : List Record) (w-out : List ℕ) → length w-mem ≡ length ys-mem → length w-table ≡ length ys-table → length w-out ≡ length ys-out → LastWords (groupOf s n (ys-table) (links .active) (ys-mem)) slot (ys-bytes) res (w-table) (w-mem) → Is SaidT.the-row res (v ∷ [])
+  exits : (res : Said) (v : Val) (w-mem : List ℕ) (w-table : List Record) (w-out : List ℕ) → length w-mem ≡ length ys-mem → length w-table ≡ length ys-table → length w-out ≡ length ys-out → LastWords (groupOf s n (ys-table) links (ys-mem)) slot (ys-bytes) res (w-table) (w-mem) → Is SaidT.the-row res (v ∷ [])
       → ent 𝓤 (⋆ 𝓤 H A (‵ (flft κ₀ q₀) ∷ ‵ (flft κ₁ q₁) ∷ ‵ (flft κ₂ q₂) ∷ ‵ (flft κ₃ q₃) ∷ ‵ (finally u8 γ-mem w-mem) ∷ ‵ (finally RecordT.the-row γ-table w-table) ∷ ‵ (finally u8 γ-out w-out) ∷ [])) (Post v)
   exits res v w-mem w-table w-out l-mem l-table l-out e is =
       qed W (‵ (flft κ₀ q₀) ∷ ‵ (flft κ₁ q₁) ∷ ‵ (flft κ₂ q₂) ∷ ‵ (flft κ₃ q₃) ∷ ‵ (finally u8 γ-mem w-mem) ∷ ‵ (finally RecordT.the-row γ-table w-table) ∷ ‵ (finally u8 γ-out w-out) ∷ []) ∵ suffices ! _ (ends-at 𝓤 H A call.ended stayed (call.clauses 𝓤 H A mem run) W ((κs, qs, tt, x, at), tt) v res (tt, (tt, (w-mem, (w-table, (tt, (tt, (tt, (w-out, tt)))))))) (tt, (tt, (l-mem, (l-table, (tt, (tt, (tt, (l-out, tt))))))))) $
@@ -231,7 +231,7 @@ module _ {M : Type 1} (𝓤 : URA M) (H : Heap 𝓤) (A : Atoms 𝓤) (W : Given
     abbrev locals : ℕ → ℕ → ℕ → ℕ → ℕ → ℕ → ℕ → ℕ → ℕ → ℕ → ℕ → ℕ → ℕ → ℕ → ℕ → ℕ → ℕ → ℕ → ℕ → ℕ → ℕ → ℕ → ℕ → ℕ → ℕ → Env 𝓤 H
     locals l₀ l₁ l₂ l₃ l₄ l₅ l₆ l₇ l₈ l₉ l₁₀ l₁₁ l₁₂ l₁₃ l₁₄ l₁₅ l₁₆ l₁₇ l₁₈ l₁₉ l₂₀ l₂₁ l₂₂ l₂₃ l₂₄ = (SaidL.mir, l₀) ∷ ((tyInt w32), l₁) ∷ ((tyInt w32), l₂) ∷ ((sliceTy (tyRef (named 0) mut (tyInt w8))), l₃) ∷ ((sliceTy (tyRef (named 1) mut (pointee (RecordT.the-row .written)))), l₄) ∷ (LinksL.mir, l₅) ∷ ((tyInt w32), l₆) ∷ ((sliceTy (tyRef (named 2) imm (tyInt w8))), l₇) ∷ ((sliceTy (tyRef (named 3) mut (tyInt w8))), l₈) ∷ (AnsweredL.mir, l₉) ∷ (LinksL.mir, l₁₀) ∷ (AnsweredL.mir, l₁₁) ∷ ((tyRef erased mut (tyInt w8)), l₁₂) ∷ ((sliceTy (tyRef erased mut (tyInt w8))), l₁₃) ∷ ((tyRef erased mut (pointee (RecordT.the-row .written))), l₁₄) ∷ ((sliceTy (tyRef erased mut (pointee (RecordT.the-row .written)))), l₁₅) ∷ (CommandL.mir, l₁₆) ∷ ((tyRef erased mut (tyInt w8)), l₁₇) ∷ ((sliceTy (tyRef erased mut (tyInt w8))), l₁₈) ∷ ((tyRef erased mut (tyInt w8)), l₁₉) ∷ ((sliceTy (tyRef erased mut (tyInt w8))), l₂₀) ∷ ((tyRef erased mut (pointee (RecordT.the-row .written))), l₂₁) ∷ ((sliceTy (tyRef erased mut (pointee (RecordT.the-row .written)))), l₂₂) ∷ ((tyRef erased mut (tyInt w8)), l₂₃) ∷ ((sliceTy (tyRef erased mut (tyInt w8))), l₂₄) ∷ []
 
-    part-4 : (l₀ l₁ l₂ l₃ l₄ l₅ l₆ l₇ l₈ l₉ l₁₀ l₁₁ l₁₂ l₁₃ l₁₄ l₁₅ l₁₆ l₁₇ l₁₈ l₁₉ l₂₀ l₂₁ l₂₂ l₂₃ l₂₄ : ℕ) (w : Val) (r : Command) (ws : Unit {0} × Unit {0}) (e : r ≡ On slot Send) (is : Is CommandT.the-row r (w ∷ [])) (w₂ : Val) (r₂ : Answered) (ws₂ : Unit {0} × (Unit {0} × (List ℕ × (List Record × (Unit {0} × (Unit {0} × (Unit {0} × (List ℕ × Unit {0})))))))) (e₂ : Did (groupOf s n (ys-table) (links .active) (ys-mem)) (callOf r (ys-bytes) (ys-out)) (answerOf r₂ (outLeft r (ws₂ .1 .1 .1 .1 .1 .1 .1 .0))) (groupOf s n (ws₂ .1 .1 .1 .0) (r₂ .links .active) (ws₂ .1 .1 .0)) × OutKept r (ys-out) (ws₂ .1 .1 .1 .1 .1 .1 .1 .0)) (len : length (ws₂ .1 .1 .0) ≡ length ys-mem) (len₂ : length (ws₂ .1 .1 .1 .0) ≡ length ys-table) (len₃ : length (ws₂ .1 .1 .1 .1 .1 .1 .1 .0) ≡ length ys-out) (is₂ : Is AnsweredT.the-row r₂ (w₂ ∷ [])) (w₃ : Val) (r₃ : Links) (ws₃ : Unit {0} × Unit {0}) (e₃ : r₃ ≡ r₂ .links) (is₃ : Is LinksT.the-row r₃ (w₃ ∷ [])) (w₄ : Val) (r₄ : Command) (ws₄ : Unit {0} × Unit {0}) (e₄ : r₄ ≡ On slot Shutdown) (is₄ : Is CommandT.the-row r₄ (w₄ ∷ [])) → Sq W (‵ (fobs γ-out (codedHoleys u8 .code (heres u8 (ws₂ .1 .1 .1 .1 .1 .1 .1 .0)))) ∷ ‵ (fbor κ₃ (Held u8 (length (ws₂ .1 .1 .1 .1 .1 .1 .1 .0)) b-out o-out γ-out)) ∷ ‵ (flft κ₃ q₃) ∷ ‵ (fobs γ-table (codedHoleys RecordT.the-row .code (heres RecordT.the-row (ws₂ .1 .1 .1 .0)))) ∷ ‵ (fbor κ₁ (Held RecordT.the-row (length (ws₂ .1 .1 .1 .0)) b-table o-table γ-table)) ∷ ‵ (flft κ₁ q₁) ∷ ‵ (fobs γ-mem (codedHoleys u8 .code (heres u8 (ws₂ .1 .1 .0)))) ∷ ‵ (fbor κ₀ (Held u8 (length (ws₂ .1 .1 .0)) b-mem o-mem γ-mem)) ∷ ‵ (flft κ₀ q₀) ∷ ‵ (flft κ₂ q₂) ∷ ‵ Own-bytes ∷ ‵ (froom (sliceTy (tyRef erased mut (tyInt w8))) l₂₄ 0) ∷ ‵ (fdies (sliceTy (tyRef erased mut (tyInt w8))) l₂₄) ∷ ‵ (froom (tyRef erased mut (tyInt w8)) l₂₃ 0) ∷ ‵ (fdies (tyRef erased mut (tyInt w8)) l₂₃) ∷ ‵ (fat fullShare (sliceTy (tyRef erased mut (pointee (RecordT.the-row .written)))) l₂₂ 0 (s-table)) ∷ ‵ (fdies (sliceTy (tyRef erased mut (pointee (RecordT.the-row .written)))) l₂₂) ∷ ‵ (fat fullShare (tyRef erased mut (pointee (RecordT.the-row .written))) l₂₁ 0 (vptr b-table o-table)) ∷ ‵ (fdies (tyRef erased mut (pointee (RecordT.the-row .written))) l₂₁) ∷ ‵ (fat fullShare (sliceTy (tyRef erased mut (tyInt w8))) l₂₀ 0 (s-mem)) ∷ ‵ (fdies (sliceTy (tyRef erased mut (tyInt w8))) l₂₀) ∷ ‵ (fat fullShare (tyRef erased mut (tyInt w8)) l₁₉ 0 (vptr b-mem o-mem)) ∷ ‵ (fdies (tyRef erased mut (tyInt w8)) l₁₉) ∷ ‵ (fat fullShare (sliceTy (tyRef erased mut (tyInt w8))) l₁₈ 0 (s-out)) ∷ ‵ (fdies (sliceTy (tyRef erased mut (tyInt w8))) l₁₈) ∷ ‵ (fat fullShare (tyRef erased mut (tyInt w8)) l₁₇ 0 (vptr b-out o-out)) ∷ ‵ (fdies (tyRef erased mut (tyInt w8)) l₁₇) ∷ ‵ (fat fullShare CommandL.mir l₁₆ 0 (w₄)) ∷ ‵ (fdies CommandL.mir l₁₆) ∷ ‵ (fat fullShare (sliceTy (tyRef erased mut (pointee (RecordT.the-row .written)))) l₁₅ 0 (s-table)) ∷ ‵ (fdies (sliceTy (tyRef erased mut (pointee (RecordT.the-row .written)))) l₁₅) ∷ ‵ (fat fullShare (tyRef erased mut (pointee (RecordT.the-row .written))) l₁₄ 0 (vptr b-table o-table)) ∷ ‵ (fdies (tyRef erased mut (pointee (RecordT.the-row .written))) l₁₄) ∷ ‵ (fat fullShare (sliceTy (tyRef erased mut (tyInt w8))) l₁₃ 0 (s-mem)) ∷ ‵ (fdies (sliceTy (tyRef erased mut (tyInt w8))) l₁₃) ∷ ‵ (fat fullShare (tyRef erased mut (tyInt w8)) l₁₂ 0 (vptr b-mem o-mem)) ∷ ‵ (fdies (tyRef erased mut (tyInt w8)) l₁₂) ∷ ‵ (froom AnsweredL.mir l₁₁ 0) ∷ ‵ (fdies AnsweredL.mir l₁₁) ∷ ‵ (fat fullShare LinksL.mir l₁₀ 0 (w₃)) ∷ ‵ (fdies LinksL.mir l₁₀) ∷ ‵ (fat fullShare AnsweredL.mir l₉ 0 (w₂)) ∷ ‵ (fdies AnsweredL.mir l₉) ∷ ‵ (fat fullShare (sliceTy (tyRef (named 3) mut (tyInt w8))) l₈ 0 (s-out)) ∷ ‵ (fdies (sliceTy (tyRef (named 3) mut (tyInt w8))) l₈) ∷ ‵ (fat fullShare (sliceTy (tyRef (named 2) imm (tyInt w8))) l₇ 0 (s-bytes)) ∷ ‵ (fdies (sliceTy (tyRef (named 2) imm (tyInt w8))) l₇) ∷ ‵ (fat fullShare (tyInt w32) l₆ 0 (vint w32 slot)) ∷ ‵ (fdies (tyInt w32) l₆) ∷ ‵ (fat fullShare LinksL.mir l₅ 0 (v-links)) ∷ ‵ (fdies LinksL.mir l₅) ∷ ‵ (fat fullShare (sliceTy (tyRef (named 1) mut (pointee (RecordT.the-row .written)))) l₄ 0 (s-table)) ∷ ‵ (fdies (sliceTy (tyRef (named 1) mut (pointee (RecordT.the-row .written)))) l₄) ∷ ‵ (fat fullShare (sliceTy (tyRef (named 0) mut (tyInt w8))) l₃ 0 (s-mem)) ∷ ‵ (fdies (sliceTy (tyRef (named 0) mut (tyInt w8))) l₃) ∷ ‵ (fat fullShare (tyInt w32) l₂ 0 (vint w32 n)) ∷ ‵ (fdies (tyInt w32) l₂) ∷ ‵ (fat fullShare (tyInt w32) l₁ 0 (vint w32 s)) ∷ ‵ (fdies (tyInt w32) l₁) ∷ ‵ (froom SaidL.mir l₀ 0) ∷ ‵ (fdies SaidL.mir l₀) ∷ []) (runs C Λ (locals l₀ l₁ l₂ l₃ l₄ l₅ l₆ l₇ l₈ l₉ l₁₀ l₁₁ l₁₂ l₁₃ l₁₄ l₁₅ l₁₆ l₁₇ l₁₈ l₁₉ l₂₀ l₂₁ l₂₂ l₂₃ l₂₄) (after 14 (code.function .body)) (atRet (locals l₀ l₁ l₂ l₃ l₄ l₅ l₆ l₇ l₈ l₉ l₁₀ l₁₁ l₁₂ l₁₃ l₁₄ l₁₅ l₁₆ l₁₇ l₁₈ l₁₉ l₂₀ l₂₁ l₂₂ l₂₃ l₂₄) Post))
+    part-4 : (l₀ l₁ l₂ l₃ l₄ l₅ l₆ l₇ l₈ l₉ l₁₀ l₁₁ l₁₂ l₁₃ l₁₄ l₁₅ l₁₆ l₁₇ l₁₈ l₁₉ l₂₀ l₂₁ l₂₂ l₂₃ l₂₄ : ℕ) (w : Val) (r : Command) (ws : Unit {0} × Unit {0}) (e : r ≡ On slot Send) (is : Is CommandT.the-row r (w ∷ [])) (w₂ : Val) (r₂ : Answered) (ws₂ : Unit {0} × (Unit {0} × (List ℕ × (List Record × (Unit {0} × (Unit {0} × (Unit {0} × (List ℕ × Unit {0})))))))) (e₂ : Did (groupOf s n (ys-table) links (ys-mem)) (callOf r (ys-bytes) (ys-out)) (answerOf r₂ (outLeft r (ws₂ .1 .1 .1 .1 .1 .1 .1 .0))) (groupOf s n (ws₂ .1 .1 .1 .0) (r₂ .links) (ws₂ .1 .1 .0)) × OutKept r (ys-out) (ws₂ .1 .1 .1 .1 .1 .1 .1 .0)) (len : length (ws₂ .1 .1 .0) ≡ length ys-mem) (len₂ : length (ws₂ .1 .1 .1 .0) ≡ length ys-table) (len₃ : length (ws₂ .1 .1 .1 .1 .1 .1 .1 .0) ≡ length ys-out) (is₂ : Is AnsweredT.the-row r₂ (w₂ ∷ [])) (w₃ : Val) (r₃ : Links) (ws₃ : Unit {0} × Unit {0}) (e₃ : r₃ ≡ r₂ .links) (is₃ : Is LinksT.the-row r₃ (w₃ ∷ [])) (w₄ : Val) (r₄ : Command) (ws₄ : Unit {0} × Unit {0}) (e₄ : r₄ ≡ On slot Shutdown) (is₄ : Is CommandT.the-row r₄ (w₄ ∷ [])) → Sq W (‵ (fobs γ-out (codedHoleys u8 .code (heres u8 (ws₂ .1 .1 .1 .1 .1 .1 .1 .0)))) ∷ ‵ (fbor κ₃ (Held u8 (length (ws₂ .1 .1 .1 .1 .1 .1 .1 .0)) b-out o-out γ-out)) ∷ ‵ (flft κ₃ q₃) ∷ ‵ (fobs γ-table (codedHoleys RecordT.the-row .code (heres RecordT.the-row (ws₂ .1 .1 .1 .0)))) ∷ ‵ (fbor κ₁ (Held RecordT.the-row (length (ws₂ .1 .1 .1 .0)) b-table o-table γ-table)) ∷ ‵ (flft κ₁ q₁) ∷ ‵ (fobs γ-mem (codedHoleys u8 .code (heres u8 (ws₂ .1 .1 .0)))) ∷ ‵ (fbor κ₀ (Held u8 (length (ws₂ .1 .1 .0)) b-mem o-mem γ-mem)) ∷ ‵ (flft κ₀ q₀) ∷ ‵ (flft κ₂ q₂) ∷ ‵ Own-bytes ∷ ‵ (froom (sliceTy (tyRef erased mut (tyInt w8))) l₂₄ 0) ∷ ‵ (fdies (sliceTy (tyRef erased mut (tyInt w8))) l₂₄) ∷ ‵ (froom (tyRef erased mut (tyInt w8)) l₂₃ 0) ∷ ‵ (fdies (tyRef erased mut (tyInt w8)) l₂₃) ∷ ‵ (fat fullShare (sliceTy (tyRef erased mut (pointee (RecordT.the-row .written)))) l₂₂ 0 (s-table)) ∷ ‵ (fdies (sliceTy (tyRef erased mut (pointee (RecordT.the-row .written)))) l₂₂) ∷ ‵ (fat fullShare (tyRef erased mut (pointee (RecordT.the-row .written))) l₂₁ 0 (vptr b-table o-table)) ∷ ‵ (fdies (tyRef erased mut (pointee (RecordT.the-row .written))) l₂₁) ∷ ‵ (fat fullShare (sliceTy (tyRef erased mut (tyInt w8))) l₂₀ 0 (s-mem)) ∷ ‵ (fdies (sliceTy (tyRef erased mut (tyInt w8))) l₂₀) ∷ ‵ (fat fullShare (tyRef erased mut (tyInt w8)) l₁₉ 0 (vptr b-mem o-mem)) ∷ ‵ (fdies (tyRef erased mut (tyInt w8)) l₁₉) ∷ ‵ (fat fullShare (sliceTy (tyRef erased mut (tyInt w8))) l₁₈ 0 (s-out)) ∷ ‵ (fdies (sliceTy (tyRef erased mut (tyInt w8))) l₁₈) ∷ ‵ (fat fullShare (tyRef erased mut (tyInt w8)) l₁₇ 0 (vptr b-out o-out)) ∷ ‵ (fdies (tyRef erased mut (tyInt w8)) l₁₇) ∷ ‵ (fat fullShare CommandL.mir l₁₆ 0 (w₄)) ∷ ‵ (fdies CommandL.mir l₁₆) ∷ ‵ (fat fullShare (sliceTy (tyRef erased mut (pointee (RecordT.the-row .written)))) l₁₅ 0 (s-table)) ∷ ‵ (fdies (sliceTy (tyRef erased mut (pointee (RecordT.the-row .written)))) l₁₅) ∷ ‵ (fat fullShare (tyRef erased mut (pointee (RecordT.the-row .written))) l₁₄ 0 (vptr b-table o-table)) ∷ ‵ (fdies (tyRef erased mut (pointee (RecordT.the-row .written))) l₁₄) ∷ ‵ (fat fullShare (sliceTy (tyRef erased mut (tyInt w8))) l₁₃ 0 (s-mem)) ∷ ‵ (fdies (sliceTy (tyRef erased mut (tyInt w8))) l₁₃) ∷ ‵ (fat fullShare (tyRef erased mut (tyInt w8)) l₁₂ 0 (vptr b-mem o-mem)) ∷ ‵ (fdies (tyRef erased mut (tyInt w8)) l₁₂) ∷ ‵ (froom AnsweredL.mir l₁₁ 0) ∷ ‵ (fdies AnsweredL.mir l₁₁) ∷ ‵ (fat fullShare LinksL.mir l₁₀ 0 (w₃)) ∷ ‵ (fdies LinksL.mir l₁₀) ∷ ‵ (fat fullShare AnsweredL.mir l₉ 0 (w₂)) ∷ ‵ (fdies AnsweredL.mir l₉) ∷ ‵ (fat fullShare (sliceTy (tyRef (named 3) mut (tyInt w8))) l₈ 0 (s-out)) ∷ ‵ (fdies (sliceTy (tyRef (named 3) mut (tyInt w8))) l₈) ∷ ‵ (fat fullShare (sliceTy (tyRef (named 2) imm (tyInt w8))) l₇ 0 (s-bytes)) ∷ ‵ (fdies (sliceTy (tyRef (named 2) imm (tyInt w8))) l₇) ∷ ‵ (fat fullShare (tyInt w32) l₆ 0 (vint w32 slot)) ∷ ‵ (fdies (tyInt w32) l₆) ∷ ‵ (fat fullShare LinksL.mir l₅ 0 (v-links)) ∷ ‵ (fdies LinksL.mir l₅) ∷ ‵ (fat fullShare (sliceTy (tyRef (named 1) mut (pointee (RecordT.the-row .written)))) l₄ 0 (s-table)) ∷ ‵ (fdies (sliceTy (tyRef (named 1) mut (pointee (RecordT.the-row .written)))) l₄) ∷ ‵ (fat fullShare (sliceTy (tyRef (named 0) mut (tyInt w8))) l₃ 0 (s-mem)) ∷ ‵ (fdies (sliceTy (tyRef (named 0) mut (tyInt w8))) l₃) ∷ ‵ (fat fullShare (tyInt w32) l₂ 0 (vint w32 n)) ∷ ‵ (fdies (tyInt w32) l₂) ∷ ‵ (fat fullShare (tyInt w32) l₁ 0 (vint w32 s)) ∷ ‵ (fdies (tyInt w32) l₁) ∷ ‵ (froom SaidL.mir l₀ 0) ∷ ‵ (fdies SaidL.mir l₀) ∷ []) (runs C Λ (locals l₀ l₁ l₂ l₃ l₄ l₅ l₆ l₇ l₈ l₉ l₁₀ l₁₁ l₁₂ l₁₃ l₁₄ l₁₅ l₁₆ l₁₇ l₁₈ l₁₉ l₂₀ l₂₁ l₂₂ l₂₃ l₂₄) (after 14 (code.function .body)) (atRet (locals l₀ l₁ l₂ l₃ l₄ l₅ l₆ l₇ l₈ l₉ l₁₀ l₁₁ l₁₂ l₁₃ l₁₄ l₁₅ l₁₆ l₁₇ l₁₈ l₁₉ l₂₀ l₂₁ l₂₂ l₂₃ l₂₄) Post))
     part-4 l₀ l₁ l₂ l₃ l₄ l₅ l₆ l₇ l₈ l₉ l₁₀ l₁₁ l₁₂ l₁₃ l₁₄ l₁₅ l₁₆ l₁₇ l₁₈ l₁₉ l₂₀ l₂₁ l₂₂ l₂₃ l₂₄ w r ws e is w₂ r₂ ws₂ e₂ len len₂ len₃ is₂ w₃ r₃ ws₃ e₃ is₃ w₄ r₄ ws₄ e₄ is₄ =
         assigns ! (addr ! (from ! (fld ! refl (hop ! (look-in ! 43 (sub ! 0 refl (whole !))) (stop !))))) (from ! (stop !)) (init ! 13 refl (tt, tt)) $
         assigns ! (agg ! (and-then ! (load ! (from ! (stop !)) (look ! 13 refl)) (and-then ! (load ! (from ! (fld ! refl (stop !))) (look-in ! 43 (sub ! 1 refl (whole !)))) (no-more !)))) (from ! (stop !)) (init ! 11 refl (tt, (tt, (record { fits = g-out .0 }, tt)))) $
@@ -241,8 +241,8 @@ module _ {M : Type 1} (𝓤 : URA M) (H : Heap 𝓤) (A : Atoms 𝓤) (W : Given
         nothing ! $ move ! (1 ∷ 0 ∷ []) $ join ! $ move ! (7 ∷ 0 ∷ []) $ join ! $ move ! (7 ∷ 0 ∷ []) $ join ! $ move ! (12 ∷ 0 ∷ []) $ join ! $ move ! (2 ∷ 0 ∷ []) $ join ! $ move ! (16 ∷ 0 ∷ []) $ join ! $ move ! (7 ∷ 0 ∷ []) $ join ! $ move ! (11 ∷ 0 ∷ []) $ join ! $ use1 W (raw (C-f-make 𝓤 H A mem run .pre (to-f-make 𝓤 H A mem run (ν₄ ∷ []) fullShare (ν₅ ∷ []) fullShare κ₂ q₂ (ν₆ ∷ []) fullShare s (vint w32 s) n (vint w32 n) (record { ptr = (b-mem, o-mem); name = δ₄; now = (ws₂ .1 .1 .0) }) (sliceVal (b-mem, o-mem) (length (ws₂ .1 .1 .0))) (record { ptr = (b-table, o-table); name = δ₅; now = (ws₂ .1 .1 .1 .0) }) (sliceVal (b-table, o-table) (length (ws₂ .1 .1 .1 .0))) r₃ (w₃) r₄ (w₄) x-bytes s-bytes (record { ptr = (b-out, o-out); name = δ₆; now = (ws₂ .1 .1 .1 .1 .1 .1 .1 .0) }) (sliceVal (b-out, o-out) (length (ws₂ .1 .1 .1 .1 .1 .1 .1 .0)))))) (goes-f-make 𝓤 H A W mem run (ν₄ ∷ []) fullShare (ν₅ ∷ []) fullShare κ₂ q₂ (ν₆ ∷ []) fullShare s (vint w32 s) n (vint w32 n) (record { ptr = (b-mem, o-mem); name = δ₄; now = (ws₂ .1 .1 .0) }) (sliceVal (b-mem, o-mem) (length (ws₂ .1 .1 .0))) (record { ptr = (b-table, o-table); name = δ₅; now = (ws₂ .1 .1 .1 .0) }) (sliceVal (b-table, o-table) (length (ws₂ .1 .1 .1 .0))) r₃ (w₃) r₄ (w₄) x-bytes s-bytes (record { ptr = (b-out, o-out); name = δ₆; now = (ws₂ .1 .1 .1 .1 .1 .1 .1 .0) }) (sliceVal (b-out, o-out) (length (ws₂ .1 .1 .1 .1 .1 .1 .1 .0))) (refl, g-s) (refl, g-n) is₃ is₄) $
         calls-at ! fm (C-f-make 𝓤 H A mem run) known-f-make (to-f-make 𝓤 H A mem run (ν₄ ∷ []) fullShare (ν₅ ∷ []) fullShare κ₂ q₂ (ν₆ ∷ []) fullShare s (vint w32 s) n (vint w32 n) (record { ptr = (b-mem, o-mem); name = δ₄; now = (ws₂ .1 .1 .0) }) (sliceVal (b-mem, o-mem) (length (ws₂ .1 .1 .0))) (record { ptr = (b-table, o-table); name = δ₅; now = (ws₂ .1 .1 .1 .0) }) (sliceVal (b-table, o-table) (length (ws₂ .1 .1 .1 .0))) r₃ (w₃) r₄ (w₄) x-bytes s-bytes (record { ptr = (b-out, o-out); name = δ₆; now = (ws₂ .1 .1 .1 .1 .1 .1 .1 .0) }) (sliceVal (b-out, o-out) (length (ws₂ .1 .1 .1 .1 .1 .1 .1 .0)))) (and-then ! (load ! (from ! (stop !)) (look ! 60 refl)) (and-then ! (load ! (from ! (stop !)) (look ! 58 refl)) (and-then ! (load ! (from ! (stop !)) (look ! 22 refl)) (and-then ! (load ! (from ! (stop !)) (look ! 18 refl)) (and-then ! (load ! (from ! (stop !)) (look ! 42 refl)) (and-then ! (load ! (from ! (stop !)) (look ! 30 refl)) (and-then ! (load ! (from ! (stop !)) (look ! 48 refl)) (and-then ! (load ! (from ! (stop !)) (look ! 14 refl)) (no-more !))))))))) (λ w₅.
         use1 W (later (some (λ (r₅ : Answered). ((‵ (flft (ν₄ ∷ []) fullShare) ⊛ ‵ (flft (ν₅ ∷ []) fullShare) ⊛ ‵ (flft κ₂ q₂) ⊛ ‵ (flft (ν₆ ∷ []) fullShare) ⊛ ‵ ftrue) ⊛ ‵ (AnsweredT.the-row .own r₅ (w₅ ∷ []))) ⊛ raw (ensured 𝓤 H A f-make.ended (f-make.clauses 𝓤 H A mem run) ((ν₄ ∷ []), ((ν₅ ∷ []), (κ₂, ((ν₆ ∷ []), tt)))) (s, (n, ((record { ptr = (b-mem, o-mem); name = δ₄; now = (ws₂ .1 .1 .0) }), ((record { ptr = (b-table, o-table); name = δ₅; now = (ws₂ .1 .1 .1 .0) }), (r₃, (r₄, (x-bytes, ((record { ptr = (b-out, o-out); name = δ₆; now = (ws₂ .1 .1 .1 .1 .1 .1 .1 .0) }), tt)))))))) tt r₅)))) (id⊢ 𝓤 _) $ await ! tt $ pick ! (λ r₅.
-        split ! $ move ! (1 ∷ []) $ use1 W (some (λ (ws₅ : Unit {0} × (Unit {0} × (List ℕ × (List Record × (Unit {0} × (Unit {0} × (Unit {0} × (List ℕ × Unit {0})))))))). ‵ (lasts f-make.ended ((ν₄ ∷ []), ((ν₅ ∷ []), (κ₂, ((ν₆ ∷ []), tt)))) (s, (n, ((record { ptr = (b-mem, o-mem); name = δ₄; now = (ws₂ .1 .1 .0) }), ((record { ptr = (b-table, o-table); name = δ₅; now = (ws₂ .1 .1 .1 .0) }), (r₃, (r₄, (x-bytes, ((record { ptr = (b-out, o-out); name = δ₆; now = (ws₂ .1 .1 .1 .1 .1 .1 .1 .0) }), tt)))))))) ws₅) ⊛ raw (fact 𝓤 (Did (groupOf s n ((ws₂ .1 .1 .1 .0)) (r₃ .active) ((ws₂ .1 .1 .0))) (callOf r₄ (ys-bytes) ((ws₂ .1 .1 .1 .1 .1 .1 .1 .0))) (answerOf r₅ (outLeft r₄ (ws₅ .1 .1 .1 .1 .1 .1 .1 .0))) (groupOf s n (ws₅ .1 .1 .1 .0) (r₅ .links .active) (ws₅ .1 .1 .0)) × OutKept r₄ ((ws₂ .1 .1 .1 .1 .1 .1 .1 .0)) (ws₅ .1 .1 .1 .1 .1 .1 .1 .0))))) (id⊢ 𝓤 _) $ pick ! (λ ws₅.
-        split ! $ move ! (1 ∷ []) $ heard ! (Did (groupOf s n ((ws₂ .1 .1 .1 .0)) (r₃ .active) ((ws₂ .1 .1 .0))) (callOf r₄ (ys-bytes) ((ws₂ .1 .1 .1 .1 .1 .1 .1 .0))) (answerOf r₅ (outLeft r₄ (ws₅ .1 .1 .1 .1 .1 .1 .1 .0))) (groupOf s n (ws₅ .1 .1 .1 .0) (r₅ .links .active) (ws₅ .1 .1 .0)) × OutKept r₄ ((ws₂ .1 .1 .1 .1 .1 .1 .1 .0)) (ws₅ .1 .1 .1 .1 .1 .1 .1 .0)) (λ e₅.
+        split ! $ move ! (1 ∷ []) $ use1 W (some (λ (ws₅ : Unit {0} × (Unit {0} × (List ℕ × (List Record × (Unit {0} × (Unit {0} × (Unit {0} × (List ℕ × Unit {0})))))))). ‵ (lasts f-make.ended ((ν₄ ∷ []), ((ν₅ ∷ []), (κ₂, ((ν₆ ∷ []), tt)))) (s, (n, ((record { ptr = (b-mem, o-mem); name = δ₄; now = (ws₂ .1 .1 .0) }), ((record { ptr = (b-table, o-table); name = δ₅; now = (ws₂ .1 .1 .1 .0) }), (r₃, (r₄, (x-bytes, ((record { ptr = (b-out, o-out); name = δ₆; now = (ws₂ .1 .1 .1 .1 .1 .1 .1 .0) }), tt)))))))) ws₅) ⊛ raw (fact 𝓤 (Did (groupOf s n ((ws₂ .1 .1 .1 .0)) r₃ ((ws₂ .1 .1 .0))) (callOf r₄ (ys-bytes) ((ws₂ .1 .1 .1 .1 .1 .1 .1 .0))) (answerOf r₅ (outLeft r₄ (ws₅ .1 .1 .1 .1 .1 .1 .1 .0))) (groupOf s n (ws₅ .1 .1 .1 .0) (r₅ .links) (ws₅ .1 .1 .0)) × OutKept r₄ ((ws₂ .1 .1 .1 .1 .1 .1 .1 .0)) (ws₅ .1 .1 .1 .1 .1 .1 .1 .0))))) (id⊢ 𝓤 _) $ pick ! (λ ws₅.
+        split ! $ move ! (1 ∷ []) $ heard ! (Did (groupOf s n ((ws₂ .1 .1 .1 .0)) r₃ ((ws₂ .1 .1 .0))) (callOf r₄ (ys-bytes) ((ws₂ .1 .1 .1 .1 .1 .1 .1 .0))) (answerOf r₅ (outLeft r₄ (ws₅ .1 .1 .1 .1 .1 .1 .1 .0))) (groupOf s n (ws₅ .1 .1 .1 .0) (r₅ .links) (ws₅ .1 .1 .0)) × OutKept r₄ ((ws₂ .1 .1 .1 .1 .1 .1 .1 .0)) (ws₅ .1 .1 .1 .1 .1 .1 .1 .0)) (λ e₅.
         fsplit ! $ drop ! $ fsplit ! $ drop ! $ fsplit ! $ fsplit ! $ move ! (1 ∷ []) $ feqL ! (λ len₄. move ! (1 ∷ []) $ fsplit ! $ fsplit ! $ move ! (1 ∷ []) $ feqL ! (λ len₅. move ! (1 ∷ []) $ fsplit ! $ drop ! $ fsplit ! $ drop ! $ fsplit ! $ drop ! $ fsplit ! $ fsplit ! $ move ! (1 ∷ []) $ feqL ! (λ len₆. move ! (1 ∷ []) $ drop ! $ move ! (3 ∷ []) $ split ! $
         move ! (1 ∷ []) $ peeks ! AnsweredT.the-row (Is AnsweredT.the-row) (shows 𝓤 H A AnsweredT.the-row) r₅ (w₅ ∷ []) (λ is₅. drop ! $
         land ! (from ! (stop !)) (init ! 43 refl (LL.lawful AnsweredT.the-type AnsweredL.the-laws 𝓤 H A W .typed r₅ _ is₅ .0)) $
@@ -265,7 +265,7 @@ module _ {M : Type 1} (𝓤 : URA M) (H : Heap 𝓤) (A : Atoms 𝓤) (W : Given
         move ! (2 ∷ []) $ use1 W (‵ (fres γ-out (codedHoleys u8 .code (heres u8 (ws₅ .1 .1 .1 .1 .1 .1 .1 .0))))) (W .names .obs-res γ-out (codedHoleys u8 .code (heres u8 (ws₅ .1 .1 .1 .1 .1 .1 .1 .0)))) $ use1 W (‵ (finally u8 γ-out (ws₅ .1 .1 .1 .1 .1 .1 .1 .0))) (res-finally 𝓤 H A W (named 3) κ₃ u8 γ-out (ws₅ .1 .1 .1 .1 .1 .1 .1 .0)) $
         keep ! (8 ∷ 6 ∷ 9 ∷ 4 ∷ 2 ∷ 1 ∷ 0 ∷ []) $ by ! (exits r₆ (w₆) (ws₅ .1 .1 .0) (ws₅ .1 .1 .1 .0) (ws₅ .1 .1 .1 .1 .1 .1 .1 .0) (len₄ ∙ len) (len₅ ∙ len₂) (len₆ ∙ len₃) (last-words-returns s n ys-mem ys-table links slot ys-bytes ys-out r e r₂ (ws₂ .1 .1 .0) (ws₂ .1 .1 .1 .0) (ws₂ .1 .1 .1 .1 .1 .1 .1 .0) e₂ r₃ e₃ r₄ e₄ r₅ (ws₅ .1 .1 .0) (ws₅ .1 .1 .1 .0) (ws₅ .1 .1 .1 .1 .1 .1 .1 .0) e₅ r₆ e₆) is₆))))))))))))))))))))
 
-    part-3 : (l₀ l₁ l₂ l₃ l₄ l₅ l₆ l₇ l₈ l₉ l₁₀ l₁₁ l₁₂ l₁₃ l₁₄ l₁₅ l₁₆ l₁₇ l₁₈ l₁₉ l₂₀ l₂₁ l₂₂ l₂₃ l₂₄ : ℕ) (w : Val) (r : Command) (ws : Unit {0} × Unit {0}) (e : r ≡ On slot Send) (is : Is CommandT.the-row r (w ∷ [])) (w₂ : Val) (r₂ : Answered) (ws₂ : Unit {0} × (Unit {0} × (List ℕ × (List Record × (Unit {0} × (Unit {0} × (Unit {0} × (List ℕ × Unit {0})))))))) (e₂ : Did (groupOf s n (ys-table) (links .active) (ys-mem)) (callOf r (ys-bytes) (ys-out)) (answerOf r₂ (outLeft r (ws₂ .1 .1 .1 .1 .1 .1 .1 .0))) (groupOf s n (ws₂ .1 .1 .1 .0) (r₂ .links .active) (ws₂ .1 .1 .0)) × OutKept r (ys-out) (ws₂ .1 .1 .1 .1 .1 .1 .1 .0)) (len : length (ws₂ .1 .1 .0) ≡ length ys-mem) (len₂ : length (ws₂ .1 .1 .1 .0) ≡ length ys-table) (len₃ : length (ws₂ .1 .1 .1 .1 .1 .1 .1 .0) ≡ length ys-out) (is₂ : Is AnsweredT.the-row r₂ (w₂ ∷ [])) → Sq W (‵ (fobs γ-out (codedHoleys u8 .code (heres u8 (ws₂ .1 .1 .1 .1 .1 .1 .1 .0)))) ∷ ‵ (fbor κ₃ (Held u8 (length (ws₂ .1 .1 .1 .1 .1 .1 .1 .0)) b-out o-out γ-out)) ∷ ‵ (flft κ₃ q₃) ∷ ‵ (fobs γ-table (codedHoleys RecordT.the-row .code (heres RecordT.the-row (ws₂ .1 .1 .1 .0)))) ∷ ‵ (fbor κ₁ (Held RecordT.the-row (length (ws₂ .1 .1 .1 .0)) b-table o-table γ-table)) ∷ ‵ (flft κ₁ q₁) ∷ ‵ (fobs γ-mem (codedHoleys u8 .code (heres u8 (ws₂ .1 .1 .0)))) ∷ ‵ (fbor κ₀ (Held u8 (length (ws₂ .1 .1 .0)) b-mem o-mem γ-mem)) ∷ ‵ (flft κ₀ q₀) ∷ ‵ (flft κ₂ q₂) ∷ ‵ Own-bytes ∷ ‵ (froom (sliceTy (tyRef erased mut (tyInt w8))) l₂₄ 0) ∷ ‵ (fdies (sliceTy (tyRef erased mut (tyInt w8))) l₂₄) ∷ ‵ (froom (tyRef erased mut (tyInt w8)) l₂₃ 0) ∷ ‵ (fdies (tyRef erased mut (tyInt w8)) l₂₃) ∷ ‵ (froom (sliceTy (tyRef erased mut (pointee (RecordT.the-row .written)))) l₂₂ 0) ∷ ‵ (fdies (sliceTy (tyRef erased mut (pointee (RecordT.the-row .written)))) l₂₂) ∷ ‵ (froom (tyRef erased mut (pointee (RecordT.the-row .written))) l₂₁ 0) ∷ ‵ (fdies (tyRef erased mut (pointee (RecordT.the-row .written))) l₂₁) ∷ ‵ (froom (sliceTy (tyRef erased mut (tyInt w8))) l₂₀ 0) ∷ ‵ (fdies (sliceTy (tyRef erased mut (tyInt w8))) l₂₀) ∷ ‵ (froom (tyRef erased mut (tyInt w8)) l₁₉ 0) ∷ ‵ (fdies (tyRef erased mut (tyInt w8)) l₁₉) ∷ ‵ (fat fullShare (sliceTy (tyRef erased mut (tyInt w8))) l₁₈ 0 (s-out)) ∷ ‵ (fdies (sliceTy (tyRef erased mut (tyInt w8))) l₁₈) ∷ ‵ (fat fullShare (tyRef erased mut (tyInt w8)) l₁₇ 0 (vptr b-out o-out)) ∷ ‵ (fdies (tyRef erased mut (tyInt w8)) l₁₇) ∷ ‵ (fat fullShare CommandL.mir l₁₆ 0 (w)) ∷ ‵ (fdies CommandL.mir l₁₆) ∷ ‵ (fat fullShare (sliceTy (tyRef erased mut (pointee (RecordT.the-row .written)))) l₁₅ 0 (s-table)) ∷ ‵ (fdies (sliceTy (tyRef erased mut (pointee (RecordT.the-row .written)))) l₁₅) ∷ ‵ (fat fullShare (tyRef erased mut (pointee (RecordT.the-row .written))) l₁₄ 0 (vptr b-table o-table)) ∷ ‵ (fdies (tyRef erased mut (pointee (RecordT.the-row .written))) l₁₄) ∷ ‵ (fat fullShare (sliceTy (tyRef erased mut (tyInt w8))) l₁₃ 0 (s-mem)) ∷ ‵ (fdies (sliceTy (tyRef erased mut (tyInt w8))) l₁₃) ∷ ‵ (fat fullShare (tyRef erased mut (tyInt w8)) l₁₂ 0 (vptr b-mem o-mem)) ∷ ‵ (fdies (tyRef erased mut (tyInt w8)) l₁₂) ∷ ‵ (froom AnsweredL.mir l₁₁ 0) ∷ ‵ (fdies AnsweredL.mir l₁₁) ∷ ‵ (froom LinksL.mir l₁₀ 0) ∷ ‵ (fdies LinksL.mir l₁₀) ∷ ‵ (fat fullShare AnsweredL.mir l₉ 0 (w₂)) ∷ ‵ (fdies AnsweredL.mir l₉) ∷ ‵ (fat fullShare (sliceTy (tyRef (named 3) mut (tyInt w8))) l₈ 0 (s-out)) ∷ ‵ (fdies (sliceTy (tyRef (named 3) mut (tyInt w8))) l₈) ∷ ‵ (fat fullShare (sliceTy (tyRef (named 2) imm (tyInt w8))) l₇ 0 (s-bytes)) ∷ ‵ (fdies (sliceTy (tyRef (named 2) imm (tyInt w8))) l₇) ∷ ‵ (fat fullShare (tyInt w32) l₆ 0 (vint w32 slot)) ∷ ‵ (fdies (tyInt w32) l₆) ∷ ‵ (fat fullShare LinksL.mir l₅ 0 (v-links)) ∷ ‵ (fdies LinksL.mir l₅) ∷ ‵ (fat fullShare (sliceTy (tyRef (named 1) mut (pointee (RecordT.the-row .written)))) l₄ 0 (s-table)) ∷ ‵ (fdies (sliceTy (tyRef (named 1) mut (pointee (RecordT.the-row .written)))) l₄) ∷ ‵ (fat fullShare (sliceTy (tyRef (named 0) mut (tyInt w8))) l₃ 0 (s-mem)) ∷ ‵ (fdies (sliceTy (tyRef (named 0) mut (tyInt w8))) l₃) ∷ ‵ (fat fullShare (tyInt w32) l₂ 0 (vint w32 n)) ∷ ‵ (fdies (tyInt w32) l₂) ∷ ‵ (fat fullShare (tyInt w32) l₁ 0 (vint w32 s)) ∷ ‵ (fdies (tyInt w32) l₁) ∷ ‵ (froom SaidL.mir l₀ 0) ∷ ‵ (fdies SaidL.mir l₀) ∷ []) (runs C Λ (locals l₀ l₁ l₂ l₃ l₄ l₅ l₆ l₇ l₈ l₉ l₁₀ l₁₁ l₁₂ l₁₃ l₁₄ l₁₅ l₁₆ l₁₇ l₁₈ l₁₉ l₂₀ l₂₁ l₂₂ l₂₃ l₂₄) (after 8 (code.function .body)) (atRet (locals l₀ l₁ l₂ l₃ l₄ l₅ l₆ l₇ l₈ l₉ l₁₀ l₁₁ l₁₂ l₁₃ l₁₄ l₁₅ l₁₆ l₁₇ l₁₈ l₁₉ l₂₀ l₂₁ l₂₂ l₂₃ l₂₄) Post))
+    part-3 : (l₀ l₁ l₂ l₃ l₄ l₅ l₆ l₇ l₈ l₉ l₁₀ l₁₁ l₁₂ l₁₃ l₁₄ l₁₅ l₁₆ l₁₇ l₁₈ l₁₉ l₂₀ l₂₁ l₂₂ l₂₃ l₂₄ : ℕ) (w : Val) (r : Command) (ws : Unit {0} × Unit {0}) (e : r ≡ On slot Send) (is : Is CommandT.the-row r (w ∷ [])) (w₂ : Val) (r₂ : Answered) (ws₂ : Unit {0} × (Unit {0} × (List ℕ × (List Record × (Unit {0} × (Unit {0} × (Unit {0} × (List ℕ × Unit {0})))))))) (e₂ : Did (groupOf s n (ys-table) links (ys-mem)) (callOf r (ys-bytes) (ys-out)) (answerOf r₂ (outLeft r (ws₂ .1 .1 .1 .1 .1 .1 .1 .0))) (groupOf s n (ws₂ .1 .1 .1 .0) (r₂ .links) (ws₂ .1 .1 .0)) × OutKept r (ys-out) (ws₂ .1 .1 .1 .1 .1 .1 .1 .0)) (len : length (ws₂ .1 .1 .0) ≡ length ys-mem) (len₂ : length (ws₂ .1 .1 .1 .0) ≡ length ys-table) (len₃ : length (ws₂ .1 .1 .1 .1 .1 .1 .1 .0) ≡ length ys-out) (is₂ : Is AnsweredT.the-row r₂ (w₂ ∷ [])) → Sq W (‵ (fobs γ-out (codedHoleys u8 .code (heres u8 (ws₂ .1 .1 .1 .1 .1 .1 .1 .0)))) ∷ ‵ (fbor κ₃ (Held u8 (length (ws₂ .1 .1 .1 .1 .1 .1 .1 .0)) b-out o-out γ-out)) ∷ ‵ (flft κ₃ q₃) ∷ ‵ (fobs γ-table (codedHoleys RecordT.the-row .code (heres RecordT.the-row (ws₂ .1 .1 .1 .0)))) ∷ ‵ (fbor κ₁ (Held RecordT.the-row (length (ws₂ .1 .1 .1 .0)) b-table o-table γ-table)) ∷ ‵ (flft κ₁ q₁) ∷ ‵ (fobs γ-mem (codedHoleys u8 .code (heres u8 (ws₂ .1 .1 .0)))) ∷ ‵ (fbor κ₀ (Held u8 (length (ws₂ .1 .1 .0)) b-mem o-mem γ-mem)) ∷ ‵ (flft κ₀ q₀) ∷ ‵ (flft κ₂ q₂) ∷ ‵ Own-bytes ∷ ‵ (froom (sliceTy (tyRef erased mut (tyInt w8))) l₂₄ 0) ∷ ‵ (fdies (sliceTy (tyRef erased mut (tyInt w8))) l₂₄) ∷ ‵ (froom (tyRef erased mut (tyInt w8)) l₂₃ 0) ∷ ‵ (fdies (tyRef erased mut (tyInt w8)) l₂₃) ∷ ‵ (froom (sliceTy (tyRef erased mut (pointee (RecordT.the-row .written)))) l₂₂ 0) ∷ ‵ (fdies (sliceTy (tyRef erased mut (pointee (RecordT.the-row .written)))) l₂₂) ∷ ‵ (froom (tyRef erased mut (pointee (RecordT.the-row .written))) l₂₁ 0) ∷ ‵ (fdies (tyRef erased mut (pointee (RecordT.the-row .written))) l₂₁) ∷ ‵ (froom (sliceTy (tyRef erased mut (tyInt w8))) l₂₀ 0) ∷ ‵ (fdies (sliceTy (tyRef erased mut (tyInt w8))) l₂₀) ∷ ‵ (froom (tyRef erased mut (tyInt w8)) l₁₉ 0) ∷ ‵ (fdies (tyRef erased mut (tyInt w8)) l₁₉) ∷ ‵ (fat fullShare (sliceTy (tyRef erased mut (tyInt w8))) l₁₈ 0 (s-out)) ∷ ‵ (fdies (sliceTy (tyRef erased mut (tyInt w8))) l₁₈) ∷ ‵ (fat fullShare (tyRef erased mut (tyInt w8)) l₁₇ 0 (vptr b-out o-out)) ∷ ‵ (fdies (tyRef erased mut (tyInt w8)) l₁₇) ∷ ‵ (fat fullShare CommandL.mir l₁₆ 0 (w)) ∷ ‵ (fdies CommandL.mir l₁₆) ∷ ‵ (fat fullShare (sliceTy (tyRef erased mut (pointee (RecordT.the-row .written)))) l₁₅ 0 (s-table)) ∷ ‵ (fdies (sliceTy (tyRef erased mut (pointee (RecordT.the-row .written)))) l₁₅) ∷ ‵ (fat fullShare (tyRef erased mut (pointee (RecordT.the-row .written))) l₁₄ 0 (vptr b-table o-table)) ∷ ‵ (fdies (tyRef erased mut (pointee (RecordT.the-row .written))) l₁₄) ∷ ‵ (fat fullShare (sliceTy (tyRef erased mut (tyInt w8))) l₁₃ 0 (s-mem)) ∷ ‵ (fdies (sliceTy (tyRef erased mut (tyInt w8))) l₁₃) ∷ ‵ (fat fullShare (tyRef erased mut (tyInt w8)) l₁₂ 0 (vptr b-mem o-mem)) ∷ ‵ (fdies (tyRef erased mut (tyInt w8)) l₁₂) ∷ ‵ (froom AnsweredL.mir l₁₁ 0) ∷ ‵ (fdies AnsweredL.mir l₁₁) ∷ ‵ (froom LinksL.mir l₁₀ 0) ∷ ‵ (fdies LinksL.mir l₁₀) ∷ ‵ (fat fullShare AnsweredL.mir l₉ 0 (w₂)) ∷ ‵ (fdies AnsweredL.mir l₉) ∷ ‵ (fat fullShare (sliceTy (tyRef (named 3) mut (tyInt w8))) l₈ 0 (s-out)) ∷ ‵ (fdies (sliceTy (tyRef (named 3) mut (tyInt w8))) l₈) ∷ ‵ (fat fullShare (sliceTy (tyRef (named 2) imm (tyInt w8))) l₇ 0 (s-bytes)) ∷ ‵ (fdies (sliceTy (tyRef (named 2) imm (tyInt w8))) l₇) ∷ ‵ (fat fullShare (tyInt w32) l₆ 0 (vint w32 slot)) ∷ ‵ (fdies (tyInt w32) l₆) ∷ ‵ (fat fullShare LinksL.mir l₅ 0 (v-links)) ∷ ‵ (fdies LinksL.mir l₅) ∷ ‵ (fat fullShare (sliceTy (tyRef (named 1) mut (pointee (RecordT.the-row .written)))) l₄ 0 (s-table)) ∷ ‵ (fdies (sliceTy (tyRef (named 1) mut (pointee (RecordT.the-row .written)))) l₄) ∷ ‵ (fat fullShare (sliceTy (tyRef (named 0) mut (tyInt w8))) l₃ 0 (s-mem)) ∷ ‵ (fdies (sliceTy (tyRef (named 0) mut (tyInt w8))) l₃) ∷ ‵ (fat fullShare (tyInt w32) l₂ 0 (vint w32 n)) ∷ ‵ (fdies (tyInt w32) l₂) ∷ ‵ (fat fullShare (tyInt w32) l₁ 0 (vint w32 s)) ∷ ‵ (fdies (tyInt w32) l₁) ∷ ‵ (froom SaidL.mir l₀ 0) ∷ ‵ (fdies SaidL.mir l₀) ∷ []) (runs C Λ (locals l₀ l₁ l₂ l₃ l₄ l₅ l₆ l₇ l₈ l₉ l₁₀ l₁₁ l₁₂ l₁₃ l₁₄ l₁₅ l₁₆ l₁₇ l₁₈ l₁₉ l₂₀ l₂₁ l₂₂ l₂₃ l₂₄) (after 8 (code.function .body)) (atRet (locals l₀ l₁ l₂ l₃ l₄ l₅ l₆ l₇ l₈ l₉ l₁₀ l₁₁ l₁₂ l₁₃ l₁₄ l₁₅ l₁₆ l₁₇ l₁₈ l₁₉ l₂₀ l₂₁ l₂₂ l₂₃ l₂₄) Post))
     part-3 l₀ l₁ l₂ l₃ l₄ l₅ l₆ l₇ l₈ l₉ l₁₀ l₁₁ l₁₂ l₁₃ l₁₄ l₁₅ l₁₆ l₁₇ l₁₈ l₁₉ l₂₀ l₂₁ l₂₂ l₂₃ l₂₄ w r ws e is w₂ r₂ ws₂ e₂ len len₂ len₃ is₂ =
         use0 W (raw (C-f-links-after 𝓤 H A mem run .pre (to-f-links-after 𝓤 H A mem run r₂ (w₂)))) (goes-f-links-after 𝓤 H A W mem run r₂ (w₂) is₂) $
         calls-at ! fm (C-f-links-after 𝓤 H A mem run) known-f-links-after (to-f-links-after 𝓤 H A mem run r₂ (w₂)) (and-then ! (load ! (from ! (stop !)) (look ! 42 refl)) (no-more !)) (λ w₃.
@@ -314,8 +314,8 @@ module _ {M : Type 1} (𝓤 : URA M) (H : Heap 𝓤) (A : Atoms 𝓤) (W : Given
         nothing ! $ move ! (1 ∷ 0 ∷ []) $ join ! $ move ! (7 ∷ 0 ∷ []) $ join ! $ move ! (7 ∷ 0 ∷ []) $ join ! $ move ! (12 ∷ 0 ∷ []) $ join ! $ move ! (2 ∷ 0 ∷ []) $ join ! $ move ! (16 ∷ 0 ∷ []) $ join ! $ move ! (7 ∷ 0 ∷ []) $ join ! $ move ! (11 ∷ 0 ∷ []) $ join ! $ use1 W (raw (C-f-make 𝓤 H A mem run .pre (to-f-make 𝓤 H A mem run (ν ∷ []) fullShare (ν₂ ∷ []) fullShare κ₂ q₂ (ν₃ ∷ []) fullShare s (vint w32 s) n (vint w32 n) (record { ptr = (b-mem, o-mem); name = δ; now = ys-mem }) (sliceVal (b-mem, o-mem) (length ys-mem)) (record { ptr = (b-table, o-table); name = δ₂; now = ys-table }) (sliceVal (b-table, o-table) (length ys-table)) links (v-links) r (w) x-bytes s-bytes (record { ptr = (b-out, o-out); name = δ₃; now = ys-out }) (sliceVal (b-out, o-out) (length ys-out))))) (goes-f-make 𝓤 H A W mem run (ν ∷ []) fullShare (ν₂ ∷ []) fullShare κ₂ q₂ (ν₃ ∷ []) fullShare s (vint w32 s) n (vint w32 n) (record { ptr = (b-mem, o-mem); name = δ; now = ys-mem }) (sliceVal (b-mem, o-mem) (length ys-mem)) (record { ptr = (b-table, o-table); name = δ₂; now = ys-table }) (sliceVal (b-table, o-table) (length ys-table)) links (v-links) r (w) x-bytes s-bytes (record { ptr = (b-out, o-out); name = δ₃; now = ys-out }) (sliceVal (b-out, o-out) (length ys-out)) (refl, g-s) (refl, g-n) g-links is) $
         calls-at ! fm (C-f-make 𝓤 H A mem run) known-f-make (to-f-make 𝓤 H A mem run (ν ∷ []) fullShare (ν₂ ∷ []) fullShare κ₂ q₂ (ν₃ ∷ []) fullShare s (vint w32 s) n (vint w32 n) (record { ptr = (b-mem, o-mem); name = δ; now = ys-mem }) (sliceVal (b-mem, o-mem) (length ys-mem)) (record { ptr = (b-table, o-table); name = δ₂; now = ys-table }) (sliceVal (b-table, o-table) (length ys-table)) links (v-links) r (w) x-bytes s-bytes (record { ptr = (b-out, o-out); name = δ₃; now = ys-out }) (sliceVal (b-out, o-out) (length ys-out))) (and-then ! (load ! (from ! (stop !)) (look ! 60 refl)) (and-then ! (load ! (from ! (stop !)) (look ! 58 refl)) (and-then ! (load ! (from ! (stop !)) (look ! 36 refl)) (and-then ! (load ! (from ! (stop !)) (look ! 32 refl)) (and-then ! (load ! (from ! (stop !)) (look ! 52 refl)) (and-then ! (load ! (from ! (stop !)) (look ! 30 refl)) (and-then ! (load ! (from ! (stop !)) (look ! 48 refl)) (and-then ! (load ! (from ! (stop !)) (look ! 26 refl)) (no-more !))))))))) (λ w₂.
         use1 W (later (some (λ (r₂ : Answered). ((‵ (flft (ν ∷ []) fullShare) ⊛ ‵ (flft (ν₂ ∷ []) fullShare) ⊛ ‵ (flft κ₂ q₂) ⊛ ‵ (flft (ν₃ ∷ []) fullShare) ⊛ ‵ ftrue) ⊛ ‵ (AnsweredT.the-row .own r₂ (w₂ ∷ []))) ⊛ raw (ensured 𝓤 H A f-make.ended (f-make.clauses 𝓤 H A mem run) ((ν ∷ []), ((ν₂ ∷ []), (κ₂, ((ν₃ ∷ []), tt)))) (s, (n, ((record { ptr = (b-mem, o-mem); name = δ; now = ys-mem }), ((record { ptr = (b-table, o-table); name = δ₂; now = ys-table }), (links, (r, (x-bytes, ((record { ptr = (b-out, o-out); name = δ₃; now = ys-out }), tt)))))))) tt r₂)))) (id⊢ 𝓤 _) $ await ! tt $ pick ! (λ r₂.
-        split ! $ move ! (1 ∷ []) $ use1 W (some (λ (ws₂ : Unit {0} × (Unit {0} × (List ℕ × (List Record × (Unit {0} × (Unit {0} × (Unit {0} × (List ℕ × Unit {0})))))))). ‵ (lasts f-make.ended ((ν ∷ []), ((ν₂ ∷ []), (κ₂, ((ν₃ ∷ []), tt)))) (s, (n, ((record { ptr = (b-mem, o-mem); name = δ; now = ys-mem }), ((record { ptr = (b-table, o-table); name = δ₂; now = ys-table }), (links, (r, (x-bytes, ((record { ptr = (b-out, o-out); name = δ₃; now = ys-out }), tt)))))))) ws₂) ⊛ raw (fact 𝓤 (Did (groupOf s n (ys-table) (links .active) (ys-mem)) (callOf r (ys-bytes) (ys-out)) (answerOf r₂ (outLeft r (ws₂ .1 .1 .1 .1 .1 .1 .1 .0))) (groupOf s n (ws₂ .1 .1 .1 .0) (r₂ .links .active) (ws₂ .1 .1 .0)) × OutKept r (ys-out) (ws₂ .1 .1 .1 .1 .1 .1 .1 .0))))) (id⊢ 𝓤 _) $ pick ! (λ ws₂.
-        split ! $ move ! (1 ∷ []) $ heard ! (Did (groupOf s n (ys-table) (links .active) (ys-mem)) (callOf r (ys-bytes) (ys-out)) (answerOf r₂ (outLeft r (ws₂ .1 .1 .1 .1 .1 .1 .1 .0))) (groupOf s n (ws₂ .1 .1 .1 .0) (r₂ .links .active) (ws₂ .1 .1 .0)) × OutKept r (ys-out) (ws₂ .1 .1 .1 .1 .1 .1 .1 .0)) (λ e₂.
+        split ! $ move ! (1 ∷ []) $ use1 W (some (λ (ws₂ : Unit {0} × (Unit {0} × (List ℕ × (List Record × (Unit {0} × (Unit {0} × (Unit {0} × (List ℕ × Unit {0})))))))). ‵ (lasts f-make.ended ((ν ∷ []), ((ν₂ ∷ []), (κ₂, ((ν₃ ∷ []), tt)))) (s, (n, ((record { ptr = (b-mem, o-mem); name = δ; now = ys-mem }), ((record { ptr = (b-table, o-table); name = δ₂; now = ys-table }), (links, (r, (x-bytes, ((record { ptr = (b-out, o-out); name = δ₃; now = ys-out }), tt)))))))) ws₂) ⊛ raw (fact 𝓤 (Did (groupOf s n (ys-table) links (ys-mem)) (callOf r (ys-bytes) (ys-out)) (answerOf r₂ (outLeft r (ws₂ .1 .1 .1 .1 .1 .1 .1 .0))) (groupOf s n (ws₂ .1 .1 .1 .0) (r₂ .links) (ws₂ .1 .1 .0)) × OutKept r (ys-out) (ws₂ .1 .1 .1 .1 .1 .1 .1 .0))))) (id⊢ 𝓤 _) $ pick ! (λ ws₂.
+        split ! $ move ! (1 ∷ []) $ heard ! (Did (groupOf s n (ys-table) links (ys-mem)) (callOf r (ys-bytes) (ys-out)) (answerOf r₂ (outLeft r (ws₂ .1 .1 .1 .1 .1 .1 .1 .0))) (groupOf s n (ws₂ .1 .1 .1 .0) (r₂ .links) (ws₂ .1 .1 .0)) × OutKept r (ys-out) (ws₂ .1 .1 .1 .1 .1 .1 .1 .0)) (λ e₂.
         fsplit ! $ drop ! $ fsplit ! $ drop ! $ fsplit ! $ fsplit ! $ move ! (1 ∷ []) $ feqL ! (λ len. move ! (1 ∷ []) $ fsplit ! $ fsplit ! $ move ! (1 ∷ []) $ feqL ! (λ len₂. move ! (1 ∷ []) $ fsplit ! $ drop ! $ fsplit ! $ drop ! $ fsplit ! $ drop ! $ fsplit ! $ fsplit ! $ move ! (1 ∷ []) $ feqL ! (λ len₃. move ! (1 ∷ []) $ drop ! $ move ! (3 ∷ []) $ split ! $
         move ! (1 ∷ []) $ peeks ! AnsweredT.the-row (Is AnsweredT.the-row) (shows 𝓤 H A AnsweredT.the-row) r₂ (w₂ ∷ []) (λ is₂. drop ! $
         land ! (from ! (stop !)) (init ! 47 refl (LL.lawful AnsweredT.the-type AnsweredL.the-laws 𝓤 H A W .typed r₂ _ is₂ .0)) $

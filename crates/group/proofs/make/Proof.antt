@@ -262,7 +262,7 @@ module _ {M : Type 1} (𝓤 : URA M) (H : Heap 𝓤) (A : Atoms 𝓤) (W : Given
   abbrev Post : Val → SProp 𝓤
   Post = walkOf 𝓤 H A call.ended stayed (call.clauses 𝓤 H A mem run) .post ((κs, qs, tt, x, at), tt)
 
-  exits : (res : Answered) (v : Val) (w-mem : List ℕ) (w-table : List Record) (w-out : List ℕ) → length w-mem ≡ length ys-mem → length w-table ≡ length ys-table → length w-out ≡ length ys-out → Did (groupOf s n (ys-table) (links .active) (ys-mem)) (callOf command (ys-bytes) (ys-out)) (answerOf res (outLeft command (w-out))) (groupOf s n (w-table) (res .links .active) (w-mem)) × OutKept command (ys-out) (w-out) → Is AnsweredT.the-row res (v ∷ [])
+  exits : (res : Answered) (v : Val) (w-mem : List ℕ) (w-table : List Record) (w-out : List ℕ) → length w-mem ≡ length ys-mem → length w-table ≡ length ys-table → length w-out ≡ length ys-out → Did (groupOf s n (ys-table) links (ys-mem)) (callOf command (ys-bytes) (ys-out)) (answerOf res (outLeft command (w-out))) (groupOf s n (w-table) (res .links) (w-mem)) × OutKept command (ys-out) (w-out) → Is AnsweredT.the-row res (v ∷ [])
       → ent 𝓤 (⋆ 𝓤 H A (‵ (flft κ₀ q₀) ∷ ‵ (flft κ₁ q₁) ∷ ‵ (flft κ₂ q₂) ∷ ‵ (flft κ₃ q₃) ∷ ‵ (finally u8 γ-mem w-mem) ∷ ‵ (finally RecordT.the-row γ-table w-table) ∷ ‵ (finally u8 γ-out w-out) ∷ [])) (Post v)
   exits res v w-mem w-table w-out l-mem l-table l-out e is =
       qed W (‵ (flft κ₀ q₀) ∷ ‵ (flft κ₁ q₁) ∷ ‵ (flft κ₂ q₂) ∷ ‵ (flft κ₃ q₃) ∷ ‵ (finally u8 γ-mem w-mem) ∷ ‵ (finally RecordT.the-row γ-table w-table) ∷ ‵ (finally u8 γ-out w-out) ∷ []) ∵ suffices ! _ (ends-at 𝓤 H A call.ended stayed (call.clauses 𝓤 H A mem run) W ((κs, qs, tt, x, at), tt) v res (tt, (tt, (w-mem, (w-table, (tt, (tt, (tt, (w-out, tt)))))))) (tt, (tt, (l-mem, (l-table, (tt, (tt, (tt, (l-out, tt))))))))) $

@@ -35,6 +35,15 @@ link-message-requires c κs = search needs
 kept-requires-2 : tie.Need-kept-requires-2
 kept-requires-2 c κs = search needs
 
+enum-known-call-5 : tie.Need-enum-known-call-5
+enum-known-call-5 c = search needs
+
+sample-requires : tie.Need-sample-requires
+sample-requires c κs = search needs
+
+kept-requires-3 : tie.Need-kept-requires-3
+kept-requires-3 c κs = search needs
+
 same-length : tie.Need-same-length
 same-length c = search needs
 
@@ -67,6 +76,13 @@ returns-4 c =
     (now (a .bytes)) (c .kept2 .result)
     (links-did _ _ _ _ _ _ _ _ _ _ (c .before .link-message .ensures) _ (c .kept2 .ensures))
 
+returns-5 : tie.Need-returns-5
+returns-5 c =
+    let a = c .before .before .before .before .before .before .before .args in
+    by-management (c .before .before .before .call5 .given .1) (a .s) (a .n) (now (a .mem)) (now (a .mem)) (a .count) (a .links) (a .holder) (a .rec)
+    (now (a .bytes)) (c .kept3 .result)
+    (links-did _ _ _ _ _ _ _ _ _ _ (c .before .sample .ensures) _ (c .kept3 .ensures))
+
 pub manage-spec : {M : Type 1} → statement M
 manage-spec =
     tie.close
@@ -81,9 +97,13 @@ manage-spec =
     enum-known-call-4
     link-message-requires
     kept-requires-2
+    enum-known-call-5
+    sample-requires
+    kept-requires-3
     same-length
     returns
     same-length-2
     returns-2
     returns-3
-    returns-4)
+    returns-4
+    returns-5)

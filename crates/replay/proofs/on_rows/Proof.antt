@@ -205,7 +205,7 @@ module _ {M : Type 1} (𝓤 : URA M) (H : Heap 𝓤) (A : Atoms 𝓤) (W : Given
     abbrev locals : ℕ → ℕ → ℕ → ℕ → ℕ → ℕ → ℕ → ℕ → ℕ → ℕ → ℕ → ℕ → ℕ → ℕ → ℕ → ℕ → ℕ → ℕ → ℕ → ℕ → Env 𝓤 H
     locals l₀ l₁ l₂ l₃ l₄ l₅ l₆ l₇ l₈ l₉ l₁₀ l₁₁ l₁₂ l₁₃ l₁₄ l₁₅ l₁₆ l₁₇ l₁₈ l₁₉ = (MadeL.mir, l₀) ∷ ((tyArray RecordL.mir 300), l₁) ∷ ((tyInt w64), l₂) ∷ ((tyInt w32), l₃) ∷ ((tyInt w32), l₄) ∷ ((sliceTy (tyRef (named 0) mut (tyInt w8))), l₅) ∷ (LinksL.mir, l₆) ∷ (CommandL.mir, l₇) ∷ ((sliceTy (tyRef (named 1) imm (tyInt w8))), l₈) ∷ ((sliceTy (tyRef (named 2) mut (tyInt w8))), l₉) ∷ ((tyInt w64), l₁₀) ∷ ((tyArray RecordL.mir 300), l₁₁) ∷ (AnsweredL.mir, l₁₂) ∷ ((tyRef erased mut (tyInt w8)), l₁₃) ∷ ((sliceTy (tyRef erased mut (tyInt w8))), l₁₄) ∷ ((tyRef erased mut (pointee ((Array RecordT.the-row 300) .written))), l₁₅) ∷ ((sliceTy (tyRef erased mut (pointee (RecordT.the-row .written)))), l₁₆) ∷ ((tyRef erased mut (tyInt w8)), l₁₇) ∷ ((sliceTy (tyRef erased mut (tyInt w8))), l₁₈) ∷ ((tyArray RecordL.mir 300), l₁₉) ∷ []
 
-    part-3 : (l₀ l₁ l₂ l₃ l₄ l₅ l₆ l₇ l₈ l₉ l₁₀ l₁₁ l₁₂ l₁₃ l₁₄ l₁₅ l₁₆ l₁₇ l₁₈ l₁₉ : ℕ) (w : Val) (r : ℕ) (ws : Unit {0} × Unit {0}) (e : r ≤ 300) (is : Is usize r (w ∷ [])) (long : length table ≡ 300) (w₂ : Val) (r₂ : Answered) (ws₂ : Unit {0} × (Unit {0} × (List ℕ × (List Record × (Unit {0} × (Unit {0} × (Unit {0} × (List ℕ × Unit {0})))))))) (e₂ : Did (groupOf s n ((take r table)) (links .active) (ys-mem)) (callOf command (ys-bytes) (ys-out)) (answerOf r₂ (outLeft command (ws₂ .1 .1 .1 .1 .1 .1 .1 .0))) (groupOf s n (ws₂ .1 .1 .1 .0) (r₂ .links .active) (ws₂ .1 .1 .0)) × OutKept command (ys-out) (ws₂ .1 .1 .1 .1 .1 .1 .1 .0)) (len : length (ws₂ .1 .1 .0) ≡ length ys-mem) (len₂ : length (ws₂ .1 .1 .1 .0) ≡ length (take r table)) (len₃ : length (ws₂ .1 .1 .1 .1 .1 .1 .1 .0) ≡ length ys-out) (is₂ : Is AnsweredT.the-row r₂ (w₂ ∷ [])) (vs : List Val) (isz : Is (Array RecordT.the-row 300) ((ws₂ .1 .1 .1 .0) ++ drop-list r table) vs) → Sq W (‵ (fat fullShare (tyArray RecordL.mir 300) l₁₁ 0 ((only ((array-vals (LL.vals RecordT.the-type RecordL.the-laws)) ((ws₂ .1 .1 .1 .0) ++ drop-list r table))))) ∷ ‵ (flft κ₂ q₂) ∷ ‵ (flft κ₁ q₁) ∷ ‵ (flft κ₀ q₀) ∷ ‵ (finally u8 γ-out (ws₂ .1 .1 .1 .1 .1 .1 .1 .0)) ∷ ‵ (finally u8 γ-mem (ws₂ .1 .1 .0)) ∷ ‵ Own-bytes ∷ ‵ (froom (tyArray RecordL.mir 300) l₁₉ 0) ∷ ‵ (fdies (tyArray RecordL.mir 300) l₁₉) ∷ ‵ (fat fullShare (sliceTy (tyRef erased mut (tyInt w8))) l₁₈ 0 (s-out)) ∷ ‵ (fdies (sliceTy (tyRef erased mut (tyInt w8))) l₁₈) ∷ ‵ (fat fullShare (tyRef erased mut (tyInt w8)) l₁₇ 0 (vptr b-out o-out)) ∷ ‵ (fdies (tyRef erased mut (tyInt w8)) l₁₇) ∷ ‵ (fat fullShare (sliceTy (tyRef erased mut (pointee (RecordT.the-row .written)))) l₁₆ 0 (sliceVal (l₁₁, 0) (length (take r table)))) ∷ ‵ (fdies (sliceTy (tyRef erased mut (pointee (RecordT.the-row .written)))) l₁₆) ∷ ‵ (fat fullShare (tyRef erased mut (pointee ((Array RecordT.the-row 300) .written))) l₁₅ 0 (vptr l₁₁ 0)) ∷ ‵ (fdies (tyRef erased mut (pointee ((Array RecordT.the-row 300) .written))) l₁₅) ∷ ‵ (fat fullShare (sliceTy (tyRef erased mut (tyInt w8))) l₁₄ 0 (s-mem)) ∷ ‵ (fdies (sliceTy (tyRef erased mut (tyInt w8))) l₁₄) ∷ ‵ (fat fullShare (tyRef erased mut (tyInt w8)) l₁₃ 0 (vptr b-mem o-mem)) ∷ ‵ (fdies (tyRef erased mut (tyInt w8)) l₁₃) ∷ ‵ (fat fullShare AnsweredL.mir l₁₂ 0 (w₂)) ∷ ‵ (fdies AnsweredL.mir l₁₂) ∷ ‵ (fdies (tyArray RecordL.mir 300) l₁₁) ∷ ‵ (fat fullShare (tyInt w64) l₁₀ 0 (vint w64 r)) ∷ ‵ (fdies (tyInt w64) l₁₀) ∷ ‵ (fat fullShare (sliceTy (tyRef (named 2) mut (tyInt w8))) l₉ 0 (s-out)) ∷ ‵ (fdies (sliceTy (tyRef (named 2) mut (tyInt w8))) l₉) ∷ ‵ (fat fullShare (sliceTy (tyRef (named 1) imm (tyInt w8))) l₈ 0 (s-bytes)) ∷ ‵ (fdies (sliceTy (tyRef (named 1) imm (tyInt w8))) l₈) ∷ ‵ (fat fullShare CommandL.mir l₇ 0 (v-command)) ∷ ‵ (fdies CommandL.mir l₇) ∷ ‵ (fat fullShare LinksL.mir l₆ 0 (v-links)) ∷ ‵ (fdies LinksL.mir l₆) ∷ ‵ (fat fullShare (sliceTy (tyRef (named 0) mut (tyInt w8))) l₅ 0 (s-mem)) ∷ ‵ (fdies (sliceTy (tyRef (named 0) mut (tyInt w8))) l₅) ∷ ‵ (fat fullShare (tyInt w32) l₄ 0 (vint w32 n)) ∷ ‵ (fdies (tyInt w32) l₄) ∷ ‵ (fat fullShare (tyInt w32) l₃ 0 (vint w32 s)) ∷ ‵ (fdies (tyInt w32) l₃) ∷ ‵ (fat fullShare (tyInt w64) l₂ 0 (vint w64 count)) ∷ ‵ (fdies (tyInt w64) l₂) ∷ ‵ (fat fullShare (tyArray RecordL.mir 300) l₁ 0 (v-table)) ∷ ‵ (fdies (tyArray RecordL.mir 300) l₁) ∷ ‵ (froom MadeL.mir l₀ 0) ∷ ‵ (fdies MadeL.mir l₀) ∷ []) (runs C Λ (locals l₀ l₁ l₂ l₃ l₄ l₅ l₆ l₇ l₈ l₉ l₁₀ l₁₁ l₁₂ l₁₃ l₁₄ l₁₅ l₁₆ l₁₇ l₁₈ l₁₉) (after 9 (code.function .body)) (atRet (locals l₀ l₁ l₂ l₃ l₄ l₅ l₆ l₇ l₈ l₉ l₁₀ l₁₁ l₁₂ l₁₃ l₁₄ l₁₅ l₁₆ l₁₇ l₁₈ l₁₉) Post))
+    part-3 : (l₀ l₁ l₂ l₃ l₄ l₅ l₆ l₇ l₈ l₉ l₁₀ l₁₁ l₁₂ l₁₃ l₁₄ l₁₅ l₁₆ l₁₇ l₁₈ l₁₉ : ℕ) (w : Val) (r : ℕ) (ws : Unit {0} × Unit {0}) (e : r ≤ 300) (is : Is usize r (w ∷ [])) (long : length table ≡ 300) (w₂ : Val) (r₂ : Answered) (ws₂ : Unit {0} × (Unit {0} × (List ℕ × (List Record × (Unit {0} × (Unit {0} × (Unit {0} × (List ℕ × Unit {0})))))))) (e₂ : Did (groupOf s n ((take r table)) links (ys-mem)) (callOf command (ys-bytes) (ys-out)) (answerOf r₂ (outLeft command (ws₂ .1 .1 .1 .1 .1 .1 .1 .0))) (groupOf s n (ws₂ .1 .1 .1 .0) (r₂ .links) (ws₂ .1 .1 .0)) × OutKept command (ys-out) (ws₂ .1 .1 .1 .1 .1 .1 .1 .0)) (len : length (ws₂ .1 .1 .0) ≡ length ys-mem) (len₂ : length (ws₂ .1 .1 .1 .0) ≡ length (take r table)) (len₃ : length (ws₂ .1 .1 .1 .1 .1 .1 .1 .0) ≡ length ys-out) (is₂ : Is AnsweredT.the-row r₂ (w₂ ∷ [])) (vs : List Val) (isz : Is (Array RecordT.the-row 300) ((ws₂ .1 .1 .1 .0) ++ drop-list r table) vs) → Sq W (‵ (fat fullShare (tyArray RecordL.mir 300) l₁₁ 0 ((only ((array-vals (LL.vals RecordT.the-type RecordL.the-laws)) ((ws₂ .1 .1 .1 .0) ++ drop-list r table))))) ∷ ‵ (flft κ₂ q₂) ∷ ‵ (flft κ₁ q₁) ∷ ‵ (flft κ₀ q₀) ∷ ‵ (finally u8 γ-out (ws₂ .1 .1 .1 .1 .1 .1 .1 .0)) ∷ ‵ (finally u8 γ-mem (ws₂ .1 .1 .0)) ∷ ‵ Own-bytes ∷ ‵ (froom (tyArray RecordL.mir 300) l₁₉ 0) ∷ ‵ (fdies (tyArray RecordL.mir 300) l₁₉) ∷ ‵ (fat fullShare (sliceTy (tyRef erased mut (tyInt w8))) l₁₈ 0 (s-out)) ∷ ‵ (fdies (sliceTy (tyRef erased mut (tyInt w8))) l₁₈) ∷ ‵ (fat fullShare (tyRef erased mut (tyInt w8)) l₁₇ 0 (vptr b-out o-out)) ∷ ‵ (fdies (tyRef erased mut (tyInt w8)) l₁₇) ∷ ‵ (fat fullShare (sliceTy (tyRef erased mut (pointee (RecordT.the-row .written)))) l₁₆ 0 (sliceVal (l₁₁, 0) (length (take r table)))) ∷ ‵ (fdies (sliceTy (tyRef erased mut (pointee (RecordT.the-row .written)))) l₁₆) ∷ ‵ (fat fullShare (tyRef erased mut (pointee ((Array RecordT.the-row 300) .written))) l₁₅ 0 (vptr l₁₁ 0)) ∷ ‵ (fdies (tyRef erased mut (pointee ((Array RecordT.the-row 300) .written))) l₁₅) ∷ ‵ (fat fullShare (sliceTy (tyRef erased mut (tyInt w8))) l₁₄ 0 (s-mem)) ∷ ‵ (fdies (sliceTy (tyRef erased mut (tyInt w8))) l₁₄) ∷ ‵ (fat fullShare (tyRef erased mut (tyInt w8)) l₁₃ 0 (vptr b-mem o-mem)) ∷ ‵ (fdies (tyRef erased mut (tyInt w8)) l₁₃) ∷ ‵ (fat fullShare AnsweredL.mir l₁₂ 0 (w₂)) ∷ ‵ (fdies AnsweredL.mir l₁₂) ∷ ‵ (fdies (tyArray RecordL.mir 300) l₁₁) ∷ ‵ (fat fullShare (tyInt w64) l₁₀ 0 (vint w64 r)) ∷ ‵ (fdies (tyInt w64) l₁₀) ∷ ‵ (fat fullShare (sliceTy (tyRef (named 2) mut (tyInt w8))) l₉ 0 (s-out)) ∷ ‵ (fdies (sliceTy (tyRef (named 2) mut (tyInt w8))) l₉) ∷ ‵ (fat fullShare (sliceTy (tyRef (named 1) imm (tyInt w8))) l₈ 0 (s-bytes)) ∷ ‵ (fdies (sliceTy (tyRef (named 1) imm (tyInt w8))) l₈) ∷ ‵ (fat fullShare CommandL.mir l₇ 0 (v-command)) ∷ ‵ (fdies CommandL.mir l₇) ∷ ‵ (fat fullShare LinksL.mir l₆ 0 (v-links)) ∷ ‵ (fdies LinksL.mir l₆) ∷ ‵ (fat fullShare (sliceTy (tyRef (named 0) mut (tyInt w8))) l₅ 0 (s-mem)) ∷ ‵ (fdies (sliceTy (tyRef (named 0) mut (tyInt w8))) l₅) ∷ ‵ (fat fullShare (tyInt w32) l₄ 0 (vint w32 n)) ∷ ‵ (fdies (tyInt w32) l₄) ∷ ‵ (fat fullShare (tyInt w32) l₃ 0 (vint w32 s)) ∷ ‵ (fdies (tyInt w32) l₃) ∷ ‵ (fat fullShare (tyInt w64) l₂ 0 (vint w64 count)) ∷ ‵ (fdies (tyInt w64) l₂) ∷ ‵ (fat fullShare (tyArray RecordL.mir 300) l₁ 0 (v-table)) ∷ ‵ (fdies (tyArray RecordL.mir 300) l₁) ∷ ‵ (froom MadeL.mir l₀ 0) ∷ ‵ (fdies MadeL.mir l₀) ∷ []) (runs C Λ (locals l₀ l₁ l₂ l₃ l₄ l₅ l₆ l₇ l₈ l₉ l₁₀ l₁₁ l₁₂ l₁₃ l₁₄ l₁₅ l₁₆ l₁₇ l₁₈ l₁₉) (after 9 (code.function .body)) (atRet (locals l₀ l₁ l₂ l₃ l₄ l₅ l₆ l₇ l₈ l₉ l₁₀ l₁₁ l₁₂ l₁₃ l₁₄ l₁₅ l₁₆ l₁₇ l₁₈ l₁₉) Post))
     unfolding partOf
     part-3 l₀ l₁ l₂ l₃ l₄ l₅ l₆ l₇ l₈ l₉ l₁₀ l₁₁ l₁₂ l₁₃ l₁₄ l₁₅ l₁₆ l₁₇ l₁₈ l₁₉ w r ws e is long w₂ r₂ ws₂ e₂ len len₂ len₃ is₂ vs isz =
         assigns ! (of-opd ! (load ! (from ! (stop !)) (look ! 0 refl))) (from ! (stop !)) (init ! 7 refl (array-typed RecordT.the-row (LL.lawful RecordT.the-type RecordL.the-laws 𝓤 H A W .typed) 300 ((ws₂ .1 .1 .1 .0) ++ drop-list r table) _ (subst (Is (Array RecordT.the-row 300) ((ws₂ .1 .1 .1 .0) ++ drop-list r table)) ((array-tells RecordT.the-row (LL.vals RecordT.the-type RecordL.the-laws) (LL.tells RecordT.the-type RecordL.the-laws) 300) ((ws₂ .1 .1 .1 .0) ++ drop-list r table) vs isz) isz) .0)) $
@@ -247,8 +247,8 @@ module _ {M : Type 1} (𝓤 : URA M) (H : Heap 𝓤) (A : Atoms 𝓤) (W : Given
         rewrite ! 16 (λ (m : ℕ). ‵ (fat fullShare (sliceTy (tyRef erased mut (pointee (RecordT.the-row .written)))) l₁₆ 0 (sliceVal (l₁₁, 0) m))) (sym (length-take-le r table (subst (λ (m : ℕ). r ≤ m) (sym long) e))) refl $ move ! (8 ∷ []) $ use1 W (‵ Own-bytes ⊛ ‵ Own-bytes) (shr-slice-copy 𝓤 H A W (named 1) κ₁ u8 .twice x-bytes (s-bytes ∷ [])) $ split ! $ nothing ! $ move ! (10 ∷ 0 ∷ []) $ join ! $ move ! (2 ∷ 0 ∷ []) $ join ! $ move ! (2 ∷ 0 ∷ []) $ join ! $ move ! (8 ∷ 0 ∷ []) $ join ! $ move ! (5 ∷ 0 ∷ []) $ join ! $ move ! (5 ∷ 0 ∷ []) $ join ! $ move ! (3 ∷ 0 ∷ []) $ join ! $ move ! (4 ∷ 0 ∷ []) $ join ! $ use1 W (raw (C-f-make 𝓤 H A mem run .pre (to-f-make 𝓤 H A mem run κ₀ q₀ (ν ∷ []) fullShare κ₁ q₁ κ₂ q₂ s (vint w32 s) n (vint w32 n) x-mem s-mem (record { ptr = (l₁₁, 0); name = δ; now = (take r table) }) (sliceVal (l₁₁, 0) (length (take r table))) links (v-links) command (v-command) x-bytes s-bytes x-out s-out))) (goes-f-make 𝓤 H A W mem run κ₀ q₀ (ν ∷ []) fullShare κ₁ q₁ κ₂ q₂ s (vint w32 s) n (vint w32 n) x-mem s-mem (record { ptr = (l₁₁, 0); name = δ; now = (take r table) }) (sliceVal (l₁₁, 0) (length (take r table))) links (v-links) command (v-command) x-bytes s-bytes x-out s-out (refl, g-s) (refl, g-n) g-links g-command) $
         calls-at ! fm (C-f-make 𝓤 H A mem run) known-f-make (to-f-make 𝓤 H A mem run κ₀ q₀ (ν ∷ []) fullShare κ₁ q₁ κ₂ q₂ s (vint w32 s) n (vint w32 n) x-mem s-mem (record { ptr = (l₁₁, 0); name = δ; now = (take r table) }) (sliceVal (l₁₁, 0) (length (take r table))) links (v-links) command (v-command) x-bytes s-bytes x-out s-out) (and-then ! (load ! (from ! (stop !)) (look ! 35 refl)) (and-then ! (load ! (from ! (stop !)) (look ! 33 refl)) (and-then ! (load ! (from ! (stop !)) (look ! 14 refl)) (and-then ! (load ! (from ! (stop !)) (look ! 10 refl)) (and-then ! (load ! (from ! (stop !)) (look ! 29 refl)) (and-then ! (load ! (from ! (stop !)) (look ! 27 refl)) (and-then ! (load ! (from ! (stop !)) (look ! 25 refl)) (and-then ! (load ! (from ! (stop !)) (look ! 6 refl)) (no-more !))))))))) (λ w₂.
         use1 W (later (some (λ (r₂ : Answered). ((‵ (flft κ₀ q₀) ⊛ ‵ (flft (ν ∷ []) fullShare) ⊛ ‵ (flft κ₁ q₁) ⊛ ‵ (flft κ₂ q₂) ⊛ ‵ ftrue) ⊛ ‵ (AnsweredT.the-row .own r₂ (w₂ ∷ []))) ⊛ raw (ensured 𝓤 H A f-make.ended (f-make.clauses 𝓤 H A mem run) (κ₀, ((ν ∷ []), (κ₁, (κ₂, tt)))) (s, (n, (x-mem, ((record { ptr = (l₁₁, 0); name = δ; now = (take r table) }), (links, (command, (x-bytes, (x-out, tt)))))))) tt r₂)))) (id⊢ 𝓤 _) $ await ! tt $ pick ! (λ r₂.
-        split ! $ move ! (1 ∷ []) $ use1 W (some (λ (ws₂ : Unit {0} × (Unit {0} × (List ℕ × (List Record × (Unit {0} × (Unit {0} × (Unit {0} × (List ℕ × Unit {0})))))))). ‵ (lasts f-make.ended (κ₀, ((ν ∷ []), (κ₁, (κ₂, tt)))) (s, (n, (x-mem, ((record { ptr = (l₁₁, 0); name = δ; now = (take r table) }), (links, (command, (x-bytes, (x-out, tt)))))))) ws₂) ⊛ raw (fact 𝓤 (Did (groupOf s n ((take r table)) (links .active) (ys-mem)) (callOf command (ys-bytes) (ys-out)) (answerOf r₂ (outLeft command (ws₂ .1 .1 .1 .1 .1 .1 .1 .0))) (groupOf s n (ws₂ .1 .1 .1 .0) (r₂ .links .active) (ws₂ .1 .1 .0)) × OutKept command (ys-out) (ws₂ .1 .1 .1 .1 .1 .1 .1 .0))))) (id⊢ 𝓤 _) $ pick ! (λ ws₂.
-        split ! $ move ! (1 ∷ []) $ heard ! (Did (groupOf s n ((take r table)) (links .active) (ys-mem)) (callOf command (ys-bytes) (ys-out)) (answerOf r₂ (outLeft command (ws₂ .1 .1 .1 .1 .1 .1 .1 .0))) (groupOf s n (ws₂ .1 .1 .1 .0) (r₂ .links .active) (ws₂ .1 .1 .0)) × OutKept command (ys-out) (ws₂ .1 .1 .1 .1 .1 .1 .1 .0)) (λ e₂.
+        split ! $ move ! (1 ∷ []) $ use1 W (some (λ (ws₂ : Unit {0} × (Unit {0} × (List ℕ × (List Record × (Unit {0} × (Unit {0} × (Unit {0} × (List ℕ × Unit {0})))))))). ‵ (lasts f-make.ended (κ₀, ((ν ∷ []), (κ₁, (κ₂, tt)))) (s, (n, (x-mem, ((record { ptr = (l₁₁, 0); name = δ; now = (take r table) }), (links, (command, (x-bytes, (x-out, tt)))))))) ws₂) ⊛ raw (fact 𝓤 (Did (groupOf s n ((take r table)) links (ys-mem)) (callOf command (ys-bytes) (ys-out)) (answerOf r₂ (outLeft command (ws₂ .1 .1 .1 .1 .1 .1 .1 .0))) (groupOf s n (ws₂ .1 .1 .1 .0) (r₂ .links) (ws₂ .1 .1 .0)) × OutKept command (ys-out) (ws₂ .1 .1 .1 .1 .1 .1 .1 .0))))) (id⊢ 𝓤 _) $ pick ! (λ ws₂.
+        split ! $ move ! (1 ∷ []) $ heard ! (Did (groupOf s n ((take r table)) links (ys-mem)) (callOf command (ys-bytes) (ys-out)) (answerOf r₂ (outLeft command (ws₂ .1 .1 .1 .1 .1 .1 .1 .0))) (groupOf s n (ws₂ .1 .1 .1 .0) (r₂ .links) (ws₂ .1 .1 .0)) × OutKept command (ys-out) (ws₂ .1 .1 .1 .1 .1 .1 .1 .0)) (λ e₂.
         fsplit ! $ drop ! $ fsplit ! $ drop ! $ fsplit ! $ fsplit ! $ move ! (1 ∷ []) $ feqL ! (λ len. move ! (1 ∷ []) $ fsplit ! $ fsplit ! $ move ! (1 ∷ []) $ feqL ! (λ len₂. move ! (1 ∷ []) $ fsplit ! $ drop ! $ fsplit ! $ drop ! $ fsplit ! $ drop ! $ fsplit ! $ fsplit ! $ move ! (1 ∷ []) $ feqL ! (λ len₃. move ! (1 ∷ []) $ drop ! $ move ! (3 ∷ []) $ split ! $
         move ! (1 ∷ []) $ peeks ! AnsweredT.the-row (Is AnsweredT.the-row) (shows 𝓤 H A AnsweredT.the-row) r₂ (w₂ ∷ []) (λ is₂. drop ! $
         land ! (from ! (stop !)) (init ! 21 refl (LL.lawful AnsweredT.the-type AnsweredL.the-laws 𝓤 H A W .typed r₂ _ is₂ .0)) $

@@ -1,33 +1,27 @@
 -- `table::set_link` meets its contract. Assumes nothing.
-use mathlib.Core.Path.{sym}
-use native.Mathlib.Omega.{arith}
 use borrow.Author.Needs.{needs}
-use Rattle.table.proofs.Laws.{links-length, with-link-low, with-link-in, with-link-out}
+use Rattle.table.specs.Table.{linkSet}
 use Rattle.table.proofs.set_link.Statement.{statement}
 use Rattle.table.proofs.set_link.Tie as tie
 
+set-active-requires : tie.Need-set-active-requires
+set-active-requires c κs = search needs
+
+cleared-requires : tie.Need-cleared-requires
+cleared-requires c κs = search needs
+
+set-gauge-requires : tie.Need-set-gauge-requires
+set-gauge-requires c κs = search needs
+
 returns : tie.Need-returns
-returns c =
-    let a = c .before .args in
-    sym (with-link-low (a .links .active) (a .link) (a .up) (c .if1 .taken))
+unfolding linkSet
+returns c = simp (c .if1 .taken, c .before .set-active .ensures)
 
 returns-2 : tie.Need-returns-2
+unfolding linkSet
 returns-2 c =
-    let b = c .before .before in
-    let a = b .args in
-    let l = links-length (a .links) _ (b .good .0) in
-    sym (with-link-out (a .links .active) (a .link) (a .up) (omega arith))
-
-sub-i : tie.Need-sub-i
-sub-i c = search needs
-
-element-write-next : tie.Need-element-write-next
-element-write-next c = search needs
-
-returns-3 : tie.Need-returns-3
-returns-3 c =
-    let a = c .before .before .args in
-    sym (with-link-in (a .links .active) (a .link) (a .up) (omega arith))
+    simp (c .set-gauge .ensures, c .before .cleared .ensures, c .before .before .if1 .left, c .before .before .before .set-active .ensures)
 
 pub set-link-spec : {M : Type 1} → statement M
-set-link-spec = tie.close (tie.spec returns returns-2 sub-i element-write-next returns-3)
+set-link-spec =
+    tie.close (tie.spec set-active-requires cleared-requires set-gauge-requires returns returns-2)

@@ -71,6 +71,27 @@ impl Bench {
             b"take -1",
             b"return 1",
             b"pool 1",
+            b"health 0",
+            b"health 5",
+            b"health",
+            b"sample 0 1",
+            b"sample 256 1",
+            b"sample 1",
+            b"gauge 0 0000000000000000 0000000000000000 0 0",
+            b"gauge 5 0000000000000000 0000000000000000 0 0",
+            b"gauge 1 7FF0000000000000 0000000000000000 0 0",
+            b"gauge 1 FFF0000000000000 0000000000000000 0 0",
+            b"gauge 1 0000000000000000 7FF0000000000000 0 0",
+            b"gauge 1 0000000000000000 7FF8000000000000 0 0",
+            b"gauge 1 0000000000000000 FFFFFFFFFFFFFFFF 0 0",
+            b"gauge 1 7FF0000000000001 0000000000000000 0 0",
+            b"gauge 1 7FEFFFFFFFFFFFFF FFEFFFFFFFFFFFFF 255 1",
+            b"gauge 1 0 0 0 0",
+            b"gauge 1 - - 0 0",
+            b"gauge 1 0000000000000000 0000000000000000 256 0",
+            b"gauge 1 0000000000000000 0000000000000000 0 2",
+            b"gauge 1 0000000000000000 0000000000000000 0",
+            b"health 1",
             b"group 2 16 32 0",
             b"record 1 0 0 0 0 0 0 0 0 0 0 0 0 0 0 0 0 0 0",
             b"table",
@@ -198,7 +219,7 @@ impl Bench {
 
 /// A good line of each kind: words with their largest value and a value that is
 /// good here, HEX, or HEX of just so many bytes.
-const FORMS: [&str; 22] = [
+const FORMS: [&str; 25] = [
     "group 4294967295=2 4294967295=16 1048704=32",
     "group 4294967295=2 4294967295=16 1048704=32 300=2",
     "open 4294967295=2 4294967295=7 4294967295=8 255=1 4294967295=16",
@@ -223,6 +244,9 @@ const FORMS: [&str; 22] = [
     "return 4294967295=0 4294967295=4",
     "books",
     "books HEX*64",
+    "sample 255=1 4294967295=60000",
+    "health 4=1",
+    "gauge 4=1 HEX*8 HEX*8 255=3 1=0",
 ];
 
 /// The largest value and the good value of a number's word.

@@ -13,7 +13,7 @@ mod pairs;
 mod records;
 mod tables;
 
-use super::{pool, List};
+use super::{gauges, pool, List};
 use crate::random::Random;
 use crate::smcr::*;
 
@@ -56,6 +56,7 @@ pub fn list(seed: u64, count: Option<usize>) -> Vec<u8> {
         Bench::full_turns,
         Bench::random_marks,
         |bench| pool::hostile(&mut bench.list, &mut bench.random),
+        |bench| gauges::hostile(&mut bench.list, &mut bench.random),
         Bench::bad_lines,
         Bench::long_lines,
     ];

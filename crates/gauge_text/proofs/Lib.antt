@@ -1,0 +1,2 @@
+-- `Laws`: what the tests tell of a double and of its bits.
+pub mod Laws
