@@ -12,6 +12,7 @@
 #![allow(clippy::needless_range_loop)]
 #![allow(clippy::large_enum_variant)]
 
+pub mod clc;
 pub mod compare;
 pub mod count;
 pub mod gauge;
@@ -20,5 +21,6 @@ pub mod picture;
 pub mod pool;
 pub mod random;
 pub mod replay;
+pub mod setup;
 pub mod smcr;
 pub mod traces;

@@ -1,4 +1,4 @@
-// A line of the input: a call with its numbers, one of the seven lines that are no calls, or a line of the pool.
+// A line of the input: a call with its numbers, one of the seven lines that are no calls, a line of the pool or one on setting up.
 ghost use Prim.Native.Nat.{_-_, _≤_};
 use calls::Request;
 use connection::Opening;
@@ -10,6 +10,8 @@ use management::Management;
 use pool_text::PoolLine;
 use pool_text::PoolVerb;
 use records::read;
+use setup_text::SetupLine;
+use setup_text::SetupVerb;
 use stream::input;
 use stream::input::Decimal;
 use stream::input::Scan;
@@ -34,6 +36,8 @@ pub enum Line {
     Gauge(u8, Gauge),
     // a line of the pool
     Pool(PoolLine),
+    // a line on setting up
+    Setup(SetupLine),
 }
 
 pub struct Parsed {
@@ -64,6 +68,7 @@ enum Verb {
     Health,
     Gauge,
     Pool(PoolVerb),
+    Setup(SetupVerb),
     Unknown,
 }
 
@@ -84,6 +89,22 @@ fn is(letters: &[u8; 8], count: usize, name: &[u8]) -> bool
     true
 }
 
+// The verbs of setting up.
+fn setup_verb(letters: &[u8; 8], count: usize) -> Verb
+    requires { ⌜ count ≤ 8 ⌝ }
+{
+    if is(letters, count, b"settings") {
+        return Verb::Setup(SetupVerb::Settings);
+    }
+    if is(letters, count, b"setup") {
+        return Verb::Setup(SetupVerb::Setup);
+    }
+    if is(letters, count, b"clc") {
+        return Verb::Setup(SetupVerb::Clc);
+    }
+    Verb::Unknown
+}
+
 // The verbs of the pool.
 fn pool_verb(letters: &[u8; 8], count: usize) -> Verb
     requires { ⌜ count ≤ 8 ⌝ }
@@ -100,7 +121,7 @@ fn pool_verb(letters: &[u8; 8], count: usize) -> Verb
     if is(letters, count, b"books") {
         return Verb::Pool(PoolVerb::Books);
     }
-    Verb::Unknown
+    setup_verb(letters, count)
 }
 
 // The verbs of a connection's calls.
@@ -385,6 +406,14 @@ fn pool_line(buf: &mut [u8; 65536], given: &mut [u8], c: Scan, verb: PoolVerb) -
     ended(buf, p.scan, Line::Pool(line))
 }
 
+fn setup_line(buf: &mut [u8; 65536], given: &mut [u8], c: Scan, verb: SetupVerb) -> Parsed
+    ensures { λ r. ⌜ r .scan .left ≤ c .left - 1 ⌝ }
+{
+    let p = setup_text::parse(buf, given, c, verb);
+    let line = p.line;
+    ended(buf, p.scan, Line::Setup(line))
+}
+
 // The lines of calls.
 fn call_line(buf: &mut [u8; 65536], given: &mut [u8], c: Scan, verb: Verb) -> Parsed
     ensures { λ r. ⌜ r .scan .left ≤ c .left - 1 ⌝ }
@@ -414,6 +443,7 @@ fn line_of(buf: &mut [u8; 65536], given: &mut [u8], c: Scan, verb: Verb) -> Pars
         Verb::Health => health_line(buf, c),
         Verb::Gauge => gauge_line(buf, given, c),
         Verb::Pool(v) => pool_line(buf, given, c, v),
+        Verb::Setup(v) => setup_line(buf, given, c, v),
         Verb::Unknown => ended(buf, c, Line::Bad),
         _ => call_line(buf, given, c, verb),
     }

@@ -13,13 +13,14 @@ use group::Command;
 use lines::Line;
 use pool_text::PoolLine;
 use records::print;
+use setup_text::SetupLine;
 use stream::input;
 use stream::output;
 use table::Answered;
 use table::Links;
 
 // The group as the last call left it, its memory aside, of which it has the first `len` bytes; of the table it has the first `count` rows.
-// The books of the pool beside it; and how far the output buffer is filled.
+// The books of the pool and the settings (the words of a `settings` line) beside it; and how far the output buffer is filled.
 struct World {
     s: u32,
     n: u32,
@@ -28,6 +29,7 @@ struct World {
     count: usize,
     links: Links,
     books: [u8; 64],
+    settings: [u8; 252],
     at: usize,
 }
 
@@ -90,8 +92,17 @@ fn on_rows(
     beside(rows, answer)
 }
 
-// A fresh group: every slot all zeros, every link down, every gauge cleared. The pool stays as it is.
-fn fresh(s: u32, n: u32, len: usize, count: usize, books: [u8; 64], at: usize) -> World {
+// A fresh group: every slot all zeros, every link down, every gauge cleared. The pool and the
+// settings stay as they are.
+fn fresh(
+    s: u32,
+    n: u32,
+    len: usize,
+    count: usize,
+    books: [u8; 64],
+    settings: [u8; 252],
+    at: usize,
+) -> World {
     let z = connection::zero_record();
     let g = gauge::cleared();
     let links = Links {
@@ -106,14 +117,15 @@ fn fresh(s: u32, n: u32, len: usize, count: usize, books: [u8; 64], at: usize) -
         count: count,
         links: links,
         books: books,
+        settings: settings,
         at: at,
     }
 }
 
-// As if after `group 1 8 8` and `pool`.
+// As if after `group 1 8 8` and `pool`, with settings all zero.
 fn first() -> World {
     let books = pool::free_pool();
-    fresh(1, 8, 8, 1, books, 0)
+    fresh(1, 8, 8, 1, books, [0u8; 252], 0)
 }
 
 // The output buffer is filled up to `at` now.
@@ -141,7 +153,8 @@ fn start_over(
     fill(&mut mem[0..most], 0);
     let at = output::text(o, w.at, b"group\n");
     let books = w.books;
-    fresh(s, n, len, count, books, at)
+    let settings = w.settings;
+    fresh(s, n, len, count, books, settings, at)
 }
 
 // Makes the call, every byte of out A5 before it, and prints its answer.
@@ -161,17 +174,11 @@ fn call(
     let after = a.table;
     let left = said.links;
     let at = answers::answer(o, w.at, command, said, out);
-    let books = w.books;
-    World {
-        s: w.s,
-        n: w.n,
-        len: w.len,
-        table: after,
-        count: w.count,
-        links: left,
-        books: books,
-        at: at,
-    }
+    let mut next = w;
+    next.table = after;
+    next.links = left;
+    next.at = at;
+    next
 }
 
 // A call, with what it is lent: LEN bytes of memory, its bytes, and ROOM bytes of out.
@@ -289,6 +296,23 @@ fn pool_line(given: &[u8], o: &mut [u8; 65536], w: World, line: PoolLine) -> Wor
     next
 }
 
+// A line on setting up, made with the settings.
+fn setup_line(
+    given: &[u8],
+    out: &mut [u8],
+    o: &mut [u8; 65536],
+    w: World,
+    line: SetupLine,
+) -> World {
+    let settings = w.settings;
+    let a = setup_text::act(o, w.at, settings, given, out, line);
+    let after = a.settings;
+    let mut next = w;
+    next.settings = after;
+    next.at = a.at;
+    next
+}
+
 // The lines that are no calls of the group.
 fn aside(mem: &mut [u8], given: &[u8], o: &mut [u8; 65536], w: World, line: Line) -> World {
     match line {
@@ -315,6 +339,7 @@ fn act(
 ) -> World {
     match line {
         Line::Call(command, count, room) => lent(mem, given, out, o, w, command, count, room),
+        Line::Setup(l) => setup_line(given, out, o, w, l),
         _ => aside(mem, given, o, w, line),
     }
 }

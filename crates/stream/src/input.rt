@@ -21,6 +21,11 @@ pub struct Decimal {
     pub value: u32,
 }
 
+pub struct Decimal64 {
+    pub scan: Scan,
+    pub value: u64,
+}
+
 // `count` bytes from the start of the buffer that they were put into.
 pub struct Run {
     pub scan: Scan,
@@ -121,7 +126,7 @@ pub fn spoilt(c: Scan) -> Scan
 }
 
 // Takes the byte that is wanted next.
-fn taken(buf: &mut [u8; 65536], c: Scan, byte: u8) -> Scan
+pub fn taken(buf: &mut [u8; 65536], c: Scan, byte: u8) -> Scan
     ensures { λ r. ⌜ r .left ≤ c .left ⌝ }
 {
     if c.byte == byte {
@@ -184,6 +189,60 @@ pub fn number(buf: &mut [u8; 65536], c: Scan, most: u32) -> Decimal
     Decimal {
         scan: bad,
         value: 0,
+    }
+}
+
+// One more decimal digit; a number past 64 bits does not parse.
+fn digit64(buf: &mut [u8; 65536], c: Scan, value: u64) -> Decimal64
+    ensures { λ r. ⌜ r .scan .left ≤ c .left - 1 ⌝ }
+{
+    let digit = c.byte;
+    let scan = next(buf, c);
+    if b'0' <= digit {
+        let d = (digit - b'0') as u64;
+        if value <= (u64::MAX - d) / 10 {
+            return Decimal64 {
+                scan: scan,
+                value: value * 10 + d,
+            };
+        }
+    }
+    let bad = spoilt(scan);
+    Decimal64 {
+        scan: bad,
+        value: 0,
+    }
+}
+
+fn digits64(buf: &mut [u8; 65536], c: Scan) -> Decimal64
+    ensures { λ r. ⌜ r .scan .left ≤ c .left ⌝ }
+{
+    let mut scan = c;
+    let mut value: u64 = 0;
+    while 0 < scan.left && is_digit(scan.byte) {
+        let d = digit64(buf, scan, value);
+        scan = d.scan;
+        value = d.value;
+    }
+    Decimal64 {
+        scan: scan,
+        value: value,
+    }
+}
+
+// A space and a decimal number of 64 bits; 0 where the line does not parse.
+pub fn number64(buf: &mut [u8; 65536], c: Scan) -> Decimal64
+    ensures { λ r. ⌜ r .scan .left ≤ c .left ⌝ }
+{
+    let start = taken(buf, c, b' ');
+    if is_digit(start.byte) {
+        digits64(buf, start)
+    } else {
+        let bad = spoilt(start);
+        Decimal64 {
+            scan: bad,
+            value: 0,
+        }
     }
 }
 

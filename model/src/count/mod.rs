@@ -11,6 +11,7 @@ mod gauges;
 mod order;
 mod pool;
 mod refusals;
+mod setup;
 mod tables;
 
 pub use cells::Cells;
@@ -82,6 +83,15 @@ fn count_call(cells: &mut Cells, replay: &mut Replay, line: &Line) {
             return;
         }
         Line::BooksShown => return cells.hit("books: shown"),
+        Line::Settings { .. } | Line::Setup { .. } | Line::Clc { .. } => {
+            let before = replay.settings;
+            let answer = replay.execute(line);
+            if let Line::Setup { due, bytes } = line {
+                let holding = setup::holding(&before, *due, bytes);
+                count_order(cells, word, &holding, refusal(&answer));
+            }
+            return setup::count(cells, line, &answer, &before);
+        }
         Line::Take { .. } | Line::Return { .. } => {
             let before = replay.pool;
             let answer = replay.execute(line);
@@ -160,6 +170,9 @@ fn word_of(line: &Line) -> &'static str {
         Line::Take { .. } => "take",
         Line::Return { .. } => "return",
         Line::Books { .. } | Line::BooksShown => "books",
+        Line::Settings { .. } => "settings",
+        Line::Setup { .. } => "setup",
+        Line::Clc { .. } => "clc",
         Line::Sample { .. } => "sample",
         Line::Health { .. } => "health",
         Line::Gauge { .. } => "gauge",

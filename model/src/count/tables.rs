@@ -16,10 +16,11 @@ pub(super) const ORDERS: &[(&str, &[u8])] = &[
     ("sample", &[13, 6, 17]),
     ("take", &[3, 18, 19]),
     ("return", &[3, 20]),
+    ("setup", &[1, 2, 3]),
 ];
 
 /// Calls on what stands beside the group: their lists are all that they give.
-pub(super) const BESIDE: &[&str] = &["take", "return"];
+pub(super) const BESIDE: &[&str] = &["take", "return", "setup"];
 
 /// Why a call on the group that does not test a number never gives it.
 pub(super) const NOT_TESTED: &[(u8, &str)] = &[
@@ -74,6 +75,12 @@ pub(super) const NOT_AT_ONCE: &[(&[&str], u8, &[u8], &str)] = &[
         13,
         &[6],
         "a link outside 1 to 4 is neither active nor down",
+    ),
+    (
+        &["setup"],
+        2,
+        &[3],
+        "bytes that are no message are of no kind",
     ),
     (&["take"], 18, &[19], "only a right size is looked for"),
 ];

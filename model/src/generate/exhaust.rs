@@ -1,9 +1,9 @@
 //! What can be gone through one by one: every row of the close marks, every
 //! first byte of a link message, every reserved bit, the soundings of document
-//! 01, the examples of section 4.5.1, scenarios 1 to 4 of section 4.7, the pool
-//! and the gauges.
+//! 01, the examples of section 4.5.1, scenarios 1 to 4 of section 4.7, the pool,
+//! the gauges and the messages of set-up.
 
-use super::{gauges, message_of, pool, List};
+use super::{gauges, message_of, pool, setup, List};
 use crate::random::Random;
 use crate::replay::{set_marks, Answer};
 use crate::smcr::*;
@@ -25,6 +25,7 @@ pub fn list(seed: u64) -> Vec<u8> {
     scenario_4(&mut list, &mut random);
     pool::exhaust(&mut list, &mut random);
     gauges::exhaust(&mut list, &mut random);
+    setup::exhaust(&mut list, &mut random);
     list.text
 }
 

@@ -5,6 +5,7 @@ pub mod gauges;
 pub mod hostile;
 pub mod orders;
 pub mod pool;
+pub mod setup;
 pub mod traffic;
 
 use crate::gauge::Gauge;

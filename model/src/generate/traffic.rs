@@ -5,7 +5,7 @@
 
 use std::collections::VecDeque;
 
-use super::{gauges, message_of, pool, List};
+use super::{gauges, message_of, pool, setup, List};
 use crate::random::Random;
 use crate::replay::{Answer, Line, Replay};
 use crate::smcr::*;
@@ -158,7 +158,8 @@ impl World {
             8 if self.habits.strangers => self.damage(),
             9..=24 if self.habits.noise => self.noise(),
             25..=32 => gauges::act(&mut self.list, &mut self.random),
-            33..=48 if self.habits.beside => pool::act(&mut self.list, &mut self.random),
+            33 if self.habits.beside => setup::act(&mut self.list, &mut self.random),
+            34..=48 if self.habits.beside => pool::act(&mut self.list, &mut self.random),
             _ => self.act_on_pair(),
         }
     }

@@ -1,7 +1,9 @@
 //! The lines that parse, the reasons why others do not, and the answers.
 
+use crate::clc::{Clc, NoMessage};
 use crate::gauge::{Gauge, Health};
 use crate::pool::Books;
+use crate::setup::{Due, SetUp, Settings};
 use crate::smcr::*;
 
 /// A line that parsed.
@@ -93,6 +95,16 @@ pub enum Line {
         link: u8,
         gauge: Gauge,
     },
+    Settings {
+        settings: Box<Settings>,
+    },
+    Setup {
+        due: Due,
+        bytes: Vec<u8>,
+    },
+    Clc {
+        bytes: Vec<u8>,
+    },
 }
 
 /// Why a line did not parse. The answer is `bad line` for each.
@@ -157,4 +169,6 @@ pub enum Answer {
     Taken(u32),
     Books,
     Health(&'static str, Health),
+    SetUp(SetUp),
+    Clc(Result<Clc, NoMessage>),
 }

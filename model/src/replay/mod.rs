@@ -11,7 +11,9 @@ pub use line::{Answer, BadLine, Line};
 pub use parse::{marks, set_marks, skipped};
 pub use print::{print_line, push_hex};
 
+use crate::clc::Clc;
 use crate::pool::Books;
+use crate::setup::{set_up, Settings};
 use crate::smcr::*;
 use std::io::{self, BufRead, Write};
 
@@ -31,6 +33,7 @@ pub fn usual_records(elements: u32) -> usize {
 pub struct Replay {
     pub group: Group,
     pub pool: Books,
+    pub settings: Settings,
 }
 
 impl Default for Replay {
@@ -40,12 +43,13 @@ impl Default for Replay {
 }
 
 impl Replay {
-    /// "Before the first `group` line the group is `group 1 8 8`." "At the start
-    /// all units are free."
+    /// "Before the first `group` line the group is `group 1 8 8`." At the start all
+    /// units of the pool are free and all settings are zero.
     pub fn new() -> Replay {
         Replay {
             group: Group::fresh(1, 8, 8, 1),
             pool: Books::free(),
+            settings: Settings::default(),
         }
     }
 
@@ -126,6 +130,14 @@ impl Replay {
             Line::Health { link } => {
                 Answer::Health("health", group.gauges[usize::from(*link) - 1].health())
             }
+            Line::Settings { settings } => {
+                self.settings = **settings;
+                Answer::Word("settings")
+            }
+            Line::Setup { due, bytes } => {
+                answered(set_up(&self.settings, *due, bytes), Answer::SetUp)
+            }
+            Line::Clc { bytes } => Answer::Clc(Clc::read(bytes)),
             Line::Gauge { link, gauge } => {
                 group.gauges[usize::from(*link) - 1] = *gauge;
                 Answer::Word("gauge")

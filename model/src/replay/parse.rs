@@ -1,8 +1,10 @@
 //! Reading a line.
 
 use super::{BadLine, Line, Replay, MAX_RECORDS};
+use crate::clc::{Prefix, MAX_PREFIXES, PREFIX_BYTES};
 use crate::gauge::Gauge;
 use crate::pool::Books;
+use crate::setup::{Due, Settings};
 use crate::smcr::*;
 
 pub const MAX_HEX_BYTES: usize = 70_000;
@@ -21,14 +23,18 @@ fn number(word: &[u8], most: u64) -> Result<u64, BadLine> {
     if word.is_empty() || !word.iter().all(u8::is_ascii_digit) {
         return Err(BadLine::Number);
     }
-    let mut value: u64 = 0;
+    let mut value: u128 = 0;
     for digit in word {
-        value = value * 10 + u64::from(digit - b'0');
-        if value > most {
+        value = value * 10 + u128::from(digit - b'0');
+        if value > u128::from(most) {
             return Err(BadLine::NumberRange);
         }
     }
-    Ok(value)
+    Ok(value as u64)
+}
+
+fn number64(word: &[u8]) -> Result<u64, BadLine> {
+    number(word, u64::MAX)
 }
 
 fn number32(word: &[u8]) -> Result<u32, BadLine> {
@@ -97,21 +103,39 @@ fn gauged_link(word: &[u8]) -> Result<u8, BadLine> {
     }
 }
 
-/// How many words a line may have, its first word included.
+/// The first words, and how many words a line may have, the first included.
+const WORDS: &[(&str, &[usize])] = &[
+    ("group", &[4, 5]),
+    ("open", &[6]),
+    ("free", &[2]),
+    ("link", &[3]),
+    ("linkmsg", &[3]),
+    ("send", &[3]),
+    ("place", &[4]),
+    ("read", &[3]),
+    ("hear", &[2]),
+    ("shutdown", &[2]),
+    ("close", &[2]),
+    ("abort", &[2]),
+    ("record", &[20]),
+    ("poke", &[3]),
+    ("table", &[1]),
+    ("memory", &[3]),
+    ("pool", &[1]),
+    ("take", &[2]),
+    ("return", &[3]),
+    ("books", &[1, 2]),
+    ("sample", &[3]),
+    ("health", &[2]),
+    ("gauge", &[6]),
+    ("settings", &[26]),
+    ("setup", &[3]),
+    ("clc", &[2]),
+];
+
 fn word_counts(first: &[u8]) -> Option<&'static [usize]> {
-    Some(match first {
-        b"table" | b"pool" => &[1],
-        b"books" => &[1, 2],
-        b"free" | b"hear" | b"shutdown" | b"close" | b"abort" | b"take" | b"health" => &[2],
-        b"link" | b"linkmsg" | b"send" | b"read" | b"poke" | b"memory" | b"return" | b"sample" => {
-            &[3]
-        }
-        b"group" => &[4, 5],
-        b"place" => &[4],
-        b"open" | b"gauge" => &[6],
-        b"record" => &[20],
-        _ => return None,
-    })
+    let found = WORDS.iter().find(|(word, _)| word.as_bytes() == first);
+    found.map(|(_, counts)| *counts)
 }
 
 impl Replay {
@@ -119,7 +143,7 @@ impl Replay {
     /// memory's present length, `record` within the table.
     pub fn parse(&self, line: &[u8]) -> Result<Line, BadLine> {
         let length = self.group.memory.len();
-        let words: Vec<&[u8]> = line.splitn(22, |&byte| byte == b' ').collect();
+        let words: Vec<&[u8]> = line.splitn(40, |&byte| byte == b' ').collect();
         let counts = word_counts(words[0]).ok_or(BadLine::Word)?;
         if !counts.contains(&words.len()) {
             return Err(BadLine::WordCount);
@@ -210,6 +234,16 @@ impl Replay {
             b"health" => Line::Health {
                 link: gauged_link(words[1])?,
             },
+            b"settings" => Line::Settings {
+                settings: Box::new(parse_settings(&words)?),
+            },
+            b"setup" => Line::Setup {
+                due: due(words[1])?,
+                bytes: hex(words[2])?,
+            },
+            b"clc" => Line::Clc {
+                bytes: hex(words[1])?,
+            },
             b"gauge" => Line::Gauge {
                 link: gauged_link(words[1])?,
                 gauge: Gauge {
@@ -226,6 +260,56 @@ impl Replay {
             _ => return Err(BadLine::Word),
         })
     }
+}
+
+fn due(word: &[u8]) -> Result<Due, BadLine> {
+    Due::ALL
+        .into_iter()
+        .find(|due| due.name().as_bytes() == word)
+        .ok_or(BadLine::Word)
+}
+
+/// "PREFIXES of 0 to 136 bytes, any number of them, zeros added behind."
+fn prefixes(word: &[u8]) -> Result<[Prefix; MAX_PREFIXES], BadLine> {
+    let mut bytes = hex(word)?;
+    if bytes.len() > PREFIX_BYTES * MAX_PREFIXES {
+        return Err(BadLine::ByteCount);
+    }
+    bytes.resize(PREFIX_BYTES * MAX_PREFIXES, 0);
+    let mut prefixes = [Prefix::default(); MAX_PREFIXES];
+    for (prefix, part) in prefixes.iter_mut().zip(bytes.chunks(PREFIX_BYTES)) {
+        prefix.prefix.copy_from_slice(&part[..16]);
+        prefix.length = part[16];
+    }
+    Ok(prefixes)
+}
+
+fn parse_settings(words: &[&[u8]]) -> Result<Settings, BadLine> {
+    let mut settings = Settings {
+        size: number32(words[1])?,
+        peer_id: hex_of(words[2])?,
+        gid: hex_of(words[3])?,
+        mac: hex_of(words[4])?,
+        mask: hex_of(words[5])?,
+        mask_length: number8(words[6])?,
+        count: number8(words[7])?,
+        prefixes: prefixes(words[8])?,
+        first_contact: zero_or_one(words[9])?,
+        qp: number32(words[10])?,
+        mtu: number8(words[11])?,
+        psn: number32(words[12])?,
+        key: number32(words[13])?,
+        base: number64(words[14])?,
+        slot: number8(words[15])?,
+        own_token: number32(words[16])?,
+        link: number8(words[17])?,
+        ..Settings::default()
+    };
+    for link in 0..LINKS {
+        settings.peer_keys[link] = number32(words[18 + 2 * link])?;
+        settings.peer_bases[link] = number64(words[19 + 2 * link])?;
+    }
+    Ok(settings)
 }
 
 fn parse_record(words: &[&[u8]], records: usize) -> Result<Line, BadLine> {

@@ -2,7 +2,9 @@
 
 use super::parse::marks;
 use super::{Answer, Line, Replay};
+use crate::clc::{Clc, Ends, NoMessage, Prefix};
 use crate::gauge::{Gauge, Health};
+use crate::setup::{OpenArguments, SetUp, Settings};
 use crate::smcr::*;
 
 const DIGITS: &[u8; 16] = b"0123456789ABCDEF";
@@ -17,6 +19,11 @@ pub fn push_hex(out: &mut Vec<u8>, bytes: &[u8]) {
         out.push(DIGITS[usize::from(byte >> 4)]);
         out.push(DIGITS[usize::from(byte & 15)]);
     }
+}
+
+fn push_hex_word(out: &mut Vec<u8>, bytes: &[u8]) {
+    out.push(b' ');
+    push_hex(out, bytes);
 }
 
 fn push_message(out: &mut Vec<u8>, message: Option<&Bytes44>) {
@@ -76,6 +83,142 @@ fn push_health(out: &mut Vec<u8>, word: &str, health: &Health) {
         Health::Late(mean, worst) => format!("late {} {}", bits(*mean), bits(*worst)),
     };
     push(out, &format!("{word} {text}"));
+}
+
+/// "Each `-` for none; LIST is the fourteen numbers of an `open` line, without
+/// the word, parted by `,`; D decimal."
+fn push_set_up(out: &mut Vec<u8>, answer: &SetUp) {
+    push(out, "setup message ");
+    push_hex(out, answer.message.as_deref().unwrap_or(&[]));
+    push(out, " open ");
+    match &answer.open {
+        Some(open) => push_open(out, open),
+        None => out.push(b'-'),
+    }
+    push(out, " decline ");
+    match answer.diagnosis {
+        Some(diagnosis) => push(out, &diagnosis.to_string()),
+        None => out.push(b'-'),
+    }
+}
+
+fn push_open(out: &mut Vec<u8>, open: &OpenArguments) {
+    let mut numbers = vec![
+        u64::from(open.slot),
+        u64::from(open.own_token),
+        u64::from(open.peer_token),
+        u64::from(open.link),
+        u64::from(open.peer_size),
+        u64::from(open.index),
+    ];
+    for (key, base) in open.keys.iter().zip(open.bases) {
+        numbers.extend([u64::from(*key), base]);
+    }
+    let words: Vec<String> = numbers.iter().map(u64::to_string).collect();
+    push(out, &words.join(","));
+}
+
+/// "`clc none`, or `clc`, the kind, its fields in the table's order [...],
+/// `again` and the HEX written."
+fn push_clc(out: &mut Vec<u8>, read: &Result<Clc, NoMessage>) {
+    let Ok(message) = read else {
+        return push(out, "clc none");
+    };
+    push(out, &format!("clc {}", message.name()));
+    match message {
+        Clc::Proposal(proposal) => {
+            push(out, &format!(" {}", proposal.version));
+            push_hex_word(out, &proposal.peer_id);
+            push_hex_word(out, &proposal.gid);
+            push_hex_word(out, &proposal.mac);
+            push(out, &format!(" {}", proposal.offset));
+            push_hex_word(out, &proposal.mask);
+            push(out, &format!(" {}", proposal.mask_length));
+            push(out, &format!(" {}", proposal.prefixes.len()));
+            push_hex_word(out, &prefix_bytes(&proposal.prefixes));
+        }
+        Clc::Accept {
+            first_contact,
+            ends,
+        } => push_ends(out, ends, Some(*first_contact)),
+        Clc::Confirm(ends) => push_ends(out, ends, None),
+        Clc::Decline(decline) => {
+            let out_of_sync = u8::from(decline.out_of_sync);
+            push(out, &format!(" {} {out_of_sync}", decline.version));
+            push_hex_word(out, &decline.peer_id);
+            push(out, &format!(" {}", decline.diagnosis));
+        }
+    }
+    push(out, " again");
+    push_hex_word(out, &message.write().unwrap_or_default());
+}
+
+fn push_ends(out: &mut Vec<u8>, ends: &Ends, first_contact: Option<bool>) {
+    push(out, &format!(" {}", ends.version));
+    if let Some(first_contact) = first_contact {
+        push(out, &format!(" {}", u8::from(first_contact)));
+    }
+    push_hex_word(out, &ends.peer_id);
+    push_hex_word(out, &ends.gid);
+    push_hex_word(out, &ends.mac);
+    let numbers = [
+        u64::from(ends.qp),
+        u64::from(ends.key),
+        u64::from(ends.index),
+        u64::from(ends.token),
+        u64::from(ends.code),
+        u64::from(ends.mtu),
+        ends.base,
+        u64::from(ends.psn),
+    ];
+    for number in numbers {
+        push(out, &format!(" {number}"));
+    }
+}
+
+fn prefix_bytes(prefixes: &[Prefix]) -> Vec<u8> {
+    let mut bytes = Vec::new();
+    for prefix in prefixes {
+        bytes.extend(prefix.prefix);
+        bytes.push(prefix.length);
+    }
+    bytes
+}
+
+fn push_settings(out: &mut Vec<u8>, settings: &Settings) {
+    push(out, &format!("settings {}", settings.size));
+    push_hex_word(out, &settings.peer_id);
+    push_hex_word(out, &settings.gid);
+    push_hex_word(out, &settings.mac);
+    push_hex_word(out, &settings.mask);
+    push(
+        out,
+        &format!(" {} {}", settings.mask_length, settings.count),
+    );
+    // Zeros behind are added again on reading.
+    let used = settings
+        .prefixes
+        .iter()
+        .rposition(|prefix| *prefix != Prefix::default());
+    let prefixes = &settings.prefixes[..used.map_or(0, |last| last + 1)];
+    push_hex_word(out, &prefix_bytes(prefixes));
+    let numbers = [
+        u64::from(settings.first_contact),
+        u64::from(settings.qp),
+        u64::from(settings.mtu),
+        u64::from(settings.psn),
+        u64::from(settings.key),
+        settings.base,
+        u64::from(settings.slot),
+        u64::from(settings.own_token),
+        u64::from(settings.link),
+    ];
+    for number in numbers {
+        push(out, &format!(" {number}"));
+    }
+    for (key, base) in settings.peer_keys.iter().zip(settings.peer_bases) {
+        push(out, &format!(" {key} {base}"));
+    }
 }
 
 impl Replay {
@@ -156,6 +299,8 @@ impl Replay {
             }
             Answer::Taken(start) => push(out, &format!("take {start}")),
             Answer::Health(word, health) => push_health(out, word, health),
+            Answer::SetUp(answer) => push_set_up(out, answer),
+            Answer::Clc(read) => push_clc(out, read),
             Answer::Books => {
                 push(out, "books ");
                 push_hex(out, &self.pool.0);
@@ -230,6 +375,15 @@ pub fn print_line(out: &mut Vec<u8>, line: &Line) {
             push_hex(out, &books.0);
         }
         Line::BooksShown => push(out, "books"),
+        Line::Settings { settings } => push_settings(out, settings),
+        Line::Setup { due, bytes } => {
+            push(out, &format!("setup {} ", due.name()));
+            push_hex(out, bytes);
+        }
+        Line::Clc { bytes } => {
+            push(out, "clc ");
+            push_hex(out, bytes);
+        }
         Line::Sample { link, milliseconds } => push(out, &format!("sample {link} {milliseconds}")),
         Line::Health { link } => push(out, &format!("health {link}")),
         Line::Gauge { link, gauge } => push_gauge(out, usize::from(*link), gauge),

@@ -1,6 +1,7 @@
 //! Lines that do not parse, and the longest that do.
 
 use super::Bench;
+use crate::generate::setup;
 
 impl Bench {
     pub(super) fn bad_lines(&mut self) {
@@ -71,6 +72,17 @@ impl Bench {
             b"take -1",
             b"return 1",
             b"pool 1",
+            b"setup none",
+            b"setup none -",
+            b"setup none 0",
+            b"setup none 00G0",
+            b"setup Proposal -",
+            b"setup Decline -",
+            b"setup decline -",
+            b"clc -",
+            b"clc",
+            b"clc 0",
+            b"settings",
             b"health 0",
             b"health 5",
             b"health",
@@ -103,6 +115,17 @@ impl Bench {
             b"group 2 16 32",
         ] {
             self.list.raw(line);
+        }
+        for bytes in [0, 1, 16, 17, 135, 136, 137, 200] {
+            let prefixes = "00".repeat(bytes);
+            let prefixes = if bytes == 0 { "-" } else { &prefixes };
+            let line = format!(
+                "settings 16384 {id} {id}{id} 000000000000 00000000 0 9 {prefixes} 0 0 0 0 0 0 0 0 0{}",
+                " 0".repeat(8),
+                id = "0".repeat(16)
+            );
+            self.list.raw(line.as_bytes());
+            self.list.raw(b"setup none -");
         }
         self.list.table();
     }
@@ -165,6 +188,20 @@ impl Bench {
             .iter()
             .map(|text| text.to_string())
             .collect()
+        } else if !word.contains('=') {
+            [
+                "",
+                "None",
+                "proposal",
+                "Proposal ",
+                "Decline",
+                "1",
+                "-",
+                "Accept",
+                "Confirm",
+            ]
+            .map(str::to_string)
+            .to_vec()
         } else {
             let (most, given) = number_word(word);
             // The largest out buffer is kept for the long lines.
@@ -193,7 +230,8 @@ impl Bench {
         all
     }
 
-    /// Hex of 70,000 bytes and one more, the largest out buffer and `memory`.
+    /// Hex of 70,000 bytes and one more, the largest out buffer, `memory` and
+    /// Proposal.
     pub(super) fn long_lines(&mut self) {
         if !self.long_lines {
             return;
@@ -214,12 +252,13 @@ impl Bench {
         self.list.raw(&very_long[..1_000]);
         let zeros = [&b"close "[..], &vec![b'0'; 2_000][..], &b"1"[..]].concat();
         self.list.raw(&zeros);
+        setup::longest(&mut self.list, &mut self.random);
     }
 }
 
 /// A good line of each kind: words with their largest value and a value that is
 /// good here, HEX, or HEX of just so many bytes.
-const FORMS: [&str; 25] = [
+const FORMS: [&str; 28] = [
     "group 4294967295=2 4294967295=16 1048704=32",
     "group 4294967295=2 4294967295=16 1048704=32 300=2",
     "open 4294967295=2 4294967295=7 4294967295=8 255=1 4294967295=16",
@@ -247,10 +286,16 @@ const FORMS: [&str; 25] = [
     "sample 255=1 4294967295=60000",
     "health 4=1",
     "gauge 4=1 HEX*8 HEX*8 255=3 1=0",
+    "settings 4294967295=16384 HEX*8 HEX*16 HEX*6 HEX*4 255=24 255=0 HEX 1=1 4294967295=64 255=5 \
+     4294967295=1 4294967295=2 18446744073709551615=3 255=1 4294967295=5 255=1 4294967295=0 \
+     18446744073709551615=0 4294967295=0 18446744073709551615=0 4294967295=0 \
+     18446744073709551615=0 4294967295=0 18446744073709551615=0",
+    "setup none HEX",
+    "clc HEX",
 ];
 
 /// The largest value and the good value of a number's word.
-fn number_word(word: &str) -> (u64, u64) {
+fn number_word(word: &str) -> (u128, u128) {
     let (most, given) = word.split_once('=').expect("a number's word");
     (most.parse().unwrap_or(0), given.parse().unwrap_or(0))
 }

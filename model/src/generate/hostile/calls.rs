@@ -111,7 +111,7 @@ impl Bench {
 
     fn free_placing(&mut self, c: &Connection, n: i64) -> (i64, i64) {
         let offset = i64::from(c.peer_producer.offset);
-        let most = c.peer_window(n).min(n - offset).max(0);
+        let most = c.peer_window(n).min(n - offset).clamp(0, 300);
         if most == 0 || self.random.chance(1, 6) {
             let anywhere = *self.random.pick(&[0, 3, 4, n - 1, n, n + 1, 0xFFFF_FFFF]);
             (anywhere, 0)

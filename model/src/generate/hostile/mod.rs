@@ -13,7 +13,7 @@ mod pairs;
 mod records;
 mod tables;
 
-use super::{gauges, pool, List};
+use super::{gauges, pool, setup, List};
 use crate::random::Random;
 use crate::smcr::*;
 
@@ -57,6 +57,7 @@ pub fn list(seed: u64, count: Option<usize>) -> Vec<u8> {
         Bench::random_marks,
         |bench| pool::hostile(&mut bench.list, &mut bench.random),
         |bench| gauges::hostile(&mut bench.list, &mut bench.random),
+        |bench| setup::hostile(&mut bench.list, &mut bench.random),
         Bench::bad_lines,
         Bench::long_lines,
     ];

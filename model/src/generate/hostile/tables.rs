@@ -135,6 +135,9 @@ impl Bench {
             self.list.free(slot);
             self.hear(&resting_message(own));
         }
+        // A token that a closed slot holds bars no open.
+        let held = self.list.replay.group.table[0].own_token;
+        self.list.open(2, held, 1, 1, 8);
         self.list.table();
         // A record beyond S: everything is refused with 1.
         let records = elements as usize + 1;

@@ -1,0 +1,12 @@
+-- `clc::nothing` meets its contract. Assumes nothing.
+use Rattle.clc.specs.Places.{noMessage}
+use mathlib.Core.Path.{refl}
+use Rattle.clc.proofs.nothing.Statement.{statement}
+use Rattle.clc.proofs.nothing.Tie as tie
+
+returns : tie.Need-returns
+unfolding noMessage
+returns c = refl
+
+pub nothing-spec : {M : Type 1} → statement M
+nothing-spec = tie.close (tie.spec returns)

@@ -1,0 +1,3 @@
+pub mod Clc
+pub mod Codes
+pub mod Places

@@ -1,0 +1,5 @@
+pub mod Known
+pub mod Writing
+pub mod Fits
+pub mod Written
+pub mod RoundTrip
