@@ -180,8 +180,8 @@ fn written(
 ) -> Option<(usize, Range<usize>)> {
     let accepted = matches!(answer, Answer::Word(_));
     match line {
-        Line::Open { slot, .. } if accepted => {
-            Some((side_of(ends, *slot)?, 0..group.size as usize))
+        Line::Open { opening } if accepted => {
+            Some((side_of(ends, opening.slot)?, 0..group.size as usize))
         }
         Line::Place {
             slot,
@@ -245,14 +245,12 @@ fn describe(
             text: format!("link message on link {link}"),
             refused,
         }),
-        (
-            Line::Open {
-                slot, own, peer, ..
-            },
-            _,
-        ) => call(
-            *slot,
-            format!("open: own token {own}, peer token {peer}"),
+        (Line::Open { opening }, _) => call(
+            opening.slot,
+            format!(
+                "open: own token {}, peer token {}",
+                opening.own_token, opening.peer_token
+            ),
             "the element is zeroed, its eye catcher written".to_string(),
         ),
         (Line::Send { slot, bytes, .. }, Answer::Sent(sent)) => call(

@@ -3,7 +3,7 @@
 //! with its diagnosis out. It keeps nothing.
 
 use crate::clc::{Clc, Decline, Ends, Prefix, Proposal, MAX_PREFIXES};
-use crate::smcr::{LINKS, MAX_SIZE};
+use crate::smcr::{Opening, LINKS, MAX_SIZE};
 
 /// The bytes of codes 0 to 5; the others mean nothing. "Actual buffer size value
 /// is (2^(x + 4)) * 1K. [...] Largest size supported by this architecture is
@@ -72,24 +72,11 @@ impl Due {
     }
 }
 
-/// The fourteen arguments of an open.
-#[derive(Clone, Copy, Debug, PartialEq, Eq)]
-pub struct OpenArguments {
-    pub slot: u8,
-    pub own_token: u32,
-    pub peer_token: u32,
-    pub link: u8,
-    pub peer_size: u32,
-    pub index: u8,
-    pub keys: [u32; LINKS],
-    pub bases: [u64; LINKS],
-}
-
 /// What the call answers.
 #[derive(Clone, Debug, Default, PartialEq, Eq)]
 pub struct SetUp {
     pub message: Option<Vec<u8>>,
-    pub open: Option<OpenArguments>,
+    pub open: Option<Opening>,
     pub diagnosis: Option<u32>,
 }
 
@@ -172,7 +159,7 @@ fn ends(settings: &Settings, code: u8) -> Ends {
 /// The arguments for an open, unless the peer's code is to be declined. "The
 /// connection's link decides": key and base heard stand at our link, those of
 /// the settings at the others.
-fn open(settings: &Settings, peer: &Ends) -> Option<OpenArguments> {
+fn open(settings: &Settings, peer: &Ends) -> Option<Opening> {
     let peer_size = bytes_of_code(peer.code).filter(|&bytes| i64::from(bytes) <= MAX_SIZE)?;
     let mut keys = settings.peer_keys;
     let mut bases = settings.peer_bases;
@@ -182,13 +169,13 @@ fn open(settings: &Settings, peer: &Ends) -> Option<OpenArguments> {
             bases[link - 1] = peer.base;
         }
     }
-    Some(OpenArguments {
-        slot: settings.slot,
+    Some(Opening {
+        slot: u32::from(settings.slot),
         own_token: settings.own_token,
         peer_token: peer.token,
         link: settings.link,
         peer_size,
-        index: peer.index,
+        index: u32::from(peer.index),
         keys,
         bases,
     })

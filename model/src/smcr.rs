@@ -89,6 +89,11 @@ pub struct Connection {
     pub link: u8,
     /// N', the peer's element size.
     pub peer_size: u32,
+    /// The peer's element as its card knows it (2026-09): its index, and a key
+    /// and a base for each link.
+    pub index: u8,
+    pub keys: [u32; LINKS],
+    pub bases: [u64; LINKS],
     /// P, the peer's producer as last heard.
     pub peer_producer: Cursor,
     /// C, our consumer.
@@ -147,10 +152,26 @@ impl Connection {
     }
 }
 
+/// 2026-09: "an element whose last byte would pass the top of 64 bits on any
+/// link, or an index outside 1 to 255". The last byte is base + index x N' - 1.
+pub fn element_out_of_reach(index: u32, bases: &[u64; LINKS], peer_size: u32) -> bool {
+    let index_wrong = !(1 <= index && index <= 255);
+    index_wrong
+        || bases
+            .iter()
+            .any(|&base| past_the_top(index, base, peer_size))
+}
+
+/// Whether the last byte of element `index` after a base passes the top.
+pub fn past_the_top(index: u32, base: u64, peer_size: u32) -> bool {
+    let last = i128::from(base) + i128::from(index) * i128::from(peer_size) - 1;
+    last > i128::from(u64::MAX)
+}
+
 /// "An open record is coherent if both tokens are nonzero, link and N' are in
 /// range, all offsets are in range, the distances T to C and C to P are good
 /// and sum to at most D, the distance R to Q is good by D', and the close marks
-/// sent and heard are not both C."
+/// sent and heard are not both C." 2026-09 bars an element out of reach too.
 pub fn coherent(c: &Connection, n: i64) -> bool {
     tokens_nonzero(c)
         && link_in_range(c.link)
@@ -159,6 +180,7 @@ pub fn coherent(c: &Connection, n: i64) -> bool {
         && reading_distances_good(c, n)
         && writing_distance_good(c)
         && !(c.closed_sent && c.closed_heard)
+        && !element_out_of_reach(u32::from(c.index), &c.bases, c.peer_size)
 }
 
 fn tokens_nonzero(c: &Connection) -> bool {
@@ -461,10 +483,13 @@ pub fn free_forbidden(c: &Connection) -> bool {
 // Calls of a connection
 // ---------------------------------------------------------------------------
 
-/// "Each an offset in the peer's element, a start in the bytes and a length."
+/// "Each an offset in the peer's element, a start in the bytes and a length";
+/// 2026-09: "a placing's offset becomes the peer's 32-bit memory key and a 64-bit
+/// address".
 #[derive(Clone, Copy, Debug, PartialEq, Eq)]
 pub struct Placing {
-    pub offset: i64,
+    pub key: u32,
+    pub address: u64,
     pub start: i64,
     pub length: i64,
 }
@@ -659,7 +684,7 @@ fn take_and_announce(c: &mut Connection, length: i64) -> Sent {
         return nothing_offered();
     }
     let taken = c.room().min(length);
-    let placings = placings(c.producer, taken, c.n_peer());
+    let placings = placings(c, taken);
     c.producer = step(c.producer, taken, c.n_peer());
     let left_over = taken < length;
     let told_before = c.blocked;
@@ -687,25 +712,33 @@ fn nothing_offered() -> Sent {
 
 /// "At most two placings [...]: the first from Q's offset to the element's end
 /// at most, the second from 4. Empty placings are not named."
-fn placings(producer: Cursor, taken: i64, peer_size: i64) -> Vec<Placing> {
-    let to_the_end = peer_size - i64::from(producer.offset);
+fn placings(c: &Connection, taken: i64) -> Vec<Placing> {
+    let to_the_end = c.n_peer() - i64::from(c.producer.offset);
     let first = taken.min(to_the_end);
     let second = taken - first;
     let both = [
-        Placing {
-            offset: i64::from(producer.offset),
-            start: 0,
-            length: first,
-        },
-        Placing {
-            offset: FIRST_OFFSET,
-            start: first,
-            length: second,
-        },
+        placing(c, i64::from(c.producer.offset), 0, first),
+        placing(c, FIRST_OFFSET, first, second),
     ];
     both.into_iter()
         .filter(|placing| placing.length > 0)
         .collect()
+}
+
+fn placing(c: &Connection, offset: i64, start: i64, length: i64) -> Placing {
+    Placing {
+        key: c.keys[usize::from(c.link) - 1],
+        address: address(c, offset),
+        start,
+        length,
+    }
+}
+
+/// "Base + (index - 1) x N' + offset"; "the connection's link decides which".
+pub fn address(c: &Connection, offset: i64) -> u64 {
+    let base = i128::from(c.bases[usize::from(c.link) - 1]);
+    let before = (i128::from(c.index) - 1) * i128::from(c.peer_size);
+    (base + before + i128::from(offset)) as u64
 }
 
 // Place, sentence by sentence.
@@ -981,41 +1014,73 @@ pub const TEST_LINK: u8 = 0x07;
 /// The reply bit, in byte 3.
 pub const LLC_REPLY: u8 = 0x80;
 
+/// What open is given.
+#[derive(Clone, Copy, Debug, PartialEq, Eq)]
+pub struct Opening {
+    pub slot: u32,
+    pub own_token: u32,
+    pub peer_token: u32,
+    pub link: u8,
+    pub peer_size: u32,
+    pub index: u32,
+    pub keys: [u32; LINKS],
+    pub bases: [u64; LINKS],
+}
+
+impl Opening {
+    /// The peer's element is the first after base 0 on every link, where an
+    /// address is the offset.
+    pub fn at_base_0(slot: u32, own: u32, peer: u32, link: u8, peer_size: u32) -> Opening {
+        Opening {
+            slot,
+            own_token: own,
+            peer_token: peer,
+            link,
+            peer_size,
+            index: 1,
+            keys: [0; LINKS],
+            bases: [0; LINKS],
+        }
+    }
+
+    /// 12: "a zero token, or N' out of range"; 2026-09: or an element out of
+    /// reach.
+    pub fn barred(&self) -> bool {
+        self.own_token == 0
+            || self.peer_token == 0
+            || !size_in_range(i64::from(self.peer_size))
+            || element_out_of_reach(self.index, &self.bases, self.peer_size)
+    }
+}
+
 impl Group {
-    /// **Open** (slot, own token, peer token, link, N'). Tests 1, 2, 10, 12,
-    /// 13, 6, 11.
-    pub fn open(
-        &mut self,
-        slot: u32,
-        own_token: u32,
-        peer_token: u32,
-        link: u8,
-        peer_size: u32,
-    ) -> Result<(), u8> {
+    /// **Open** (slot, own token, peer token, link, N'; 2026-09: index, and a key
+    /// and base for each link). Tests 1, 2, 10, 12, 13, 6, 11.
+    pub fn open(&mut self, opening: &Opening) -> Result<(), u8> {
         if self.sizes_wrong() {
             return Err(1);
         }
-        if self.slot_outside(slot) {
+        if self.slot_outside(opening.slot) {
             return Err(2);
         }
-        let index = slot as usize - 1;
+        let index = opening.slot as usize - 1;
         if self.table[index].open {
             return Err(10);
         }
-        if own_token == 0 || peer_token == 0 || !size_in_range(i64::from(peer_size)) {
+        if opening.barred() {
             return Err(12);
         }
-        if !link_in_range(link) {
+        if !link_in_range(opening.link) {
             return Err(13);
         }
-        if self.link_down(link) {
+        if self.link_down(opening.link) {
             return Err(6);
         }
-        if self.token_held_elsewhere(own_token, slot) {
+        if self.token_held_elsewhere(opening.own_token, opening.slot) {
             return Err(11);
         }
         self.start_element(index);
-        self.table[index] = new_connection(own_token, peer_token, link, peer_size);
+        self.table[index] = new_connection(opening);
         Ok(())
     }
 
@@ -1086,15 +1151,18 @@ impl Group {
 }
 
 /// "Sets all cursors to offset 4, wrap 0, next sequence 1, last heard 0, marks
-/// off."
-fn new_connection(own_token: u32, peer_token: u32, link: u8, peer_size: u32) -> Connection {
+/// off." An index that is not barred fits a byte.
+fn new_connection(opening: &Opening) -> Connection {
     let start = cursor(FIRST_OFFSET as u32, 0);
     Connection {
         open: true,
-        own_token,
-        peer_token,
-        link,
-        peer_size,
+        own_token: opening.own_token,
+        peer_token: opening.peer_token,
+        link: opening.link,
+        peer_size: opening.peer_size,
+        index: opening.index as u8,
+        keys: opening.keys,
+        bases: opening.bases,
         peer_producer: start,
         consumer: start,
         told: start,

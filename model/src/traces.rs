@@ -15,9 +15,8 @@ pub fn input() -> Vec<u8> {
         text.extend_from_slice(&list);
     };
     part("exhaust 1", exhaust::list(1));
-    for seed in 8..=9 {
-        part(&format!("hostile {seed}"), hostile::list(seed, None));
-    }
+    part("hostile 8", hostile::list(8, None));
+    part("hostile 9, in part", hostile::list(9, Some(HOSTILE)));
     for seed in TRAFFIC {
         let count = if seed % 16 == 5 || seed % 8 == 3 {
             40
@@ -29,6 +28,8 @@ pub fn input() -> Vec<u8> {
     text
 }
 
+/// How far the second hostile list goes.
+const HOSTILE: usize = 5_000;
 /// Seeds of traffic with elements of 8, of 10,000, of 65,540 bytes, and small.
 const TRAFFIC: [u64; 10] = [1, 2, 3, 4, 5, 6, 7, 8, 9, 10];
 

@@ -3,6 +3,9 @@
 
 use model::replay::answer_all;
 
+/// An index, and a key and a base for each link: an address is the offset.
+const AT: &str = "1 0 0 0 0 0 0 0 0";
+
 fn answers(input: &str) -> Vec<String> {
     String::from_utf8(answer_all(input.as_bytes()))
         .unwrap()
@@ -13,7 +16,8 @@ fn answers(input: &str) -> Vec<String> {
 
 #[test]
 fn example() {
-    let input = "group 1 10000 10000\nlink 1 1\nopen 1 5 16909060 1 10000\nshutdown 1\n";
+    let input =
+        "group 1 10000 10000\nlink 1 1\nopen 1 5 16909060 1 10000 1 0 0 0 0 0 0 0 0\nshutdown 1\n";
     let output = "group\nlink\nopen\nshutdown message FE2C0001010203040000000000000004000000000000\
                   00040080000000000000000000000000000000000000\n";
     assert_eq!(answer_all(input.as_bytes()), output.as_bytes());
@@ -32,10 +36,11 @@ fn the_group_before_the_first_group_line() {
     assert_eq!(answers("memory 0 8"), ["memory 0000000000000000"]);
     assert_eq!(answers("memory 0 9"), ["bad line"]);
     assert_eq!(
-        answers("link 1 1\nopen 1 1 1 1 8\nmemory 0 8"),
+        answers(&format!("link 1 1\nopen 1 1 1 1 8 {AT}\nmemory 0 8")),
         ["link", "open", "memory E2D4C3D900000000"]
     );
-    assert_eq!(answers("link 1 1\nopen 2 1 1 1 8"), ["link", "refused 2"]);
+    let beyond = format!("link 1 1\nopen 2 1 1 1 8 {AT}");
+    assert_eq!(answers(&beyond), ["link", "refused 2"]);
 }
 
 #[test]
@@ -72,17 +77,25 @@ fn lines_that_do_not_parse() {
         "group 1 8",
         "group 4294967296 8 8",
         "table 1",
-        "record 0 0 0 0 0 0 0 0 0 0 0 0 0 0 0 0 0 0 0",
-        "record 2 0 0 0 0 0 0 0 0 0 0 0 0 0 0 0 0 0 0",
+        "record 0 0 0 0 0 0 0 0 0 0 0 0 0 0 0 0 0 0 0 0 0 0 0 0 0 0 0 0",
+        "record 2 0 0 0 0 0 0 0 0 0 0 0 0 0 0 0 0 0 0 0 0 0 0 0 0 0 0 0",
         "group 1 8 8 301",
         "group 1 8 8 1 1",
         "group 1 8 8 -",
-        "record 1 0 0 0 0 0 0 0 0 0 0 0 0 0 0 0 0 0 512",
-        "record 1 0 0 0 0 0 0 65536 0 0 0 0 0 0 0 0 0 0 0",
-        "record 1 2 0 0 0 0 0 0 0 0 0 0 0 0 0 0 0 0 0",
-        "record 1 0 0 0 256 0 0 0 0 0 0 0 0 0 0 0 0 0 0",
-        "record 1 0 0 0 0 0 0 0 0 0 0 0 0 0 0 0 0 0",
-        "record 1 0 0 0 0 0 0 0 0 0 0 0 0 0 0 0 0 0 0 0",
+        "record 1 0 0 0 0 0 0 0 0 0 0 0 0 0 0 0 0 0 512 0 0 0 0 0 0 0 0 0",
+        "record 1 0 0 0 0 0 0 65536 0 0 0 0 0 0 0 0 0 0 0 0 0 0 0 0 0 0 0 0",
+        "record 1 2 0 0 0 0 0 0 0 0 0 0 0 0 0 0 0 0 0 0 0 0 0 0 0 0 0 0",
+        "record 1 0 0 0 256 0 0 0 0 0 0 0 0 0 0 0 0 0 0 0 0 0 0 0 0 0 0 0",
+        "record 1 0 0 0 0 0 0 0 0 0 0 0 0 0 0 0 0 0 0",
+        "record 1 0 0 0 0 0 0 0 0 0 0 0 0 0 0 0 0 0 0 0 0 0 0 0 0 0 0",
+        "record 1 0 0 0 0 0 0 0 0 0 0 0 0 0 0 0 0 0 0 0 0 0 0 0 0 0 0 0 0",
+        "record 1 0 0 0 0 0 0 0 0 0 0 0 0 0 0 0 0 0 0 256 0 0 0 0 0 0 0 0",
+        "record 1 0 0 0 0 0 0 0 0 0 0 0 0 0 0 0 0 0 0 0 4294967296 0 0 0 0 0 0 0",
+        "record 1 0 0 0 0 0 0 0 0 0 0 0 0 0 0 0 0 0 0 0 0 18446744073709551616 0 0 0 0 0 0",
+        "open 1 1 1 1 8",
+        "open 1 1 1 1 8 4294967296 0 0 0 0 0 0 0 0",
+        "open 1 1 1 1 8 1 0 18446744073709551616 0 0 0 0 0 0",
+        "open 1 1 1 1 8 1 0 0 0 0 0 0 0",
         "poke 8 00",
         "poke 7 0000",
         "memory 8 1",
@@ -122,8 +135,9 @@ fn lines_that_parse() {
 
 #[test]
 fn table() {
-    let record = "1 2 3 4 5 6 7 8 9 10 11 12 13 14 15 16 17 511";
-    let none = "0 0 0 0 0 0 0 0 0 0 0 0 0 0 0 0 0 0";
+    let record = "1 2 3 4 5 6 7 8 9 10 11 12 13 14 15 16 17 511 255 18 19 20 21 22 23 \
+                  4294967295 18446744073709551615";
+    let none = "0 0 0 0 0 0 0 0 0 0 0 0 0 0 0 0 0 0 0 0 0 0 0 0 0 0 0";
     for (group, count) in [
         ("group 16 8 128", 16),
         ("group 0 8 0 16", 16),
@@ -153,7 +167,8 @@ fn table() {
 #[test]
 fn what_calls_print() {
     let lines = answers(
-        "group 1 8 8\nlink 2 1\nopen 1 1 2 2 8\nrecord 1 1 1 2 2 8 7 0 4 0 4 0 7 0 7 0 65535 0 0\n\
+        "group 1 8 8\nlink 2 1\nopen 1 1 2 2 8 1 0 0 0 0 0 0 0 0\n\
+         record 1 1 1 2 2 8 7 0 4 0 4 0 7 0 7 0 65535 0 0 2 1 1000 9 100 3 3000 4 4000\n\
          send 1 010203040506\nsend 1 07\nsend 1 -\nplace 1 7 AB\nread 1 5\n\
          linkmsg 2 072C00000102030405060708090A0B0C0D0E0F10FFFFFFFFFFFFFFFFFFFFFFFFFFFFFFFFFFFFFFFFFFFFFFFF\n\
          linkmsg 2 072C00800102030405060708090A0B0C0D0E0F10000000000000000000000000000000000000000000000000\n\
@@ -162,7 +177,7 @@ fn what_calls_print() {
     assert_eq!(
         lines[4..],
         [
-            "send 4 placings 7,0,1;4,1,3 message FE2CFFFF0000000200000001000000070000000000000004\
+            "send 4 placings 9,115,0,1;9,112,1,3 message FE2CFFFF0000000200000001000000070000000000000004\
              8000000000000000000000000000000000000000",
             "send 0 placings - message -",
             "send 0 placings - message -",
@@ -184,25 +199,25 @@ fn what_close_prints() {
     // C (4,0), P (6,0), C heard: two bytes unread; then none.
     let head = "link 1 1\nrecord 1 1 1 2 1 8";
     let lines = answers(&format!(
-        "{head} 6 0 4 0 4 0 4 0 4 0 7 0 9\nclose 1\ntable\n"
+        "{head} 6 0 4 0 4 0 4 0 4 0 7 0 9 {AT}\nclose 1\ntable\n"
     ));
     assert_eq!(
         lines[2..4],
         [
             "reset message FE2C0007000000020000000000000004000000000000000400A0000000000000000000000000\
              000000000000",
-            "slot 1 1 1 2 1 8 6 0 4 0 4 0 4 0 4 0 8 0 41",
+            "slot 1 1 1 2 1 8 6 0 4 0 4 0 4 0 4 0 8 0 41 1 0 0 0 0 0 0 0 0",
         ]
     );
     let lines = answers(&format!(
-        "{head} 4 0 4 0 4 0 4 0 4 0 7 0 9\nclose 1\ntable\n"
+        "{head} 4 0 4 0 4 0 4 0 4 0 7 0 9 {AT}\nclose 1\ntable\n"
     ));
     assert_eq!(
         lines[2..4],
         [
             "close message FE2C0007000000020000000000000004000000000000000400C0000000000000000000000000\
              000000000000",
-            "slot 1 0 0 0 0 0 0 0 0 0 0 0 0 0 0 0 0 0 0",
+            "slot 1 0 0 0 0 0 0 0 0 0 0 0 0 0 0 0 0 0 0 0 0 0 0 0 0 0 0 0",
         ]
     );
 }
@@ -211,6 +226,6 @@ fn what_close_prints() {
 fn the_plate_example() {
     let folder = concat!(env!("CARGO_MANIFEST_DIR"), "/../examples");
     let input = std::fs::read(format!("{folder}/plate.txt")).unwrap();
-    let output = std::fs::read(format!("{folder}/plate.expected.txt")).unwrap();
-    assert_eq!(answer_all(&input), output);
+    let output = std::fs::read_to_string(format!("{folder}/plate.expected.txt")).unwrap();
+    assert_eq!(String::from_utf8(answer_all(&input)).unwrap(), output);
 }

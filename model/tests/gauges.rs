@@ -99,7 +99,7 @@ fn what_clears_a_gauge() {
     let mut group = group();
     group.sample(2, 7).unwrap();
     let heard = group.gauges[1];
-    group.open(1, 5, 6, 2, 8).unwrap();
+    group.open(&Opening::at_base_0(1, 5, 6, 2, 8)).unwrap();
     assert_eq!(group.gauges[1], heard);
     group.link_change(2, true).unwrap();
     assert_eq!(group.gauges[1], heard);

@@ -62,8 +62,8 @@ fn what_is_read_is_what_was_sent() {
         let size = random.between(8, 30) as u32;
         let mut group = Group::fresh(2, size, 2 * size as usize, 2);
         group.link_change(1, true).unwrap();
-        group.open(1, 1, 2, 1, size).unwrap();
-        group.open(2, 2, 1, 1, size).unwrap();
+        group.open(&Opening::at_base_0(1, 1, 2, 1, size)).unwrap();
+        group.open(&Opening::at_base_0(2, 2, 1, 1, size)).unwrap();
         let mut flights = [VecDeque::new(), VecDeque::new()];
         let mut sent = [Vec::new(), Vec::new()];
         let mut read = [Vec::new(), Vec::new()];
@@ -79,7 +79,7 @@ fn what_is_read_is_what_was_sent() {
                     for placing in &answer.placings {
                         let start = placing.start as usize;
                         let part = bytes[start..start + placing.length as usize].to_vec();
-                        flights[other].push_back(Flight::Write(placing.offset as u32, part));
+                        flights[other].push_back(Flight::Write(placing.address as u32, part));
                     }
                     flights[other].extend(answer.message.map(Flight::Message));
                 }

@@ -33,7 +33,7 @@ fn cells(row: &str, colour: &str, sign: char) -> usize {
 const ONE_END: [&str; 5] = [
     "group 1 24 24",
     "link 1 1",
-    "open 1 11 22 1 24",
+    "open 1 11 22 1 24 1 0 0 0 0 0 0 0 0",
     "place 1 4 6F6C64",
     "abort 1",
 ];
@@ -56,7 +56,7 @@ fn old_bytes_lie_in_a_closed_element() {
 #[test]
 fn an_open_is_seen_to_zero_the_element() {
     let mut lines = ONE_END.to_vec();
-    lines.extend(["free 1", "open 1 33 44 1 24"]);
+    lines.extend(["free 1", "open 1 33 44 1 24 1 0 0 0 0 0 0 0 0"]);
     let row = added(&lines);
     for sign in "old".chars() {
         assert!(!row.contains(&format!(">{sign}</text>")), "{sign}");
@@ -73,8 +73,8 @@ fn a_blocked_writer_is_seen() {
     let mut lines = vec![
         "group 2 24 48",
         "link 1 1",
-        "open 1 11 22 1 24",
-        "open 2 22 11 1 24",
+        "open 1 11 22 1 24 1 0 0 0 0 0 0 0 0",
+        "open 2 22 11 1 24 1 0 0 0 0 0 0 0 0",
         "send 1 4142",
     ];
     let row = added(&lines);
@@ -92,8 +92,8 @@ fn one_end_or_two() {
     let two = drawn(&[
         "group 2 24 48",
         "link 1 1",
-        "open 2 5 6 1 24",
-        "open 1 6 5 1 24",
+        "open 2 5 6 1 24 1 0 0 0 0 0 0 0 0",
+        "open 1 6 5 1 24 1 0 0 0 0 0 0 0 0",
     ]);
     assert!(two.contains(">slot 1</text>") && two.contains(">slot 2</text>"));
     assert!(!two.contains(">the peer</text>"));

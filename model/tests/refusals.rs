@@ -9,12 +9,15 @@ fn last(input: &str) -> String {
 }
 
 /// Two elements of 16 bytes, link 1 active, slot 1 open: all cursors (4,0).
-const START: &str = "group 2 16 32\nlink 1 1\nopen 1 5 6 1 16\n";
+const START: &str = "group 2 16 32\nlink 1 1\nopen 1 5 6 1 16 1 0 0 0 0 0 0 0 0\n";
+
+/// An index, and a key and a base for each link: an address is the offset.
+const AT: &str = "1 0 0 0 0 0 0 0 0";
 
 /// A record of slot 1 with the given marks; P (10,0), C (8,0), T (6,0), Q and R
 /// (4,0).
 fn marked(marks: u16) -> String {
-    format!("{START}record 1 1 5 6 1 16 10 0 8 0 6 0 4 0 4 0 1 0 {marks}\n")
+    format!("{START}record 1 1 5 6 1 16 10 0 8 0 6 0 4 0 4 0 1 0 {marks} {AT}\n")
 }
 
 /// A message to slot 1 in hex.
@@ -59,18 +62,23 @@ fn number_1() {
         }
         assert_eq!(last(&format!("group {group}\nread 1 0")), "refused 1 out -");
         assert_eq!(last(&format!("group {group}\nhear 00")), "refused 1");
-        assert_eq!(last(&format!("group {group}\nopen 0 0 0 0 0")), "refused 1");
+        assert_eq!(
+            last(&format!("group {group}\nopen 0 0 0 0 0 {AT}")),
+            "refused 1"
+        );
         assert_eq!(last(&format!("group {group}\nlink 4 1")), "link");
         assert_eq!(last(&format!("group {group}\nlinkmsg 1 00")), "refused 6");
     }
     assert_eq!(
-        last("group 16 65540 1048640\nlink 1 1\nopen 16 1 1 1 8"),
+        last(&format!(
+            "group 16 65540 1048640\nlink 1 1\nopen 16 1 1 1 8 {AT}"
+        )),
         "open"
     );
     // 2026-06: up to 255, and the table may be named.
     for group in ["17 16 272", "255 4112 1048560", "255 8 2040 255"] {
         let slot = group.split(' ').next().unwrap();
-        let open = format!("group {group}\nlink 1 1\nopen {slot} 1 1 1 8");
+        let open = format!("group {group}\nlink 1 1\nopen {slot} 1 1 1 8 {AT}");
         assert_eq!(last(&open), "open");
         let closed = last(&format!("{open}\nclose {slot}"));
         assert!(closed.starts_with("close message FE2C0001"));
@@ -83,10 +91,10 @@ fn number_2() {
         assert_eq!(last(&format!("{START}send {slot} 00")), "refused 2");
         assert_eq!(last(&format!("{START}free {slot}")), "refused 2");
     }
-    assert_eq!(last(&format!("{START}open 3 7 8 1 16")), "refused 2");
-    assert_eq!(last(&format!("{START}open 2 7 8 1 16")), "open");
+    assert_eq!(last(&format!("{START}open 3 7 8 1 16 {AT}")), "refused 2");
+    assert_eq!(last(&format!("{START}open 2 7 8 1 16 {AT}")), "open");
     // Closed by its mark, whatever else it holds.
-    let junk = "record 2 0 7 8 1 16 10 0 8 0 6 0 4 0 4 0 1 0 32\n";
+    let junk = "record 2 0 7 8 1 16 10 0 8 0 6 0 4 0 4 0 1 0 32 1 0 0 0 0 0 0 0 0\n";
     assert_eq!(last(&format!("{START}{junk}free 2")), "refused 2");
 }
 
@@ -112,7 +120,7 @@ fn number_3() {
         "5 6 1 16 10 0 8 0 6 0 4 1 16 0",
     ];
     for record in broken {
-        let start = format!("{START}record 1 1 {record} 1 0 0\n");
+        let start = format!("{START}record 1 1 {record} 1 0 0 {AT}\n");
         assert_eq!(last(&format!("{start}send 1 00")), "refused 3", "{record}");
         assert_eq!(last(&format!("{start}free 1")), "refused 3", "{record}");
     }
@@ -120,7 +128,7 @@ fn number_3() {
     // The same cursors, coherent: T to C 2, C to P 2; a full turn is coherent.
     assert!(last(&format!("{}close 1", marked(0))).starts_with("reset message FE2C"));
     assert!(last(&format!("{START}close 1")).starts_with("close message FE2C"));
-    let full = "record 1 1 5 6 1 16 6 1 6 0 6 0 4 1 4 0 1 0 0\n";
+    let full = "record 1 1 5 6 1 16 6 1 6 0 6 0 4 1 4 0 1 0 0 1 0 0 0 0 0 0 0 0\n";
     assert_eq!(
         last(&format!("{START}{full}send 1 -")),
         "send 0 placings - message -"
@@ -149,7 +157,7 @@ fn numbers_4_and_5() {
     // 4 comes before 5, 5 before 3.
     let both = unknown.replacen("2C", "2D", 1);
     assert_eq!(last(&format!("{}hear {both}", marked(0))), "refused 4");
-    let zero_held = "record 1 1 0 6 1 16 10 0 8 0 6 0 4 0 4 0 1 0 0\n";
+    let zero_held = "record 1 1 0 6 1 16 10 0 8 0 6 0 4 0 4 0 1 0 0 1 0 0 0 0 0 0 0 0\n";
     assert_eq!(last(&format!("{START}{zero_held}hear {zero}")), "refused 5");
 }
 
@@ -162,7 +170,7 @@ fn number_6_and_link_messages() {
         last(&format!("{START}link 1 0\nread 1 1")),
         "refused 6 out A5"
     );
-    assert_eq!(last(&format!("{START}open 2 7 8 2 16")), "refused 6");
+    assert_eq!(last(&format!("{START}open 2 7 8 2 16 {AT}")), "refused 6");
     assert_eq!(last(&format!("{START}linkmsg 2 00")), "refused 6");
     assert_eq!(last(&format!("{START}linkmsg 5 00")), "refused 13");
     let rest = "0".repeat(84);
@@ -263,7 +271,7 @@ fn number_8() {
 fn number_16() {
     // The last number heard and the one in the message; T (6,0), P (10,0).
     let heard = |last: u16, marks: u16| {
-        format!("{START}record 1 1 5 6 1 16 10 0 8 0 6 0 4 0 4 0 1 {last} {marks}\n")
+        format!("{START}record 1 1 5 6 1 16 10 0 8 0 6 0 4 0 4 0 1 {last} {marks} {AT}\n")
     };
     let hear = |sequence: u16, producer: (u32, u16), flags: u16| {
         let one = message(producer, (4, 0), flags);
@@ -381,7 +389,48 @@ fn numbers_of_open() {
         ("2 6 9 1 65540", "open"),
         ("2 6 9 1 8", "open"),
     ] {
-        assert_eq!(last(&format!("{START}open {open}")), answer, "{open}");
+        assert_eq!(last(&format!("{START}open {open} {AT}")), answer, "{open}");
+    }
+}
+
+#[test]
+fn elements_out_of_reach() {
+    // 2026-09. N' is 16; with index 255 the last byte is base + 4,079.
+    let top = u64::MAX - 4_079;
+    for (index, bases, answer) in [
+        (1, [0; 4], "open"),
+        (0, [0; 4], "refused 12"),
+        (255, [0; 4], "open"),
+        (256, [0; 4], "refused 12"),
+        (257, [0; 4], "refused 12"),
+        (255, [top, top, top, top], "open"),
+        (255, [top + 1, 0, 0, 0], "refused 12"),
+        (255, [0, top + 1, 0, 0], "refused 12"),
+        (255, [0, 0, 0, top + 1], "refused 12"),
+        (1, [u64::MAX - 15, 0, 0, u64::MAX - 15], "open"),
+        (1, [0, 0, u64::MAX - 14, 0], "refused 12"),
+        (1, [u64::MAX, 0, 0, 0], "refused 12"),
+    ] {
+        let at = format!(
+            "{index} 1 {} 2 {} 3 {} 4 {}",
+            bases[0], bases[1], bases[2], bases[3]
+        );
+        let open = last(&format!("{START}open 2 7 8 1 16 {at}"));
+        assert_eq!(open, answer, "{at}");
+        // 12 comes before 13.
+        if answer != "open" {
+            assert_eq!(last(&format!("{START}open 2 7 8 9 16 {at}")), "refused 12");
+        }
+        if index < 256 {
+            let record = format!("record 1 1 5 6 1 16 10 0 8 0 6 0 4 0 4 0 1 0 0 {at}\n");
+            let send = last(&format!("{START}{record}send 1 0102"));
+            if answer == "open" {
+                let address = bases[0] + (index as u64 - 1) * 16 + 4;
+                assert!(send.starts_with(&format!("send 2 placings 1,{address},0,2 message")));
+            } else {
+                assert_eq!(send, "refused 3", "{at}");
+            }
+        }
     }
 }
 
@@ -389,17 +438,17 @@ fn numbers_of_open() {
 fn order_of_slot_calls() {
     // Incoherent and its link down: 3. Link down and forbidden: 6. Forbidden and
     // not free: 7.
-    let broken = "record 1 1 0 6 2 16 10 0 8 0 6 0 4 0 4 0 1 0 32\n";
+    let broken = "record 1 1 0 6 2 16 10 0 8 0 6 0 4 0 4 0 1 0 32 1 0 0 0 0 0 0 0 0\n";
     assert_eq!(last(&format!("{START}{broken}place 1 3 00")), "refused 3");
-    let down = "record 1 1 5 6 2 16 10 0 8 0 6 0 4 0 4 0 1 0 32\n";
+    let down = "record 1 1 5 6 2 16 10 0 8 0 6 0 4 0 4 0 1 0 32 1 0 0 0 0 0 0 0 0\n";
     assert_eq!(last(&format!("{START}{down}place 1 3 00")), "refused 6");
-    let forbidden = "record 1 1 5 6 1 16 10 0 8 0 6 0 4 0 4 0 1 0 32\n";
+    let forbidden = "record 1 1 5 6 1 16 10 0 8 0 6 0 4 0 4 0 1 0 32 1 0 0 0 0 0 0 0 0\n";
     assert_eq!(
         last(&format!("{START}{forbidden}place 1 3 00")),
         "refused 7"
     );
     // Hear gives no 7, and 6 comes before 8.
     let hear = format!("hear {}", message((0, 0), (0, 0), 0));
-    let down = "record 1 1 5 6 2 16 10 0 8 0 6 0 4 0 4 0 1 0 0\n";
+    let down = "record 1 1 5 6 2 16 10 0 8 0 6 0 4 0 4 0 1 0 0 1 0 0 0 0 0 0 0 0\n";
     assert_eq!(last(&format!("{START}{down}{hear}")), "refused 6");
 }

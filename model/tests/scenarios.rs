@@ -11,8 +11,10 @@ const TOKEN_B: u32 = 0x0102_0304;
 fn hosts() -> Group {
     let mut group = Group::fresh(2, 10_000, 20_000, 2);
     group.link_change(1, true).unwrap();
-    group.open(1, TOKEN_A, TOKEN_B, 1, 10_000).unwrap();
-    group.open(2, TOKEN_B, TOKEN_A, 1, 10_000).unwrap();
+    for (slot, own, peer) in [(1, TOKEN_A, TOKEN_B), (2, TOKEN_B, TOKEN_A)] {
+        let opening = Opening::at_base_0(slot, own, peer, 1, 10_000);
+        group.open(&opening).unwrap();
+    }
     group
 }
 
@@ -22,16 +24,18 @@ fn write(group: &mut Group, from: u32, to: u32, bytes: &[u8]) -> (Sent, Message)
     for placing in &sent.placings {
         let start = placing.start as usize;
         let part = &bytes[start..start + placing.length as usize];
-        group.place(to, placing.offset as u32, part).unwrap();
+        group.place(to, placing.address as u32, part).unwrap();
     }
     let message = Message::read(&sent.message.expect("a message")).unwrap();
     (sent, message)
 }
 
+/// First and last offset of each placing: at base 0 they are addresses.
 fn ranges(sent: &Sent) -> Vec<(i64, i64)> {
     sent.placings
         .iter()
-        .map(|placing| (placing.offset, placing.offset + placing.length - 1))
+        .map(|placing| (placing.address as i64, placing.length))
+        .map(|(first, length)| (first, first + length - 1))
         .collect()
 }
 

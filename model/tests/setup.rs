@@ -4,6 +4,7 @@ use model::clc::{Clc, Decline, Ends, Prefix, Proposal};
 use model::random::Random;
 use model::replay::answer_all;
 use model::setup::*;
+use model::smcr::Opening;
 
 fn answers(input: &str) -> Vec<String> {
     String::from_utf8(answer_all(input.as_bytes()))
@@ -304,13 +305,13 @@ fn the_exchange() {
         let at_server = set_up(&s, Due::Confirm, &confirm).unwrap();
         assert_eq!(at_server.message, None);
         for (open, us, peer) in [(at_client.open, c, s), (at_server.open, s, c)] {
-            let mut expected = OpenArguments {
-                slot: us.slot,
+            let mut expected = Opening {
+                slot: u32::from(us.slot),
                 own_token: us.own_token,
                 peer_token: peer.own_token,
                 link: us.link,
                 peer_size: peer.size,
-                index: peer.slot,
+                index: u32::from(peer.slot),
                 keys: us.peer_keys,
                 bases: us.peer_bases,
             };

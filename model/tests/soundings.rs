@@ -9,7 +9,8 @@ const N: i64 = 10_000;
 fn group(n: u32, peer_size: u32) -> Group {
     let mut group = Group::fresh(1, n, n as usize, 1);
     group.link_change(1, true).unwrap();
-    group.open(1, 5, 0x0102_0304, 1, peer_size).unwrap();
+    let opening = Opening::at_base_0(1, 5, 0x0102_0304, 1, peer_size);
+    group.open(&opening).unwrap();
     group
 }
 
@@ -77,19 +78,22 @@ fn thousand_bytes_leave_room_for_8996() {
     assert_eq!(group.send(1, &[7; 9_000]).unwrap().taken, 8_996);
 }
 
+/// Key, address, start and length of each placing.
+fn placings(sent: &Sent) -> Vec<(u32, u64, i64, i64)> {
+    sent.placings
+        .iter()
+        .map(|placing| (placing.key, placing.address, placing.start, placing.length))
+        .collect()
+}
+
 #[test]
 fn whole_element_from_1004() {
     let mut group = group(10_000, 10_000);
     group.table[0].producer = cursor(1004, 0);
     group.table[0].peer_consumer = cursor(1004, 0);
     let sent = group.send(1, &[7; 9_996]).unwrap();
-    let placings: Vec<(i64, i64, i64)> = sent
-        .placings
-        .iter()
-        .map(|placing| (placing.offset, placing.start, placing.length))
-        .collect();
     assert_eq!(sent.taken, 9_996);
-    assert_eq!(placings, [(1004, 0, 8_996), (4, 8_996, 1_000)]);
+    assert_eq!(placings(&sent), [(0, 1004, 0, 8_996), (0, 4, 8_996, 1_000)]);
     assert_eq!(group.table[0].producer, cursor(1004, 1));
     assert_eq!(group.table[0].room(), 0);
 }
@@ -145,24 +149,40 @@ fn six_bytes_into_an_element_of_eight() {
     assert_eq!(group.table[0].room(), 4);
     let sent = group.send(1, &[1, 2, 3, 4, 5, 6]).unwrap();
     assert_eq!(sent.taken, 4);
-    assert_eq!(
-        sent.placings,
-        [
-            Placing {
-                offset: 7,
-                start: 0,
-                length: 1
-            },
-            Placing {
-                offset: 4,
-                start: 1,
-                length: 3
-            }
-        ]
-    );
+    assert_eq!(placings(&sent), [(0, 7, 0, 1), (0, 4, 1, 3)]);
     assert_eq!(group.table[0].producer, cursor(7, 1));
     assert!(group.table[0].blocked);
     assert!(fields(&sent.message.unwrap()).blocked);
+}
+
+#[test]
+fn addresses_by_link() {
+    // 2026-09: base + (index - 1) x N' + offset, key and base by the connection's link.
+    for (link, index, base, key) in [
+        (1, 1, 0, 0),
+        (2, 3, 0x0001_0000_0000, 7),
+        (3, 255, 4_096, u32::MAX),
+        (4, 255, u64::MAX - 255 * 8 + 1, 0x0A0B_0C0D),
+    ] {
+        let mut group = group(10_000, 8);
+        group.link_change(link, true).unwrap();
+        group.table[0].link = link;
+        group.table[0].index = index;
+        group.table[0].keys = [1; 4];
+        group.table[0].keys[usize::from(link) - 1] = key;
+        group.table[0].bases[usize::from(link) - 1] = base;
+        group.table[0].producer = cursor(7, 0);
+        group.table[0].peer_consumer = cursor(7, 0);
+        let sent = group.send(1, &[1, 2, 3, 4, 5, 6]).unwrap();
+        let first = base + (u64::from(index) - 1) * 8 + 7;
+        assert_eq!(
+            placings(&sent),
+            [(key, first, 0, 1), (key, first - 3, 1, 3)]
+        );
+        if link == 4 {
+            assert_eq!(first, u64::MAX);
+        }
+    }
 }
 
 /// "The first message of scenario 1, peer token 01020304."

@@ -2,9 +2,9 @@
 ghost use Prim.Native.Nat.{_≤_};
 use calls::Request;
 use closing::State;
+use connection::Placing;
+use connection::Placings;
 use connection::Reply;
-use flow::Placing;
-use flow::Placings;
 use gauge::Health;
 use group::Command;
 use management::Management;
@@ -33,11 +33,13 @@ fn with_message(o: &mut [u8; 65536], at: usize, words: &[u8], said: Answered) ->
 }
 
 fn placing(o: &mut [u8; 65536], at: usize, p: Placing) -> usize {
-    let a = output::decimal(o, at, p.offset as u64);
+    let a = output::decimal(o, at, p.key as u64);
     let b = output::byte(o, a, b',');
-    let c = output::decimal(o, b, p.start as u64);
+    let c = output::decimal(o, b, p.address);
     let d = output::byte(o, c, b',');
-    output::decimal(o, d, p.len as u64)
+    let e = output::decimal(o, d, p.start as u64);
+    let f = output::byte(o, e, b',');
+    output::decimal(o, f, p.len as u64)
 }
 
 fn placings(o: &mut [u8; 65536], at: usize, list: Placings) -> usize {

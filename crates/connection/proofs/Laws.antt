@@ -1,25 +1,26 @@
 -- Laws of a connection's record: the facts of a coherent one, what a refusal tells, and what making a message keeps.
 -- Assumes nothing.
-use mathlib.Core.Path.{_≡_, refl}
+use mathlib.Core.Path.{_≡_, refl, sym}
 use mathlib.Core.Bool.{Bool, true, false, _&&_, not, cond}
 use mathlib.Core.List.{List, [], _∷_}
 use mathlib.Core.Logic.{_⊎_, inl, inr}
-use Prim.Native.Nat.{ℕ, zero, suc, _+_, _-_, _≤_, _<_}
+use Prim.Native.Nat.{ℕ, zero, suc, _+_, _-_, _*_, _≤_, _<_}
 use native.Mathlib.Omega.{arith}
 use lib.Dec.{ltb, leb}
 use lib.ListN.{getD}
 use borrow.Author.Needs.{needs}
-use borrow.Author.Tests.{leb-true, ltb-true, not-true, le-leb, lt-ltb}
+use borrow.Author.Tests.{leb-true, leb-false, ltb-true, not-true, le-leb, lt-leb, lt-ltb}
 use Rattle.cursor.specs.Cursor.{inRange, goodB, gapOf}
 use Rattle.cursor.proofs.Laws.{gap-self, gap-adds, good-most}
 use Rattle.cdc.specs.Cdc.{encodeOf}
 use Rattle.closing.specs.declared.Marks.{Marks}
 use Rattle.connection.specs.declared.Opening.{Opening}
 use Rattle.connection.specs.declared.Record.{Record}
+use Rattle.connection.specs.declared.Remote.{Remote}
 use Rattle.connection.specs.declared.Reply.{Reply}
 use Rattle.connection.specs.declared.Reply.the-variants.{Refused}
 use Rattle.connection.specs.declared.Outcome.{Outcome}
-use Rattle.connection.specs.Connection.{leastSize, mostSize, mostLink, startCursor, openedRecord, every, numbersOk, offsetsOk, distancesOk, coherentB, refusalOf, messageOf, noMessage, sequenceAfter, toldIn, usedIn, toldOf, outcomeOf, refusedOf, closedIf, zeroRecord, marksTo}
+use Rattle.connection.specs.Connection.{leastSize, mostSize, mostLink, mostIndex, mostAddress, startCursor, openedRecord, every, lastByte, fitsB, remoteOk, numbersOk, offsetsOk, distancesOk, coherentB, refusalOf, messageOf, noMessage, sequenceAfter, toldIn, usedIn, toldOf, outcomeOf, refusedOf, closedIf, zeroRecord, marksTo}
 
 pub and-left : (a b : Bool) → a && b ≡ true → a ≡ true
 and-left true b e = refl
@@ -43,14 +44,74 @@ every-all [] h = refl
 every-all (b ∷ []) h = h 0
 every-all (b ∷ c ∷ l) h = simp (h 0, every-all (c ∷ l) (λ k. h (suc k)))
 
+-- whether the peer's element fits, as the code asks it
+module _ (N' index base : ℕ) where
+  pub fits-empty : index * N' ≡ 0 → base ≤ mostAddress → true ≡ fitsB N' index base
+  unfolding fitsB
+  fits-empty z b = sym (le-leb (lastByte N' index base) mostAddress (omega arith))
+
+  pub fits-below : 0 < index * N' → index * N' ≤ mostAddress → leb base (mostAddress - (index * N' - 1)) ≡ fitsB N' index base
+  unfolding fitsB
+  fits-below s m = go (leb base (mostAddress - (index * N' - 1))) refl
+    where
+      go : (x : Bool) → leb base (mostAddress - (index * N' - 1)) ≡ x → x ≡ leb (lastByte N' index base) mostAddress
+      go true e =
+          let h = leb-true base (mostAddress - (index * N' - 1)) e in
+          sym (le-leb (lastByte N' index base) mostAddress (omega arith))
+      go false e =
+          let h = leb-false base (mostAddress - (index * N' - 1)) e in
+          sym (lt-leb (lastByte N' index base) mostAddress (omega arith))
+
+  pub fits-facts : fitsB N' index base ≡ true → base + index * N' ≤ mostAddress + 1
+  unfolding fitsB
+  fits-facts e = omega (arith, leb-true (lastByte N' index base) mostAddress e)
+
+-- the facts of a peer's element that a record may have
+pub record Reached (r : Remote) : Type 0 where
+  pub size-least : leastSize ≤ r .size
+  pub size-most : r .size ≤ mostSize
+  pub index-least : 1 ≤ r .index
+  pub index-most : r .index ≤ mostIndex
+  pub fits1 : fitsB (r .size) (r .index) (r .link1 .base) ≡ true
+  pub fits2 : fitsB (r .size) (r .index) (r .link2 .base) ≡ true
+  pub fits3 : fitsB (r .size) (r .index) (r .link3 .base) ≡ true
+  pub fits4 : fitsB (r .size) (r .index) (r .link4 .base) ≡ true
+
+module _ (r : Remote) where
+  abbrev remoteTests : List Bool
+  remoteTests =
+      leb leastSize (r .size)
+      ∷ leb (r .size) mostSize
+      ∷ leb 1 (r .index)
+      ∷ leb (r .index) mostIndex
+      ∷ fitsB (r .size) (r .index) (r .link1 .base)
+      ∷ fitsB (r .size) (r .index) (r .link2 .base)
+      ∷ fitsB (r .size) (r .index) (r .link3 .base)
+      ∷ fitsB (r .size) (r .index) (r .link4 .base)
+      ∷ []
+
+  pub remote-facts : remoteOk r ≡ true → Reached r
+  unfolding remoteOk
+  remote-facts e =
+      let test = holds remoteTests e in
+      record {
+        size-least = leb-true leastSize (r .size) (test 0);
+        size-most = leb-true (r .size) mostSize (test 1);
+        index-least = leb-true 1 (r .index) (test 2);
+        index-most = leb-true (r .index) mostIndex (test 3);
+        fits1 = test 4;
+        fits2 = test 5;
+        fits3 = test 6;
+        fits4 = test 7;
+      }
+
 -- the facts of a coherent record
 pub record Coherent (n : ℕ) (rec : Record) : Type 0 where
   pub own-nonzero : 0 < rec .id .own
   pub peer-nonzero : 0 < rec .id .peer
   pub link-least : 1 ≤ rec .id .link
   pub link-most : rec .id .link ≤ mostLink
-  pub size-least : leastSize ≤ rec .remote .size
-  pub size-most : rec .remote .size ≤ mostSize
+  pub remote-ok : remoteOk (rec .remote) ≡ true
   pub not-both : rec .marks .sent .closed && rec .marks .heard .closed ≡ false
   pub p-range : inRange n (rec .inbound .producer) ≡ true
   pub c-range : inRange n (rec .inbound .consumer) ≡ true
@@ -70,8 +131,7 @@ numberTests rec =
     ∷ ltb 0 (rec .id .peer)
     ∷ leb 1 (rec .id .link)
     ∷ leb (rec .id .link) mostLink
-    ∷ leb leastSize (rec .remote .size)
-    ∷ leb (rec .remote .size) mostSize
+    ∷ remoteOk (rec .remote)
     ∷ not (rec .marks .sent .closed && rec .marks .heard .closed)
     ∷ []
 
@@ -107,9 +167,8 @@ module _ (n : ℕ) (rec : Record) where
         peer-nonzero = ltb-true 0 (rec .id .peer) (number 1);
         link-least = leb-true 1 (rec .id .link) (number 2);
         link-most = leb-true (rec .id .link) mostLink (number 3);
-        size-least = leb-true leastSize (rec .remote .size) (number 4);
-        size-most = leb-true (rec .remote .size) mostSize (number 5);
-        not-both = not-true (rec .marks .sent .closed && rec .marks .heard .closed) (number 6);
+        remote-ok = number 4;
+        not-both = not-true (rec .marks .sent .closed && rec .marks .heard .closed) (number 5);
         p-range = offset 0;
         c-range = offset 1;
         t-range = offset 2;
@@ -129,8 +188,7 @@ module _ (n : ℕ) (rec : Record) where
         lt-ltb 0 (rec .id .peer) (f .peer-nonzero),
         le-leb 1 (rec .id .link) (f .link-least),
         le-leb (rec .id .link) mostLink (f .link-most),
-        le-leb leastSize (rec .remote .size) (f .size-least),
-        le-leb (rec .remote .size) mostSize (f .size-most),
+        f .remote-ok,
         f .not-both,
       )
 
@@ -324,11 +382,12 @@ module _ (n : ℕ) (rec : Record) where
 
 -- the record that open lays down is coherent
 pub opened-coherent : (n : ℕ) (given : Opening) → leastSize ≤ n → 0 < given .own → 0 < given .peer → 1 ≤ given .link
-    → given .link ≤ mostLink → leastSize ≤ given .remote .size → given .remote .size ≤ mostSize → coherentB n (openedRecord given) ≡ true
+    → given .link ≤ mostLink → remoteOk (given .remote) ≡ true → coherentB n (openedRecord given) ≡ true
 unfolding openedRecord inRange
-opened-coherent n given n-least own-some peer-some link-least link-most size-least size-most =
+opened-coherent n given n-least own-some peer-some link-least link-most remote-ok =
+    let remote = remote-facts (given .remote) remote-ok in
     let own-range = lt-ltb 4 n (omega arith) in
-    let remote-range = lt-ltb 4 (given .remote .size) (omega arith) in
+    let remote-range = lt-ltb 4 (given .remote .size) (omega (arith, remote .size-least)) in
     let own-gap = gap-self (n - 4) startCursor in
     let remote-gap = gap-self (given .remote .size - 4) startCursor in
     coherent-from n (openedRecord given)
@@ -337,8 +396,7 @@ opened-coherent n given n-least own-some peer-some link-least link-most size-lea
       peer-nonzero = peer-some;
       link-least = link-least;
       link-most = link-most;
-      size-least = size-least;
-      size-most = size-most;
+      remote-ok = remote-ok;
       not-both = refl;
       p-range = own-range;
       c-range = own-range;

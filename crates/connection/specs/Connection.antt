@@ -1,9 +1,10 @@
 -- Document 01, "The memory and the tables" and "The 44-byte message": a connection's record, coherence, and making a message.
 -- P, C, T are the inbound producer, consumer and told; Q, R the outbound producer and consumer; N' is the remote size. Inbound `last` is
 -- the last sequence number heard, `blocked` and `request` are B and R of the last message heard; outbound `next` is the next sequence
--- number, `blocked` our present B. Of the marks, `abort` is A sent and `first` ours first.
+-- number, `blocked` our present B. Of the marks, `abort` is A sent and `first` ours first. Remote `index` is the place of the peer's
+-- element in its memory, and `link1` to `link4` are that memory's key and base on each link.
 -- Assumes nothing.
-use Prim.Native.Nat.{ℕ, _+_, _%_}
+use Prim.Native.Nat.{ℕ, _+_, _-_, _*_, _%_}
 use mathlib.Core.Bool.{Bool, true, false, _&&_, not, cond}
 use mathlib.Core.List.{List, [], _∷_}
 use lib.Dec.{ltb, leb}
@@ -15,6 +16,7 @@ use Rattle.cdc.specs.Cdc.{encodeOf}
 use Rattle.closing.specs.declared.Side.{Side}
 use Rattle.closing.specs.declared.Marks.{Marks}
 use Rattle.connection.specs.declared.Identity.{Identity}
+use Rattle.connection.specs.declared.RToken.{RToken}
 use Rattle.connection.specs.declared.Remote.{Remote}
 use Rattle.connection.specs.declared.Inbound.{Inbound}
 use Rattle.connection.specs.declared.Outbound.{Outbound}
@@ -36,6 +38,13 @@ mostSize = 65540
 abbrev pub mostLink : ℕ
 mostLink = 4
 
+-- an index is 1 to 255; an address has 64 bits
+abbrev pub mostIndex : ℕ
+mostIndex = 255
+
+abbrev pub mostAddress : ℕ
+mostAddress = 18446744073709551615
+
 -- A record before anything is sent or heard: all cursors at one place, the next sequence number `next`, last heard 0, marks off
 abbrev pub noMarks : Side
 noMarks = record { done = false; closed = false }
@@ -54,8 +63,13 @@ restingRecord id remote at next =
 abbrev pub zeroCursor : Cursor
 zeroCursor = record { offset = 0; wrap = 0 }
 
+abbrev pub zeroToken : RToken
+zeroToken = record { key = 0; base = 0 }
+
 unfoldable pub zeroRecord : Record
-zeroRecord = restingRecord (record { opened = false; own = 0; peer = 0; link = 0 }) (record { size = 0 }) zeroCursor 0
+zeroRecord =
+    restingRecord (record { opened = false; own = 0; peer = 0; link = 0 })
+    (record { size = 0; index = 0; link1 = zeroToken; link2 = zeroToken; link3 = zeroToken; link4 = zeroToken }) zeroCursor 0
 
 -- open sets all cursors to offset 4, wrap 0, next sequence 1, last heard 0, marks off
 abbrev pub startCursor : Cursor
@@ -116,7 +130,33 @@ every [] = true
 every (b ∷ []) = b
 every (b ∷ c ∷ l) = b && every (c ∷ l)
 
--- both tokens are nonzero, link and N' are in range; the close marks sent and heard are not both C
+-- The peer's element, number `index` of its memory, which begins at `base`: its first byte and its last (exact: the index and N' are
+-- above 0, or the record is not coherent)
+abbrev pub firstByte : ℕ → ℕ → ℕ → ℕ
+firstByte N' index base = base + (index - 1) * N'
+
+abbrev pub lastByte : ℕ → ℕ → ℕ → ℕ
+lastByte N' index base = base + index * N' - 1
+
+unfoldable pub fitsB : ℕ → ℕ → ℕ → Bool
+fitsB N' index base = leb (lastByte N' index base) mostAddress
+
+-- N' is in range, the index is 1 to 255, and the element's last byte does not pass the top of 64 bits on any link
+unfoldable pub remoteOk : Remote → Bool
+remoteOk r =
+    let fits = fitsB (r .size) (r .index) in
+    every
+    (leb leastSize (r .size)
+    ∷ leb (r .size) mostSize
+    ∷ leb 1 (r .index)
+    ∷ leb (r .index) mostIndex
+    ∷ fits (r .link1 .base)
+    ∷ fits (r .link2 .base)
+    ∷ fits (r .link3 .base)
+    ∷ fits (r .link4 .base)
+    ∷ [])
+
+-- both tokens are nonzero, the link and what is fixed about the peer are in range; the close marks sent and heard are not both C
 unfoldable pub numbersOk : Record → Bool
 numbersOk rec =
     every
@@ -124,8 +164,7 @@ numbersOk rec =
     ∷ ltb 0 (rec .id .peer)
     ∷ leb 1 (rec .id .link)
     ∷ leb (rec .id .link) mostLink
-    ∷ leb leastSize (rec .remote .size)
-    ∷ leb (rec .remote .size) mostSize
+    ∷ remoteOk (rec .remote)
     ∷ not (rec .marks .sent .closed && rec .marks .heard .closed)
     ∷ [])
 

@@ -2,7 +2,8 @@
 // "The 44-byte message").
 ghost use mathlib.Core.Path.{_≡_};
 ghost use mathlib.Core.Bool.{Bool};
-ghost use Rattle.connection.specs.Connection.{restingRecord, zeroRecord, openedRecord, numbersOk, offsetsOk, distancesOk, coherentB};
+ghost use Rattle.connection.specs.Connection.{restingRecord, zeroRecord, openedRecord, fitsB, remoteOk, numbersOk, offsetsOk};
+ghost use Rattle.connection.specs.Connection.{distancesOk, coherentB};
 ghost use Rattle.connection.specs.Connection.{refusalOf, messageOf, toldIn, usedIn, toldOf, silentOf, outcomeOf, refusedOf, closedIf};
 ghost use Rattle.connection.specs.Connection.{marksTo, effectOf};
 use cdc::Flags;
@@ -11,7 +12,6 @@ use closing::Marks;
 use closing::Side;
 use closing::State;
 use cursor::Cursor;
-use flow::Placings;
 use gauge::Health;
 
 // The bytes of an element, ours or the peer's: at least and at most.
@@ -22,6 +22,12 @@ pub const MOST_SIZE: u32 = 65540;
 // Links are numbered from 1.
 pub const MOST_LINK: u8 = 4;
 
+// An element's place in its memory, counted from 1, is one byte.
+pub const MOST_INDEX: u32 = 255;
+
+// The last address of 64 bits.
+pub const MOST_ADDRESS: u64 = 18446744073709551615;
+
 // Who the connection is: closed or open by its mark, both alert tokens, its link from 1 to 4.
 pub struct Identity {
     pub opened: bool,
@@ -30,9 +36,21 @@ pub struct Identity {
     pub link: u8,
 }
 
-// What is fixed at open about the peer: its element has `size` bytes (N').
+// The peer's memory as one link reaches it (RFC 7609's RToken): its key, and the address of its first byte.
+pub struct RToken {
+    pub key: u32,
+    pub base: u64,
+}
+
+// What is fixed at open about the peer: its element has `size` bytes (N') and is number `index` of its memory; and that memory, link by
+// link.
 pub struct Remote {
     pub size: u32,
+    pub index: u32,
+    pub link1: RToken,
+    pub link2: RToken,
+    pub link3: RToken,
+    pub link4: RToken,
 }
 
 // What comes in, in our own element: P the peer's producer as last heard, C our consumer, T the consumer last told; the last sequence
@@ -68,6 +86,20 @@ pub struct Opening {
     pub peer: u32,
     pub link: u8,
     pub remote: Remote,
+}
+
+// Bytes for the card to write: the peer's memory key and an address, a start in the bytes sent, and a length.
+pub struct Placing {
+    pub key: u32,
+    pub address: u64,
+    pub start: u32,
+    pub len: u32,
+}
+
+pub enum Placings {
+    Nowhere,
+    One(Placing),
+    Two(Placing, Placing),
 }
 
 // What a call's line names, beside the message.
@@ -150,7 +182,15 @@ pub fn zero_record() -> Record
         peer: 0,
         link: 0,
     };
-    let remote = Remote { size: 0 };
+    let nowhere = RToken { key: 0, base: 0 };
+    let remote = Remote {
+        size: 0,
+        index: 0,
+        link1: nowhere,
+        link2: nowhere,
+        link3: nowhere,
+        link4: nowhere,
+    };
     let at = Cursor { offset: 0, wrap: 0 };
     resting_record(id, remote, at, 0)
 }
@@ -170,18 +210,42 @@ pub fn opened_record(given: Opening) -> Record
     resting_record(id, remote, at, 1)
 }
 
+// Whether the peer's element ends at the last address or before, in a memory that begins at `base`.
+fn fits(size: u32, index: u32, base: u64) -> bool
+    ensures { λ r. ⌜ r ≡ fitsB size index base ⌝ }
+{
+    let end = (index as u64) * (size as u64);
+    if end == 0 {
+        return true;
+    }
+    base <= MOST_ADDRESS - (end - 1)
+}
+
+// Whether the peer's element is as a record may have it: its size, its index, and its end on every link.
+pub fn remote_ok(r: Remote) -> bool
+    ensures { λ ok. ⌜ ok ≡ remoteOk r ⌝ }
+{
+    let size = r.size;
+    let index = r.index;
+    let on_1 = fits(size, index, r.link1.base);
+    let on_2 = fits(size, index, r.link2.base);
+    let on_3 = fits(size, index, r.link3.base);
+    let on_4 = fits(size, index, r.link4.base);
+    (LEAST_SIZE <= size)
+        & ((size <= MOST_SIZE)
+            & ((1 <= index) & ((index <= MOST_INDEX) & (on_1 & (on_2 & (on_3 & on_4))))))
+}
+
 fn numbers_ok(rec: Record) -> bool
     ensures { λ r. ⌜ r ≡ numbersOk rec ⌝ }
 {
     let id = rec.id;
-    let size = rec.remote.size;
+    let ok = remote_ok(rec.remote);
     (0 < id.own)
         & ((0 < id.peer)
             & ((1 <= id.link)
                 & ((id.link <= MOST_LINK)
-                    & ((LEAST_SIZE <= size)
-                        & ((size <= MOST_SIZE)
-                            & !(rec.marks.sent.closed & rec.marks.heard.closed))))))
+                    & (ok & !(rec.marks.sent.closed & rec.marks.heard.closed)))))
 }
 
 fn offsets_ok(n: u32, rec: Record) -> bool

@@ -6,10 +6,10 @@ use native.Mathlib.Decide.{decLe}
 use borrow.Author.Tests.{eq-eqb, ne-eqb}
 use Rattle.cursor.specs.declared.Cursor.{Cursor}
 use Rattle.cursor.specs.Cursor.{gapOf}
-use Rattle.flow.specs.declared.Placing.{Placing}
-use Rattle.flow.specs.declared.Placings.{Placings}
-use Rattle.flow.specs.declared.Placings.the-variants.{Nowhere, One, Two}
-use Rattle.flow.specs.Flow.{roomOf, takenOf, firstOf, placingsOf, placingsTotal, allPlaced, windowOf}
+use Rattle.flow.specs.declared.Stretch.{Stretch}
+use Rattle.flow.specs.declared.Stretches.{Stretches}
+use Rattle.flow.specs.declared.Stretches.the-variants.{Nowhere, One, Two}
+use Rattle.flow.specs.Flow.{roomOf, takenOf, firstOf, stretchesOf, stretchesTotal, allPlaced, windowOf}
 
 -- what is taken
 module _ (room len : ℕ) where
@@ -43,8 +43,8 @@ unfolding windowOf roomOf
 window-room n t p = refl
 
 -- placings, by cases
-abbrev pub placing : ℕ → ℕ → ℕ → Placing
-placing o s l = record { offset = o; start = s; len = l }
+abbrev pub stretch : ℕ → ℕ → ℕ → Stretch
+stretch o s l = record { offset = o; start = s; len = l }
 
 module _ (size : ℕ) (q : Cursor) where
   first-all : (n : ℕ) → n ≤ size - q .offset → firstOf size q n ≡ n
@@ -55,44 +55,44 @@ module _ (size : ℕ) (q : Cursor) where
   unfolding firstOf
   first-part n h = omega arith
 
-  pub placings-none : placingsOf size q 0 ≡ Nowhere
-  unfolding placingsOf
-  placings-none = refl
+  pub stretches-none : stretchesOf size q 0 ≡ Nowhere
+  unfolding stretchesOf
+  stretches-none = refl
 
-  pub placings-one : (n : ℕ) → 0 < n → n ≤ size - q .offset → placingsOf size q n ≡ One (placing (q .offset) 0 n)
-  unfolding placingsOf
-  placings-one n l h = simp (first-all n h, ne-eqb n 0 (λ e. omega arith), eq-eqb n n refl)
+  pub stretches-one : (n : ℕ) → 0 < n → n ≤ size - q .offset → stretchesOf size q n ≡ One (stretch (q .offset) 0 n)
+  unfolding stretchesOf
+  stretches-one n l h = simp (first-all n h, ne-eqb n 0 (λ e. omega arith), eq-eqb n n refl)
 
-  pub placings-two : (n : ℕ) → size - q .offset < n
-      → placingsOf size q n ≡ Two (placing (q .offset) 0 (size - q .offset)) (placing 4 (size - q .offset) (n - (size - q .offset)))
-  unfolding placingsOf
-  placings-two n h =
+  pub stretches-two : (n : ℕ) → size - q .offset < n
+      → stretchesOf size q n ≡ Two (stretch (q .offset) 0 (size - q .offset)) (stretch 4 (size - q .offset) (n - (size - q .offset)))
+  unfolding stretchesOf
+  stretches-two n h =
       simp (first-part n (omega arith), ne-eqb n 0 (λ e. omega arith), ne-eqb n (size - q .offset) (λ e. omega arith))
 
   -- what holds in each of the three cases holds of the placings
-  pub placings-by : (n : ℕ) (P : Placings → Type 0) → (n ≡ 0 → P Nowhere)
-      → (0 < n → n ≤ size - q .offset → P (One (placing (q .offset) 0 n)))
-      → (size - q .offset < n → P (Two (placing (q .offset) 0 (size - q .offset)) (placing 4 (size - q .offset) (n - (size - q .offset)))))
-      → P (placingsOf size q n)
-  placings-by n P none one two =
+  pub stretches-by : (n : ℕ) (P : Stretches → Type 0) → (n ≡ 0 → P Nowhere)
+      → (0 < n → n ≤ size - q .offset → P (One (stretch (q .offset) 0 n)))
+      → (size - q .offset < n → P (Two (stretch (q .offset) 0 (size - q .offset)) (stretch 4 (size - q .offset) (n - (size - q .offset)))))
+      → P (stretchesOf size q n)
+  stretches-by n P none one two =
       elim (decLe n 0) [
-        | yes z ↦ let e : n ≡ 0 = omega arith in rw (e, placings-none) (none e)
+        | yes z ↦ let e : n ≡ 0 = omega arith in rw (e, stretches-none) (none e)
         | no z ↦
             elim (decLe n (size - q .offset)) [
-              | yes h ↦ rw (placings-one n (omega arith) h) (one (omega arith) h)
-              | no h ↦ rw (placings-two n (omega arith)) (two (omega arith))
+              | yes h ↦ rw (stretches-one n (omega arith) h) (one (omega arith) h)
+              | no h ↦ rw (stretches-two n (omega arith)) (two (omega arith))
             ]
       ]
 
   -- the lengths sum to n, whatever the cursor
-  pub placings-total : (n : ℕ) → placingsTotal (placingsOf size q n) ≡ n
-  placings-total n =
-      placings-by n (λ (p : Placings). placingsTotal p ≡ n) (λ e. omega arith) (λ l h. refl) (λ h. omega arith)
+  pub stretches-total : (n : ℕ) → stretchesTotal (stretchesOf size q n) ≡ n
+  stretches-total n =
+      stretches-by n (λ (p : Stretches). stretchesTotal p ≡ n) (λ e. omega arith) (λ l h. refl) (λ h. omega arith)
 
   -- from a cursor in range, for at most D bytes, every placing named has bytes and lies in the data, and one follows the other
-  pub placings-placed : (n : ℕ) → 4 ≤ q .offset → q .offset < size → n + 4 ≤ size → allPlaced size (placingsOf size q n)
-  placings-placed n l u m =
-      placings-by n (allPlaced size) (λ e. tt)
+  pub stretches-placed : (n : ℕ) → 4 ≤ q .offset → q .offset < size → n + 4 ≤ size → allPlaced size (stretchesOf size q n)
+  stretches-placed n l u m =
+      stretches-by n (allPlaced size) (λ e. tt)
       (λ s h. record { some = s; low = l; high = omega arith; follows = refl })
       (λ h. (
         record { some = omega arith; low = l; high = omega arith; follows = refl },

@@ -3,20 +3,20 @@
 ghost use mathlib.Core.Path.{_≡_};
 ghost use Prim.Native.Nat.{_-_, _*_, _≤_, _<_};
 ghost use lib.Dec.{ltb, leb};
-ghost use Rattle.flow.specs.Flow.{roomOf, takenOf, firstOf, placingsOf, windowOf, updateDue};
+ghost use Rattle.flow.specs.Flow.{roomOf, takenOf, firstOf, stretchesOf, windowOf, updateDue};
 use cursor::Cursor;
 
-// An offset in the peer's element, a start in the bytes sent, and a length.
-pub struct Placing {
+// A placing, by its offset: an offset in the peer's element, a start in the bytes sent, and a length. Send gives it a key and an address.
+pub struct Stretch {
     pub offset: u32,
     pub start: u32,
     pub len: u32,
 }
 
-pub enum Placings {
+pub enum Stretches {
     Nowhere,
-    One(Placing),
-    Two(Placing, Placing),
+    One(Stretch),
+    Two(Stretch, Stretch),
 }
 
 // Room in an element of `size` bytes, written at q and read up to r.
@@ -51,27 +51,27 @@ fn first_part(size: u32, q: Cursor, n: u32) -> u32
 }
 
 // Where n bytes go, from q on.
-pub fn placings_of(size: u32, q: Cursor, n: u32) -> Placings
-    ensures { λ r. ⌜ r ≡ placingsOf size q n ⌝ }
+pub fn stretches_of(size: u32, q: Cursor, n: u32) -> Stretches
+    ensures { λ r. ⌜ r ≡ stretchesOf size q n ⌝ }
 {
     let f = first_part(size, q, n);
     if n == 0 {
-        return Placings::Nowhere;
+        return Stretches::Nowhere;
     }
-    let one = Placing {
+    let one = Stretch {
         offset: q.offset,
         start: 0,
         len: f,
     };
     if n == f {
-        return Placings::One(one);
+        return Stretches::One(one);
     }
-    let two = Placing {
+    let two = Stretch {
         offset: 4,
         start: f,
         len: n - f,
     };
-    Placings::Two(one, two)
+    Stretches::Two(one, two)
 }
 
 // The peer's window: what it may still write, by what it was told.

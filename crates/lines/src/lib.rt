@@ -3,7 +3,6 @@ ghost use Prim.Native.Nat.{_-_, _≤_};
 use calls::Request;
 use connection::Opening;
 use connection::Record;
-use connection::Remote;
 use gauge::Gauge;
 use group::Command;
 use management::Management;
@@ -255,7 +254,7 @@ fn group_line(buf: &mut [u8; 65536], c: Scan) -> Parsed
     counted(buf, len.scan, s.value, n.value, len.value as usize)
 }
 
-// SLOT OWN PEER LINK SIZE
+// SLOT OWN PEER LINK SIZE, and the rest of what is fixed about the peer
 fn open_line(buf: &mut [u8; 65536], c: Scan) -> Parsed
     ensures { λ r. ⌜ r .scan .left ≤ c .left - 1 ⌝ }
 {
@@ -264,7 +263,8 @@ fn open_line(buf: &mut [u8; 65536], c: Scan) -> Parsed
     let peer = input::number(buf, own.scan, MOST);
     let link = input::number(buf, peer.scan, 255);
     let size = input::number(buf, link.scan, MOST);
-    let remote = Remote { size: size.value };
+    let to = read::remote(buf, size.scan, size.value, MOST);
+    let remote = to.remote;
     let given = Opening {
         own: own.value,
         peer: peer.value,
@@ -272,7 +272,7 @@ fn open_line(buf: &mut [u8; 65536], c: Scan) -> Parsed
         remote: remote,
     };
     let command = Command::Manage(Management::Open(slot.value, given));
-    ended(buf, size.scan, Line::Call(command, 0, 0))
+    ended(buf, to.scan, Line::Call(command, 0, 0))
 }
 
 fn link_line(buf: &mut [u8; 65536], c: Scan) -> Parsed

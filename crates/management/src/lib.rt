@@ -33,13 +33,12 @@ pub enum Management {
     Sample(u8, u32),
 }
 
-// Whether what open is given is refused with 12: a zero token, or N' out of range.
+// Whether what open is given is refused with 12: a zero token, or what is fixed about the peer out of range.
 fn bad_opening(given: Opening) -> bool
     ensures { λ r. ⌜ r ≡ badOpening given ⌝ }
 {
-    let size = given.remote.size;
-    (given.own == 0)
-        | ((given.peer == 0) | ((size < connection::LEAST_SIZE) | (connection::MOST_SIZE < size)))
+    let ok = connection::remote_ok(given.remote);
+    (given.own == 0) | ((given.peer == 0) | !ok)
 }
 
 // The refusal that open gives: 1, 2, 10, 12, 13, 6, 11; 0 for none. `holder` is the slot that holds the own token.

@@ -11,11 +11,11 @@ use native.Mathlib.Omega.{arith}
 use lib.ListN.{length, getElem?, replicate, length-append}
 use Rattle.cursor.specs.Cursor.{inRange, movedOf, stepOf, turnsOf, distanceOf, goodB, gapOf}
 use Rattle.cdc.specs.Cdc.{highByte, lowByte, encodeOf}
-use Rattle.flow.specs.Flow.{roomOf, takenOf, firstOf, placingsOf}
+use Rattle.flow.specs.Flow.{roomOf, takenOf, firstOf, stretchesOf}
 use Rattle.gauge.specs.Gauge.{clearedOf}
 use Rattle.element.specs.Element.{part, elementOf, splice, freshElement}
-use Rattle.connection.specs.Connection.{zeroRecord, numbersOk, offsetsOk, distancesOk, coherentB, refusalOf, messageOf, toldIn, usedIn, toldOf, outcomeOf, refusedOf}
-use Rattle.transmit.specs.Transmit.{sendForbids, nOf, producedOut, producedOf, tellsOf, sentOf, sendOf}
+use Rattle.connection.specs.Connection.{zeroToken, zeroRecord, fitsB, remoteOk, numbersOk, offsetsOk, distancesOk, coherentB, refusalOf, messageOf, toldIn, usedIn, toldOf, outcomeOf, refusedOf}
+use Rattle.transmit.specs.Transmit.{sendForbids, nOf, rtokenOf, placingOf, producedOut, producedOf, tellsOf, sentOf, sendOf}
 use Rattle.table.specs.Table.{sizesB, slotB, recordAt, openB, activeB, gaugeAt, holdsB, lowest, findFrom, withRecord, withLink, linkSet}
 use Rattle.connection.specs.declared.Opening.{Opening}
 use Rattle.connection.specs.Connection.{openedRecord}
@@ -152,7 +152,13 @@ made-by-rules (c ∷ cs) g = one-made (record { answered = refl; left = refl }) 
 
 -- TWO CONNECTIONS. A link is brought up, both slots are opened, the first connection sends two bytes and the second three
 abbrev given : ℕ → ℕ → Opening
-given own peer = record { own = own; peer = peer; link = 1; remote = record { size = 8 } }
+given own peer =
+    record {
+      own = own;
+      peer = peer;
+      link = 1;
+      remote = record { size = 8; index = 1; link1 = zeroToken; link2 = zeroToken; link3 = zeroToken; link4 = zeroToken };
+    }
 
 abbrev opening : List Call
 opening = manage (linkChange 1 true) ∷ manage (openSlot 1 (given 11 21)) ∷ manage (openSlot 2 (given 12 22)) ∷ []
@@ -172,7 +178,7 @@ secondly = opening ++ two ∷ one ∷ []
 
 -- whose each call is, by the groups as the spans begin
 pub owners-are : whose aGroup firstly ≡ the-manager ∷ the-manager ∷ the-manager ∷ connection 1 ∷ connection 2 ∷ []
-unfolding whoseFrom ownerOf inRange movedOf stepOf turnsOf distanceOf goodB gapOf highByte lowByte encodeOf roomOf takenOf firstOf placingsOf part elementOf splice freshElement zeroRecord numbersOk offsetsOk distancesOk coherentB refusalOf messageOf toldIn usedIn toldOf outcomeOf refusedOf sendForbids nOf producedOut producedOf tellsOf sentOf sendOf sizesB slotB recordAt openB activeB holdsB lowest findFrom withRecord withLink linkSet turnOf requestTurn refuses putTurn onDoes openedRecord openRefusal openDoes linkDoes
+unfolding whoseFrom ownerOf inRange movedOf stepOf turnsOf distanceOf goodB gapOf highByte lowByte encodeOf roomOf takenOf firstOf stretchesOf part elementOf splice freshElement zeroRecord fitsB remoteOk numbersOk offsetsOk distancesOk coherentB refusalOf messageOf toldIn usedIn toldOf outcomeOf refusedOf sendForbids nOf rtokenOf placingOf producedOut producedOf tellsOf sentOf sendOf sizesB slotB recordAt openB activeB holdsB lowest findFrom withRecord withLink linkSet turnOf requestTurn refuses putTurn onDoes openedRecord openRefusal openDoes linkDoes
 owners-are = refl
 
 pub sends-swapped : AnotherOrder aGroup firstly secondly
@@ -184,14 +190,14 @@ sends-swapped =
 
 -- what is said in each order: every call is accepted, and each send takes its own bytes
 abbrev sends : ℕ → Says
-sends n = sent n (record { offset = 4; start = 0; len = n } ∷ [])
+sends n = sent n (record { key = 0; address = 4; start = 0; len = n } ∷ [])
 
 pub said-first : map (λ (a : Answer). a .says) (answers aGroup firstly) ≡ accepted ∷ accepted ∷ accepted ∷ sends 2 ∷ sends 3 ∷ []
-unfolding answers inRange movedOf stepOf turnsOf distanceOf goodB gapOf highByte lowByte encodeOf roomOf takenOf firstOf placingsOf part elementOf splice freshElement zeroRecord numbersOk offsetsOk distancesOk coherentB refusalOf messageOf toldIn usedIn toldOf outcomeOf refusedOf sendForbids nOf producedOut producedOf tellsOf sentOf sendOf sizesB slotB recordAt openB activeB holdsB lowest findFrom withRecord withLink linkSet turnOf requestTurn refuses putTurn onDoes openedRecord openRefusal openDoes linkDoes
+unfolding answers inRange movedOf stepOf turnsOf distanceOf goodB gapOf highByte lowByte encodeOf roomOf takenOf firstOf stretchesOf part elementOf splice freshElement zeroRecord fitsB remoteOk numbersOk offsetsOk distancesOk coherentB refusalOf messageOf toldIn usedIn toldOf outcomeOf refusedOf sendForbids nOf rtokenOf placingOf producedOut producedOf tellsOf sentOf sendOf sizesB slotB recordAt openB activeB holdsB lowest findFrom withRecord withLink linkSet turnOf requestTurn refuses putTurn onDoes openedRecord openRefusal openDoes linkDoes
 said-first = refl
 
 pub said-second : map (λ (a : Answer). a .says) (answers aGroup secondly) ≡ accepted ∷ accepted ∷ accepted ∷ sends 3 ∷ sends 2 ∷ []
-unfolding answers inRange movedOf stepOf turnsOf distanceOf goodB gapOf highByte lowByte encodeOf roomOf takenOf firstOf placingsOf part elementOf splice freshElement zeroRecord numbersOk offsetsOk distancesOk coherentB refusalOf messageOf toldIn usedIn toldOf outcomeOf refusedOf sendForbids nOf producedOut producedOf tellsOf sentOf sendOf sizesB slotB recordAt openB activeB holdsB lowest findFrom withRecord withLink linkSet turnOf requestTurn refuses putTurn onDoes openedRecord openRefusal openDoes linkDoes
+unfolding answers inRange movedOf stepOf turnsOf distanceOf goodB gapOf highByte lowByte encodeOf roomOf takenOf firstOf stretchesOf part elementOf splice freshElement zeroRecord fitsB remoteOk numbersOk offsetsOk distancesOk coherentB refusalOf messageOf toldIn usedIn toldOf outcomeOf refusedOf sendForbids nOf rtokenOf placingOf producedOut producedOf tellsOf sentOf sendOf sizesB slotB recordAt openB activeB holdsB lowest findFrom withRecord withLink linkSet turnOf requestTurn refuses putTurn onDoes openedRecord openRefusal openDoes linkDoes
 said-second = refl
 
 -- sentence 3, of these two lists

@@ -1,5 +1,6 @@
 // The tables as the answer of a `table` line: a line for each slot, the links, and a line for each gauge.
 ghost use Prim.Native.Nat.{_≤_};
+use connection::RToken;
 use connection::Record;
 use cursor::Cursor;
 use stream::output;
@@ -59,6 +60,26 @@ fn cursors(o: &mut [u8; 65536], at: usize, rec: Record) -> usize {
     cursor(o, e, r)
 }
 
+// KEY BASE
+fn token(o: &mut [u8; 65536], at: usize, t: RToken) -> usize {
+    let a = output::field(o, at, t.key as u64);
+    output::field(o, a, t.base)
+}
+
+// INDEX KEY1 BASE1 KEY2 BASE2 KEY3 BASE3 KEY4 BASE4
+fn remote(o: &mut [u8; 65536], at: usize, rec: Record) -> usize {
+    let r = rec.remote;
+    let one = r.link1;
+    let two = r.link2;
+    let three = r.link3;
+    let four = r.link4;
+    let a = output::field(o, at, r.index as u64);
+    let b = token(o, a, one);
+    let c = token(o, b, two);
+    let d = token(o, c, three);
+    token(o, d, four)
+}
+
 // A slot's line, as `record` has it, but for the first word.
 fn slot(o: &mut [u8; 65536], at: usize, k: u64, rec: Record) -> usize {
     let a = output::text(o, at, b"slot");
@@ -68,7 +89,8 @@ fn slot(o: &mut [u8; 65536], at: usize, k: u64, rec: Record) -> usize {
     let f = output::field(o, e, rec.outbound.next as u64);
     let g = output::field(o, f, rec.inbound.last as u64);
     let h = output::field(o, g, marks(rec));
-    output::byte(o, h, b'\n')
+    let i = remote(o, h, rec);
+    output::byte(o, i, b'\n')
 }
 
 // The lines of the first `count` records.

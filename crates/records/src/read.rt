@@ -3,6 +3,7 @@ ghost use Prim.Native.Nat.{_≤_};
 use closing::Marks;
 use closing::Side;
 use connection::Identity;
+use connection::RToken;
 use connection::Record;
 use connection::Remote;
 use cursor::Cursor;
@@ -24,7 +25,18 @@ struct At {
 struct Who {
     scan: Scan,
     id: Identity,
-    remote: Remote,
+    size: u32,
+}
+
+struct Token {
+    scan: Scan,
+    token: RToken,
+}
+
+// What is fixed about the peer.
+pub struct Reached {
+    pub scan: Scan,
+    pub remote: Remote,
 }
 
 struct Cursors {
@@ -70,12 +82,56 @@ fn who_of(buf: &mut [u8; 65536], c: Scan) -> Who
         peer: peer.value,
         link: link.value as u8,
     };
-    let remote = Remote { size: size.value };
     let scan = size.scan;
     Who {
         scan: scan,
         id: id,
-        remote: remote,
+        size: size.value,
+    }
+}
+
+// KEY BASE
+fn token_of(buf: &mut [u8; 65536], c: Scan) -> Token
+    ensures { λ r. ⌜ r .scan .left ≤ c .left ⌝ }
+{
+    let key = input::number(buf, c, MOST);
+    let base = input::long_number(buf, key.scan, connection::MOST_ADDRESS);
+    let token = RToken {
+        key: key.value,
+        base: base.value,
+    };
+    let scan = base.scan;
+    Token {
+        scan: scan,
+        token: token,
+    }
+}
+
+// INDEX KEY1 BASE1 KEY2 BASE2 KEY3 BASE3 KEY4 BASE4, after the size; the index is at most `most`.
+pub fn remote(buf: &mut [u8; 65536], c: Scan, size: u32, most: u32) -> Reached
+    ensures { λ r. ⌜ r .scan .left ≤ c .left ⌝ }
+{
+    let index = input::number(buf, c, most);
+    let one = token_of(buf, index.scan);
+    let two = token_of(buf, one.scan);
+    let three = token_of(buf, two.scan);
+    let four = token_of(buf, three.scan);
+    let a = one.token;
+    let b = two.token;
+    let d = three.token;
+    let e = four.token;
+    let r = Remote {
+        size: size,
+        index: index.value,
+        link1: a,
+        link2: b,
+        link3: d,
+        link4: e,
+    };
+    let scan = four.scan;
+    Reached {
+        scan: scan,
+        remote: r,
     }
 }
 
@@ -129,9 +185,7 @@ fn marks_of(marks: u32) -> Marks {
     }
 }
 
-fn record_of(h: Who, k: Cursors, next: u16, last: u16, marks: u32) -> Record {
-    let id = h.id;
-    let remote = h.remote;
+fn record_of(id: Identity, remote: Remote, k: Cursors, next: u16, last: u16, marks: u32) -> Record {
     let p = k.p;
     let c = k.c;
     let t = k.t;
@@ -169,8 +223,18 @@ pub fn record(buf: &mut [u8; 65536], c: Scan) -> Laid
     let next = input::number(buf, k.scan, 65535);
     let last = input::number(buf, next.scan, 65535);
     let marks = input::number(buf, last.scan, 511);
-    let r = record_of(h, k, next.value as u16, last.value as u16, marks.value);
-    let scan = marks.scan;
+    let to = remote(buf, marks.scan, h.size, 255);
+    let id = h.id;
+    let peer = to.remote;
+    let r = record_of(
+        id,
+        peer,
+        k,
+        next.value as u16,
+        last.value as u16,
+        marks.value,
+    );
+    let scan = to.scan;
     Laid {
         scan: scan,
         slot: slot.value as usize,

@@ -18,21 +18,21 @@ use Rattle.llc.specs.declared.Kind.the-variants as Kinds
 use Rattle.llc.specs.declared.Received.{Received}
 use Rattle.llc.specs.Llc.{receivedOf}
 use Rattle.closing.specs.declared.State.{State}
-use Rattle.flow.specs.declared.Placing.{Placing}
-use Rattle.flow.specs.declared.Placings.{Placings}
-use Rattle.flow.specs.declared.Placings.the-variants.{Nowhere, One, Two}
 use Rattle.gauge.specs.declared.Gauge.{Gauge}
 use Rattle.gauge.specs.declared.Health.{Health}
 use Rattle.gauge.specs.Gauge.{mostMs, clearedOf, sampledOf, healthOf}
 use Rattle.element.specs.Element.{baseOf, elementOf, splice, intactB, freshElement, intoOut}
 use Rattle.connection.specs.declared.Record.{Record}
 use Rattle.connection.specs.declared.Opening.{Opening}
+use Rattle.connection.specs.declared.Placing.{Placing}
+use Rattle.connection.specs.declared.Placings.{Placings}
+use Rattle.connection.specs.declared.Placings.the-variants.{Nowhere, One, Two}
 use Rattle.connection.specs.declared.Reply.{Reply}
 use Rattle.connection.specs.declared.Reply.the-variants.{Refused, Accepted, Sent, Read, Torn, Reset, Heard, Sampled}
 use Rattle.connection.specs.declared.Effect.{Effect}
 use Rattle.connection.specs.declared.Effect.the-variants.{Nothing, Stores, Copies}
 use Rattle.connection.specs.declared.Outcome.{Outcome}
-use Rattle.connection.specs.Connection.{mostSize, leastSize, zeroRecord, openedRecord, noMessage, coherentB, effectOf}
+use Rattle.connection.specs.Connection.{zeroRecord, openedRecord, noMessage, remoteOk, coherentB, effectOf}
 use Rattle.transmit.specs.Transmit.{sendOf}
 use Rattle.receive.specs.Receive.{placeOf, readOf}
 use Rattle.hear.specs.Hear.{hearOf}
@@ -76,8 +76,9 @@ pub data Request : Type 0 where
   close : Request
   abort : Request
 
--- of management, document 01's desk calls: open takes a slot and what the connection is given (own token, peer token, link, N'); link change
--- a link and whether it is active; link message a link and bytes; sample (request 2026-10) a link and milliseconds
+-- of management, document 01's desk calls: open takes a slot and what the connection is given (own token, peer token, link, N', index, and
+-- a key and a base for each link); link change a link and whether it is active; link message a link and bytes; sample (request 2026-10) a
+-- link and milliseconds
 pub data Management : Type 0 where
   openSlot : ℕ → Opening → Management
   freeSlot : ℕ → Management
@@ -237,9 +238,9 @@ plain = record { says = accepted; made = false; message = noMessage; out = [] }
 abbrev pub plainTurn : Record → List ℕ → Turn
 plainTurn c e = record { answer = plain; after = c; element = e }
 
--- 12: a zero token, or N' out of range
+-- 12: a zero token, N' or the index out of range, or an element whose last byte would pass the top of 64 bits on any link
 abbrev pub badOpening : Opening → Bool
-badOpening o = eqb (o .own) 0 || (eqb (o .peer) 0 || (ltb (o .remote .size) leastSize || ltb mostSize (o .remote .size)))
+badOpening o = eqb (o .own) 0 || (eqb (o .peer) 0 || not (remoteOk (o .remote)))
 
 -- Open: 1, 2 (outside only), 10 (already open), 12, 13, 6 (the named link is down), 11 (own token held by another open slot: any holder is
 -- another, since slot k is closed here); 0: not refused
@@ -338,8 +339,8 @@ groupOf s n t l m = record { S = s; N = n; table = t; links = l .active; gauges 
 abbrev pub answerOf : Answered → List ℕ → Answer
 answerOf r out = record { says = saysOf (r .reply); made = r .made; message = r .message; out = out }
 
--- A fresh group has S and N in range, a table of S records, every slot closed (whatever else it holds), every link down, every gauge cleared
--- and memory all zeros.
+-- A fresh group has S and N in range, a table of S records, every slot closed (whatever else it holds), every link down, every gauge
+-- cleared and memory all zeros.
 pub record Fresh (g : Group) : Type 0 where
   pub sizes : sizesOk g ≡ true
   pub closed : (k : ℕ) → openB (g .S) (g .table) k ≡ false

@@ -8,17 +8,13 @@ use Prim.Native.Nat.{ℕ, zero, suc, _-_, _<_, _≤_}
 use native.Mathlib.Omega.{arith}
 use lib.Dec.{leb}
 use lib.ListN.{length}
-use borrow.Author.Tests.{eq-eqb, ne-eqb, leb-true, lt-ltb}
-use Rattle.cursor.specs.Cursor.{inRange}
-use Rattle.cursor.proofs.Laws.{gap-self}
+use borrow.Author.Tests.{eq-eqb, ne-eqb, leb-true}
 use Rattle.cdc.specs.declared.Message.{Message}
 use Rattle.element.specs.Element.{intactB}
 use Rattle.element.proofs.Others.{fresh-length, fresh-intact}
 use Rattle.connection.specs.Connection.{coherentB, zeroRecord}
-use Rattle.connection.proofs.Laws.{and-left, and-right, coherent-from}
+use Rattle.connection.proofs.Laws.{and-left, and-right, opened-coherent}
 use Rattle.connection.specs.declared.Opening as Given
-use Rattle.connection.specs.Connection.{startCursor, openedRecord}
-use Rattle.table.specs.Table.{linkIn}
 use Rattle.rules.specs.Rules.{Group, Request, openSlot, freeSlot, linkChange, sample, Call, on, hear, manage, refusal, accepted, torn, reset, Turn, turnOf, requestTurn, hearTurn, Done, does, refuses, putTurn, recordOf, elementIn, linkOf}
 use Rattle.order.proofs.Records.{long-by}
 use Rattle.order.proofs.Near.{enough}
@@ -62,32 +58,6 @@ pub record Does (g : Group) (c : Call) (x : Done) : Type 0 where
   pub effect : Untouched g c x ⊎ ((i : ℕ) × (t : Turn) × Turned g c x i t)
   pub not-3 : x .answer .says ≡ refusal 3 → ⊥
   pub not-torn : x .answer .says ≡ torn → ⊥
-
--- a slot just opened
-opened-coherent : (n : ℕ) (given : Given.Opening) → 8 ≤ n → 1 ≤ given .own → 1 ≤ given .peer → linkIn (given .link) ≡ true
-    → 8 ≤ given .remote .size → given .remote .size ≤ 65540
-    → coherentB n (openedRecord given) ≡ true
-unfolding openedRecord inRange
-opened-coherent n given n-least own-some peer-some l size-least size-most =
-    coherent-from n (openedRecord given)
-    (record {
-      own-nonzero = own-some;
-      peer-nonzero = peer-some;
-      link-least = leb-true 1 (given .link) (and-left (leb 1 (given .link)) (leb (given .link) 4) l);
-      link-most = leb-true (given .link) 4 (and-right (leb 1 (given .link)) (leb (given .link) 4) l);
-      size-least = size-least;
-      size-most = size-most;
-      not-both = refl;
-      p-range = lt-ltb 4 n (omega arith);
-      c-range = lt-ltb 4 n (omega arith);
-      t-range = lt-ltb 4 n (omega arith);
-      q-range = lt-ltb 4 (given .remote .size) (omega arith);
-      r-range = lt-ltb 4 (given .remote .size) (omega arith);
-      tc-good = gap-self (n - 4) startCursor .0;
-      cp-good = gap-self (n - 4) startCursor .0;
-      sum = omega (arith, gap-self (n - 4) startCursor .1);
-      rq-good = gap-self (given .remote .size - 4) startCursor .0;
-    })
 
 module _ (g : Group) (s : Sound g) where
   -- a refusal
@@ -190,7 +160,9 @@ module _ (g : Group) (s : Sound g) where
   opened i given f =
       let four : 4 ≤ g .N = omega (arith, sizes g s .least) in
       let ok =
-      opened-coherent (g .N) given (sizes g s .least) (f .own-some) (f .peer-some) (f .link-in) (f .size-least) (f .size-most)
+      opened-coherent (g .N) given (sizes g s .least) (f .own-some) (f .peer-some)
+      (leb-true 1 (given .link) (and-left (leb 1 (given .link)) (leb (given .link) 4) (f .link-in)))
+      (leb-true (given .link) 4 (and-right (leb 1 (given .link)) (leb (given .link) 4) (f .link-in))) (f .remote-ok)
       in
       turned (manage (openSlot (suc i) given)) i (openTurn g given) (slot-in (g .S) (suc i) (f .slot) .1)
       (fresh-length (g .N) four)

@@ -6,8 +6,8 @@ use mathlib.Core.Bool.{Bool, true, false, false≢true, not, cond, _||_}
 use mathlib.Core.List.{List, []}
 use Prim.Native.Nat.{ℕ, zero, suc, _≤_}
 use native.Mathlib.Omega.{arith}
-use lib.Dec.{leb, ltb, eqb, eqb·suc-zero}
-use borrow.Author.Tests.{eqb-true, eqb-false, not-false, ltb-false}
+use lib.Dec.{leb, eqb, eqb·suc-zero}
+use borrow.Author.Tests.{eqb-true, eqb-false, not-false}
 use Rattle.cdc.specs.declared.Message.{Message}
 use Rattle.cdc.specs.declared.Decoded.{Decoded}
 use Rattle.cdc.specs.declared.Decoded.the-variants.{Good, Malformed}
@@ -16,7 +16,7 @@ use Rattle.llc.specs.declared.Kind.{Kind}
 use Rattle.llc.specs.declared.Kind.the-variants as Kinds
 use Rattle.llc.specs.Llc.{receivedOf}
 use Rattle.element.specs.Element.{freshElement}
-use Rattle.connection.specs.Connection.{zeroRecord, coherentB}
+use Rattle.connection.specs.Connection.{zeroRecord, remoteOk, coherentB}
 use Rattle.gauge.specs.declared.Gauge.{Gauge}
 use Rattle.gauge.specs.Gauge.{mostMs, sampledOf}
 use Rattle.connection.specs.declared.Opening as Given
@@ -81,8 +81,7 @@ pub record Openable (g : Group) (k : ℕ) (given : Given.Opening) : Type 0 where
   pub was-closed : recordOf g k .id .opened ≡ false
   pub own-some : 1 ≤ given .own
   pub peer-some : 1 ≤ given .peer
-  pub size-least : 8 ≤ given .remote .size
-  pub size-most : given .remote .size ≤ 65540
+  pub remote-ok : remoteOk (given .remote) ≡ true
   pub link-in : linkIn (given .link) ≡ true
 
 pub record Freeable (g : Group) (k : ℕ) : Type 0 where
@@ -101,7 +100,6 @@ module _ (g : Group) (k : ℕ) where
       let x = past (not (linkIn (given .link))) 12 _ (d .1) in
       let u = neither (eqb (given .own) 0) _ (d .0) in
       let v = neither (eqb (given .peer) 0) _ (u .1) in
-      let w = neither (ltb (given .remote .size) 8) _ (v .1) in
       let own-some : given .own ≡ 0 → ⊥ = eqb-false (given .own) 0 (u .0) in
       let peer-some : given .peer ≡ 0 → ⊥ = eqb-false (given .peer) 0 (v .0) in
       record {
@@ -110,8 +108,7 @@ module _ (g : Group) (k : ℕ) where
         was-closed = c .0;
         own-some = omega (arith, own-some);
         peer-some = omega (arith, peer-some);
-        size-least = ltb-false (given .remote .size) 8 (w .0);
-        size-most = ltb-false 65540 (given .remote .size) (w .1);
+        remote-ok = not-false (remoteOk (given .remote)) (v .1);
         link-in = not-false (linkIn (given .link)) (x .0);
       }
 

@@ -21,12 +21,12 @@ use Rattle.closing.specs.declared.Marks.{Marks}
 use Rattle.closing.specs.declared.State.{State}
 use Rattle.closing.specs.declared.State.the-variants.{PeerAbortWait}
 use Rattle.closing.specs.Closing.{marked, closeStateOf, stateOf, doneSent, closedSent, abortSent}
-use Rattle.flow.specs.declared.Placings.the-variants.{Nowhere}
+use Rattle.connection.specs.declared.Placings.the-variants.{Nowhere}
 use Rattle.connection.specs.declared.Record.{Record}
 use Rattle.connection.specs.declared.Reply.{Reply}
 use Rattle.connection.specs.declared.Reply.the-variants.{Accepted, Sent, Heard}
 use Rattle.connection.specs.declared.Outcome.{Outcome}
-use Rattle.connection.specs.Connection.{sequenceAfter, coherentB, refusalOf, refusedOf, outcomeOf, closedIf, marksTo}
+use Rattle.connection.specs.Connection.{sequenceAfter, fitsB, remoteOk, coherentB, refusalOf, refusedOf, outcomeOf, closedIf, marksTo}
 use Rattle.flow.specs.Flow.{windowOf}
 use Rattle.element.specs.Element.{allFree, intactB}
 use Rattle.transmit.specs.Transmit.{sendForbids, sendOf, sentOf}
@@ -39,7 +39,7 @@ use Rattle.gauge.specs.Gauge.{mostMs, sampledOf}
 use Rattle.table.specs.Table.{sizesB, slotB, openB, activeB, gaugeAt, findFrom, gaugeSet}
 use Rattle.connection.specs.declared.Opening.{Opening}
 use Rattle.table.specs.Table.{linkIn}
-use Rattle.rules.specs.Rules.{Group, Request, send, place, read, shutdown, close, abort, openSlot, freeSlot, linkChange, linkMessage, sample, Call, on, hear, manage, Says, refusal, accepted, sent, wasRead, torn, reset, heard, sampled, saysOf, turnOf, requestTurn, hearTurn, Done, refuses, answer, sizesOk, recordOf, elementIn, linkOf, putTurn, onDoes, holderOf, hearAt, hearMessage, hearDoes, openRefusal, openDoes, freeRefusal, freeDoes, linkDoes, linkAnswer, linkMessageDoes, linksOf, withLinks, healthy, sampleRefusal, sampleDoes, does}
+use Rattle.rules.specs.Rules.{Group, Request, send, place, read, shutdown, close, abort, openSlot, freeSlot, linkChange, linkMessage, sample, Call, on, hear, manage, Says, refusal, accepted, sent, wasRead, torn, reset, heard, sampled, saysOf, turnOf, requestTurn, hearTurn, Done, refuses, answer, sizesOk, recordOf, elementIn, linkOf, putTurn, onDoes, holderOf, hearAt, hearMessage, hearDoes, openRefusal, openDoes, freeRefusal, freeDoes, linkDoes, linkAnswer, linkMessageDoes, linksOf, withLinks, healthy, sampleRefusal, sampleDoes, does, badOpening}
 use Rattle.safety.specs.Refusals.{outside, sizesWrong, slotOutside, slotClosed, incoherent, byteIs, malformedLink, tokenUnheld, connectionDown, linkDown, stateForbids, aborting, notAborting, producerBroken, consumerBroken, byteFree, unplaceable, alreadyOpen, tokenHeld, zeroOrOut, linkOutside, otherNamed, tooLong, Test, _when_, placeTest, tests, firstOf, Exactly, ExactlyWhen}
 use Rattle.safety.proofs.Answers.{clash}
 
@@ -118,6 +118,10 @@ module _ (g : Group) where
   open-is : (k : ℕ) → slotClosed g k ≡ not (openB (g .S) (g .table) k)
   unfolding openB
   open-is k = rw (not-and (slotB (g .S) k) (recordOf g k .id .opened), ← slot-is k)
+
+opening-is : (o : Opening) → zeroOrOut o ≡ badOpening o
+unfolding remoteOk fitsB
+opening-is o = simp (not-and, not-leb, or-assoc)
 
 -- ONE SLOT. An outcome that is no refusal
 record Accepts (o : Outcome) : Type 0 where
@@ -448,8 +452,7 @@ module _ (g : Group) (d : Done) where
         must-not numbered 1 _ (sizesWrong g) (not (sizesOk g)) _ _ (sizes-is g)
         (must-not numbered 2 _ (slotOutside g k) (not (slotB (g .S) k)) _ _ (slot-is g k)
         (must-not numbered 10 _ (alreadyOpen g k) (alreadyOpen g k) _ _ refl
-        (must-not numbered 12 _ (zeroOrOut (o .own) (o .peer) (o .remote .size)) _ _ _
-        (or-assoc (eqb (o .own) 0) (eqb (o .peer) 0) (outside 8 65540 (o .remote .size)))
+        (must-not numbered 12 _ (zeroOrOut o) (badOpening o) _ _ (opening-is o)
         (must-not numbered 13 _ (linkOutside (o .link)) (not (linkIn (o .link))) _ _ (outside-is 1 4 (o .link))
         (must-not numbered 6 _ (linkDown g (o .link)) (linkDown g (o .link)) _ _ refl
         (must-not numbered 11 [] (tokenHeld g (o .own)) (tokenHeld g (o .own)) 0 11 refl zero-first refl)

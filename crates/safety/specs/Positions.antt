@@ -17,8 +17,8 @@ use Rattle.cdc.specs.declared.Decoded.the-variants.{Good, Malformed}
 use Rattle.cdc.specs.declared.Flags.{Flags}
 use Rattle.cdc.specs.Cdc.{encodeOf, decodeOf}
 use Rattle.gauge.specs.Gauge.{clearedOf}
-use Rattle.connection.specs.Connection.{zeroRecord}
-use Rattle.connection.specs.Connection.{startCursor}
+use Rattle.connection.specs.declared.Remote.{Remote}
+use Rattle.connection.specs.Connection.{zeroToken, zeroRecord, startCursor}
 use Rattle.rules.specs.Rules.{Group, Request, send, place, read, shutdown, close, abort, openSlot, freeSlot, linkChange, linkMessage, sample, Call, on, hear, manage, Says, refusal, accepted, sent, wasRead, torn, reset, heard, sampled, Answer, answer, next, recordOf, elementIn, Fresh}
 use Rattle.order.specs.Statement.{leaves, answers, At}
 use Rattle.safety.specs.Statement.{OpenAt, acceptedB, Opens}
@@ -240,10 +240,14 @@ announces number y =
     in
     hear (encodeOf (record { sequence = number; token = 1; producer = cursorAt 4 y; consumer = startCursor; flags = flags }))
 
+-- the peer's element: the first of its memory, of 8 bytes
+abbrev pub firstOfEight : Remote
+firstOfEight = record { size = 8; index = 1; link1 = zeroToken; link2 = zeroToken; link3 = zeroToken; link4 = zeroToken }
+
 abbrev pub unplaced : List Call
 unplaced =
     manage (linkChange 1 true)
-    ∷ manage (openSlot 1 (record { own = 1; peer = 1; link = 1; remote = record { size = 8 } }))
+    ∷ manage (openSlot 1 (record { own = 1; peer = 1; link = 1; remote = firstOfEight }))
     ∷ on 1 (place 4 (11 ∷ 12 ∷ 13 ∷ 14 ∷ []))
     ∷ announces 1 4
     ∷ on 1 (read (replicate 4 0))

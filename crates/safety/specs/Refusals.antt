@@ -1,7 +1,7 @@
 -- Demand 1's refusals, "When the desk says no": when a call is refused and with which number, and what a refused call leaves. Two claims
 -- about the rules that every contract cites (`answer`, `next`), of any group, however it came about, and any call. proofs/Exactly and
 -- proofs/Refusals prove them. Assumes nothing.
-use Prim.Native.Nat.{ℕ, zero, suc, _+_, _*_}
+use Prim.Native.Nat.{ℕ, zero, suc, _+_, _-_, _*_}
 use mathlib.Core.Path.{_≡_}
 use mathlib.Core.Logic.{_↔_}
 use mathlib.Core.Bool.{Bool, true, false, _&&_, _||_, not, cond}
@@ -19,7 +19,10 @@ use Rattle.closing.specs.declared.State.the-variants.{Active, PeerCloseWait1, P
 use Rattle.closing.specs.Closing.{marked, stateOf}
 use Rattle.flow.specs.Flow.{windowOf}
 use Rattle.element.specs.Element.{freeB}
+use Rattle.connection.specs.declared.RToken.{RToken}
+use Rattle.connection.specs.declared.Remote.{Remote}
 use Rattle.connection.specs.declared.Record.{Record}
+use Rattle.connection.specs.declared.Opening.{Opening}
 use Rattle.connection.specs.Connection.{noMessage, coherentB, sequenceAfter}
 use Rattle.table.specs.Table.{activeB, findFrom}
 use Rattle.rules.specs.Rules.{Group, Request, send, place, read, shutdown, close, abort, openSlot, freeSlot, linkChange, linkMessage, sample, Call, on, hear, manage, refusal, answer, next, outOf, recordOf, linkOf, holderOf}
@@ -144,9 +147,22 @@ alreadyOpen g k = recordOf g k .id .opened
 abbrev pub tokenHeld : Group → ℕ → Bool
 tokenHeld g own = ltb 0 (findFrom (g .table) own (g .S))
 
--- 12: open: a zero token, or N' out of range
-abbrev pub zeroOrOut : ℕ → ℕ → ℕ → Bool
-zeroOrOut own peer size = eqb own 0 || eqb peer 0 || outside 8 65540 size
+-- 12: open: a zero token, or N' out of range; an index outside 1 to 255, or an element whose last byte, base + index x N' - 1, would pass
+-- the top of 64 bits on any link (request 2026-09)
+abbrev pub passesTop : Remote → RToken → Bool
+passesTop r t = ltb 0xFFFFFFFF_FFFFFFFF (t .base + r .index * r .size - 1)
+
+abbrev pub zeroOrOut : Opening → Bool
+zeroOrOut o =
+    let r = o .remote in
+    eqb (o .own) 0
+    || eqb (o .peer) 0
+    || outside 8 65540 (r .size)
+    || outside 1 255 (r .index)
+    || passesTop r (r .link1)
+    || passesTop r (r .link2)
+    || passesTop r (r .link3)
+    || passesTop r (r .link4)
 
 -- 13: link number outside 1 to 4
 abbrev pub linkOutside : ℕ → Bool
@@ -199,7 +215,7 @@ tests g (manage (openSlot k o)) =
     1 when sizesWrong g
     ∷ 2 when slotOutside g k
     ∷ 10 when alreadyOpen g k
-    ∷ 12 when zeroOrOut (o .own) (o .peer) (o .remote .size)
+    ∷ 12 when zeroOrOut o
     ∷ 13 when linkOutside (o .link)
     ∷ 6 when linkDown g (o .link)
     ∷ 11 when tokenHeld g (o .own)

@@ -1,6 +1,6 @@
--- What stays true over any list of calls from any fresh group, and the one-byte sentence of demand 2 with its twin for read: claims about
--- the rules that every contract cites (`answer`, `next`). A call holds all that a peer hands in, messages and placed bytes, so "any list" is
--- any peer, lying or not. proofs/Theorem and proofs/Progress prove them. Assumes nothing.
+-- What stays true over any list of calls from any fresh group, the one-byte sentence of demand 2 with its twin for read, and where placings
+-- lie: claims about the rules that every contract cites (`answer`, `next`). A call holds all that a peer hands in, messages and placed
+-- bytes, so "any list" is any peer, lying or not. proofs/Theorem and proofs/Progress prove them. Assumes nothing.
 use Prim.Native.Nat.{ℕ, _+_, _-_, _*_, _≤_, _<_, min}
 use mathlib.Core.Path.{_≡_}
 use mathlib.Core.Logic.{_⊎_}
@@ -8,12 +8,13 @@ use mathlib.Core.Bool.{Bool, true, false, cond}
 use mathlib.Core.List.{List, [], _∷_, _++_}
 use lib.Dec.{ltb, eqb}
 use lib.ListN.{length, take, drop, getD, getElem?, replicate}
-use Rattle.flow.specs.declared.Placing.{Placing}
 use Rattle.flow.specs.Flow.{roomOf}
 use Rattle.element.specs.Element.{baseOf, splice, intactB, freshElement, ringFrom}
 use Rattle.connection.specs.declared.Opening.{Opening}
+use Rattle.connection.specs.declared.Placing.{Placing}
+use Rattle.connection.specs.declared.Record.{Record}
 use Rattle.connection.specs.Connection.{coherentB}
-use Rattle.transmit.specs.Transmit.{sendForbids}
+use Rattle.transmit.specs.Transmit.{sendForbids, Within}
 use Rattle.receive.specs.Receive.{readForbids, unreadOf}
 use Rattle.table.specs.Table.{slotB, openB}
 use Rattle.rules.specs.Rules.{Group, Request, send, place, read, shutdown, close, abort, openSlot, freeSlot, linkChange, linkMessage, sample, Call, on, hear, manage, Says, refusal, accepted, sent, wasRead, torn, reset, heard, sampled, Answer, answer, next, sizesOk, recordOf, elementIn, linkOf, holderOf, Fresh}
@@ -194,20 +195,20 @@ abbrev pub totalOf : List Placing → ℕ
 totalOf [] = 0
 totalOf (p ∷ l) = p .len + totalOf l
 
--- each placing lies in the data of an element of `size` bytes
-abbrev pub AllWithin : ℕ → List Placing → Type 0
-AllWithin size [] = Unit {0}
-AllWithin size (p ∷ l) = (4 ≤ p .offset) × (p .offset + p .len ≤ size) × AllWithin size l
+-- each placing lies in the data of the peer's element, and takes the bytes after the one before it, from `start` on
+abbrev pub AllWithin : Record → ℕ → List Placing → Type 0
+AllWithin c start [] = Unit {0}
+AllWithin c start (p ∷ l) = Within c start p × AllWithin c (start + p .len) l
 
 -- n is above 0 and at most what was offered, the placings name n bytes in all, each in the data of the peer's element, and a message is made
-pub record Writes (size offered : ℕ) (a : Answer) : Type 0 where
+pub record Writes (c : Record) (offered : ℕ) (a : Answer) : Type 0 where
   pub n : ℕ
   pub placings : List Placing
   pub says : a .says ≡ sent n placings
   pub some : 0 < n
   pub most : n ≤ offered
   pub total : totalOf placings ≡ n
-  pub within : AllWithin size placings
+  pub within : AllWithin c 0 placings
   pub told : a .made ≡ true
 
 abbrev pub OneByte : Type 0
@@ -216,7 +217,13 @@ OneByte =
     → sendForbids (recordOf h k .marks) ≡ false → 0 < length b
     → 0 < roomOf (recordOf h k .remote .size) (recordOf h k .outbound .consumer) (recordOf h k .outbound .producer)
     → linkOf h k ≡ true
-    → Writes (recordOf h k .remote .size) (length b) (answer h (on k (send b)))
+    → Writes (recordOf h k) (length b) (answer h (on k (send b)))
+
+-- NO ADDRESS PASSES THE TOP. Each placing of a send that is not refused, on any group, has the key of the connection's own link and lies
+-- whole between the start of the peer's data and the element's end, below 2^64: the plain sum of the rules is an address of 64 bits.
+abbrev pub PlacingsWithin : Type 0
+PlacingsWithin =
+    (g : Group) (k n : ℕ) (b : List ℕ) (l : List Placing) → answer g (on k (send b)) .says ≡ sent n l → AllWithin (recordOf g k) 0 l
 
 -- ITS TWIN FOR READ. Given the right S, N and memory, an open, coherent connection that may read, its element intact and its link active,
 -- reads the smaller of what is unread and the room in out: those bytes, from C on, are what it leaves in front of out.

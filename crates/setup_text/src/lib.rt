@@ -80,7 +80,7 @@ fn read_number(
 fn read_base(b: &mut [u8; 252], at: usize, buf: &mut [u8; 65536], c: Scan) -> Scan
     ensures { λ r. ⌜ r .left ≤ c .left ⌝ }
 {
-    let d = input::number64(buf, c);
+    let d = input::long_number(buf, c, u64::MAX);
     layout::put_number(b, at, 8, d.value);
     d.scan
 }

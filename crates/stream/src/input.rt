@@ -21,7 +21,7 @@ pub struct Decimal {
     pub value: u32,
 }
 
-pub struct Decimal64 {
+pub struct LongDecimal {
     pub scan: Scan,
     pub value: u64,
 }
@@ -32,9 +32,15 @@ pub struct Run {
     pub count: usize,
 }
 
+// The digits so far, as a number; `past`: it is past 64 bits.
+struct Sum {
+    value: u64,
+    past: bool,
+}
+
 struct Figures {
     scan: Scan,
-    value: u64,
+    sum: Sum,
 }
 
 struct Pair {
@@ -144,105 +150,74 @@ fn is_letter(b: u8) -> bool {
     (b'a' <= b) & (b <= b'z')
 }
 
-// One more decimal digit. A number past 32 bits stays past them.
-fn longer(value: u64, digit: u8) -> u64 {
-    if value <= 4294967295 {
-        if b'0' <= digit {
-            return value * 10 + ((digit - b'0') as u64);
+// One more decimal digit. A number past 64 bits stays past them.
+fn longer(sum: Sum, digit: u8) -> Sum {
+    if b'0' <= digit {
+        let d = (digit - b'0') as u64;
+        if sum.value <= (u64::MAX - d) / 10 {
+            return Sum {
+                value: sum.value * 10 + d,
+                past: sum.past,
+            };
         }
     }
-    value
+    Sum {
+        value: sum.value,
+        past: true,
+    }
 }
 
 fn digits(buf: &mut [u8; 65536], c: Scan) -> Figures
     ensures { λ r. ⌜ r .scan .left ≤ c .left ⌝ }
 {
     let mut scan = c;
-    let mut value: u64 = 0;
+    let mut sum = Sum {
+        value: 0,
+        past: false,
+    };
     while 0 < scan.left && is_digit(scan.byte) {
-        value = longer(value, scan.byte);
+        sum = longer(sum, scan.byte);
         scan = next(buf, scan);
     }
     Figures {
         scan: scan,
-        value: value,
+        sum: sum,
     }
 }
 
 // A space and a decimal number up to `most`; 0 where the line does not parse.
-pub fn number(buf: &mut [u8; 65536], c: Scan, most: u32) -> Decimal
+pub fn long_number(buf: &mut [u8; 65536], c: Scan, most: u64) -> LongDecimal
     ensures { λ r. ⌜ (r .scan .left ≤ c .left) × (r .value ≤ most) ⌝ }
 {
     let start = taken(buf, c, b' ');
     let some = is_digit(start.byte);
     let d = digits(buf, start);
     let scan = d.scan;
-    if some {
-        if d.value <= most as u64 {
-            return Decimal {
+    let sum = d.sum;
+    if some & !sum.past {
+        if sum.value <= most {
+            return LongDecimal {
                 scan: scan,
-                value: d.value as u32,
+                value: sum.value,
             };
         }
     }
     let bad = spoilt(scan);
+    LongDecimal {
+        scan: bad,
+        value: 0,
+    }
+}
+
+// The same, of 32 bits.
+pub fn number(buf: &mut [u8; 65536], c: Scan, most: u32) -> Decimal
+    ensures { λ r. ⌜ (r .scan .left ≤ c .left) × (r .value ≤ most) ⌝ }
+{
+    let d = long_number(buf, c, most as u64);
+    let scan = d.scan;
     Decimal {
-        scan: bad,
-        value: 0,
-    }
-}
-
-// One more decimal digit; a number past 64 bits does not parse.
-fn digit64(buf: &mut [u8; 65536], c: Scan, value: u64) -> Decimal64
-    ensures { λ r. ⌜ r .scan .left ≤ c .left - 1 ⌝ }
-{
-    let digit = c.byte;
-    let scan = next(buf, c);
-    if b'0' <= digit {
-        let d = (digit - b'0') as u64;
-        if value <= (u64::MAX - d) / 10 {
-            return Decimal64 {
-                scan: scan,
-                value: value * 10 + d,
-            };
-        }
-    }
-    let bad = spoilt(scan);
-    Decimal64 {
-        scan: bad,
-        value: 0,
-    }
-}
-
-fn digits64(buf: &mut [u8; 65536], c: Scan) -> Decimal64
-    ensures { λ r. ⌜ r .scan .left ≤ c .left ⌝ }
-{
-    let mut scan = c;
-    let mut value: u64 = 0;
-    while 0 < scan.left && is_digit(scan.byte) {
-        let d = digit64(buf, scan, value);
-        scan = d.scan;
-        value = d.value;
-    }
-    Decimal64 {
         scan: scan,
-        value: value,
-    }
-}
-
-// A space and a decimal number of 64 bits; 0 where the line does not parse.
-pub fn number64(buf: &mut [u8; 65536], c: Scan) -> Decimal64
-    ensures { λ r. ⌜ r .scan .left ≤ c .left ⌝ }
-{
-    let start = taken(buf, c, b' ');
-    if is_digit(start.byte) {
-        digits64(buf, start)
-    } else {
-        let bad = spoilt(start);
-        Decimal64 {
-            scan: bad,
-            value: 0,
-        }
+        value: d.value as u32,
     }
 }
 

@@ -1,33 +1,124 @@
 -- Laws of send: the parts of an accepted one put together, what it keeps of a record, that it writes a byte where there is room, and how
 -- far Q moves.
 -- Assumes nothing.
-use mathlib.Core.Path.{_≡_, refl, sym, ap, _∙_}
+use mathlib.Core.Path.{_≡_, refl, sym, ap, _∙_, subst}
 use mathlib.Core.Bool.{Bool, true, false, cond}
-use Prim.Native.Nat.{ℕ, _+_, _-_, _≤_, _<_}
+use Prim.Native.Nat.{ℕ, _+_, _-_, _*_, _≤_, _<_}
+use native.Mathlib.Nat.{one-mul, add-mul, sub-add-cancel}
 use native.Mathlib.Omega.{arith}
 use lib.Dec.{eqb}
 use borrow.Author.Needs.{needs}
 use borrow.Author.Tests.{eqb-true, ne-eqb, lt-ltb}
-use Rattle.cursor.specs.Cursor.{goodB, gapOf, stepOf}
+use Rattle.cursor.specs.Cursor.{inRange, goodB, gapOf, stepOf}
 use Rattle.cursor.proofs.Laws.{range-is, good-most, step-range, step-gap}
-use Rattle.flow.specs.declared.Placings.{Placings}
-use Rattle.flow.specs.declared.Placings.the-variants.{Nowhere}
-use Rattle.flow.specs.Flow.{roomOf, takenOf, placingsOf, placingsTotal, allPlaced}
-use Rattle.flow.proofs.Laws.{taken-most, taken-len, taken-some, room-most, room-rest, placings-total, placings-placed}
+use Rattle.flow.specs.declared.Stretch.{Stretch}
+use Rattle.flow.specs.declared.Stretches.{Stretches}
+use Rattle.flow.specs.declared.Stretches.the-variants as Parts
+use Rattle.flow.specs.Flow.{roomOf, takenOf, stretchesOf, stretchesTotal, Placed, allPlaced}
+use Rattle.flow.proofs.Laws.{taken-most, taken-len, taken-some, room-most, room-rest, stretches-total, stretches-placed}
+use Rattle.connection.specs.declared.RToken.{RToken}
+use Rattle.connection.specs.declared.Placing.{Placing}
+use Rattle.connection.specs.declared.Placings.{Placings}
+use Rattle.connection.specs.declared.Placings.the-variants.{Nowhere, One, Two}
 use Rattle.connection.specs.declared.Record.{Record}
 use Rattle.connection.specs.declared.Reply.{Reply}
 use Rattle.connection.specs.declared.Reply.the-variants.{Sent}
 use Rattle.connection.specs.declared.Outcome.{Outcome}
-use Rattle.connection.specs.Connection.{coherentB, refusalOf, refusedOf, outcomeOf}
-use Rattle.connection.proofs.Laws.{Coherent, coherent-facts, coherent-from, refusal-none, refusal-0, refused-reply, refused-after, outcome-reply, outcome-made, outcome-id, outcome-remote, outcome-q, outcome-r, outcome-coherent}
-use Rattle.transmit.specs.Transmit.{sendForbids, nOf, producedOut, producedOf, tellsOf, sentOf, sendOf}
+use Rattle.connection.specs.Connection.{mostAddress, fitsB, remoteOk, coherentB, refusalOf, refusedOf, outcomeOf}
+use Rattle.connection.proofs.Laws.{fits-facts, remote-facts, Coherent, coherent-facts, coherent-from, refusal-none, refusal-0, refused-reply, refused-after, outcome-reply, outcome-made, outcome-id, outcome-remote, outcome-q, outcome-r, outcome-coherent}
+use Rattle.transmit.specs.Transmit.{sendForbids, nOf, rtokenOf, elementStart, placingOf, placingsOf, placingsTotal, Within, allWithin, producedOut, producedOf, tellsOf, sentOf, sendOf}
 
-pub sent-parts : (rec : Record) (len room n : ℕ) (p : Placings) (next : Record) (o : Outcome)
+pub sent-parts : (rec : Record) (len room n : ℕ) (s : Stretches) (p : Placings) (next : Record) (o : Outcome)
     → room ≡ roomOf (rec .remote .size) (rec .outbound .consumer) (rec .outbound .producer) → n ≡ takenOf room len
-    → p ≡ placingsOf (rec .remote .size) (rec .outbound .producer) n → next ≡ producedOf rec n len
+    → s ≡ stretchesOf (rec .remote .size) (rec .outbound .producer) n → p ≡ placingsOf rec s → next ≡ producedOf rec n len
     → o ≡ outcomeOf (Sent n p) (tellsOf rec n len) next → o ≡ sentOf rec len
 unfolding sentOf nOf
-sent-parts rec len room n p next o hr hn hp hx ho = simp (ho, hx, hp, hn, hr)
+sent-parts rec len room n s p next o hr hn hs hp hx ho = simp (ho, hx, hp, hs, hn, hr)
+
+-- element k ends where k elements do
+element-end : (n k : ℕ) → 1 ≤ k → (k - 1) * n + n ≡ k * n
+element-end n k h =
+    ap (λ (x : ℕ). (k - 1) * n + x) (sym (one-mul n))
+    ∙ sym (add-mul (k - 1) 1 n)
+    ∙ ap (λ (x : ℕ). x * n) (sub-add-cancel h)
+
+-- what holds of the peer's memory on every link holds on the connection's own
+any-link : (a b c : Bool) (P : RToken → Type 0) (w x y z : RToken) → P w → P x → P y → P z → P (cond a w (cond b x (cond c y z)))
+any-link true b c P w x y z hw hx hy hz = hw
+any-link false true c P w x y z hw hx hy hz = hx
+any-link false false true P w x y z hw hx hy hz = hy
+any-link false false false P w x y z hw hx hy hz = hz
+
+-- so the peer's element ends below 2^64 there, and every stretch of its data has an address
+module _ (rec : Record) (e : remoteOk (rec .remote) ≡ true) where
+  rtoken-fits : fitsB (rec .remote .size) (rec .remote .index) (rtokenOf rec .base) ≡ true
+  unfolding rtokenOf
+  rtoken-fits =
+      let r = rec .remote in
+      let f = remote-facts r e in
+      any-link (eqb (rec .id .link) 1) (eqb (rec .id .link) 2) (eqb (rec .id .link) 3)
+      (λ (t : RToken). fitsB (r .size) (r .index) (t .base) ≡ true) (r .link1) (r .link2) (r .link3) (r .link4)
+      (f .fits1) (f .fits2) (f .fits3) (f .fits4)
+
+  pub element-fits : elementStart rec + rec .remote .size ≤ mostAddress + 1
+  element-fits =
+      let r = rec .remote in
+      let first = element-end (r .size) (r .index) (remote-facts r e .index-least) in
+      omega (arith, first, fits-facts (r .size) (r .index) (rtokenOf rec .base) rtoken-fits)
+
+  -- the same, of what the code has of the peer's memory
+  pub token-fits : (t : RToken) → t ≡ rtokenOf rec
+      → t .base + (rec .remote .index - 1) * rec .remote .size + rec .remote .size ≤ mostAddress + 1
+  token-fits t h = rw h element-fits
+
+  placing-within : (start : ℕ) (s : Stretch) → Placed (rec .remote .size) start s → Within rec start (placingOf rec s)
+  unfolding placingOf
+  placing-within start s h =
+      let f = element-fits in
+      let low = h .low in
+      let high = h .high in
+      record {
+        some = h .some;
+        follows = h .follows;
+        own-key = refl;
+        low = omega arith;
+        high = omega arith;
+        top = omega arith;
+      }
+
+  pub placings-within : (s : Stretches) → allPlaced (rec .remote .size) s → allWithin rec (placingsOf rec s)
+  unfolding placingOf
+  placings-within Parts.Nowhere h = tt
+  placings-within (Parts.One s) h = placing-within 0 s h
+  placings-within (Parts.Two s t) h =
+      let before = h .2 in
+      (placing-within 0 s (h .0), placing-within (s .len) t (h .1), omega arith)
+
+-- the code's stretches, by their variant: their offsets are in range, and what it makes of them is what the rule has
+module _ (rec : Record) (s : Stretches) (h : allPlaced (rec .remote .size) s) where
+  pub one-in : (a : Stretch) → s ≡ Parts.One a → a .offset < rec .remote .size
+  one-in a e =
+      let p : Placed (rec .remote .size) 0 a = subst (allPlaced (rec .remote .size)) e h in
+      omega (arith, p .some, p .high)
+
+  pub two-in : (a b : Stretch) → s ≡ Parts.Two a b → (a .offset < rec .remote .size) × (b .offset < rec .remote .size)
+  two-in a b e =
+      let p : allPlaced (rec .remote .size) (Parts.Two a b) = subst (allPlaced (rec .remote .size)) e h in
+      (omega (arith, p .0 .some, p .0 .high), omega (arith, p .1 .some, p .1 .high))
+
+pub one-is : (rec : Record) (s : Stretches) (a : Stretch) (p : Placing) → s ≡ Parts.One a → p ≡ placingOf rec a → One p ≡ placingsOf rec s
+one-is rec s a p e h = rw (e, h)
+
+pub two-is : (rec : Record) (s : Stretches) (a b : Stretch) (p q : Placing) → s ≡ Parts.Two a b → p ≡ placingOf rec a → q ≡ placingOf rec b
+    → Two p q ≡ placingsOf rec s
+two-is rec s a b p q e h i = rw (e, h, i)
+
+-- and the lengths stay
+placings-total : (rec : Record) (s : Stretches) → placingsTotal (placingsOf rec s) ≡ stretchesTotal s
+unfolding placingOf
+placings-total rec Parts.Nowhere = refl
+placings-total rec (Parts.One s) = refl
+placings-total rec (Parts.Two s t) = refl
 
 -- the distance R to Q, and the room
 abbrev pub gapRQ : Record → ℕ
@@ -35,6 +126,9 @@ gapRQ rec = gapOf (rec .remote .size - 4) (rec .outbound .consumer) (rec .outbou
 
 abbrev pub roomIn : Record → ℕ
 roomIn rec = roomOf (rec .remote .size) (rec .outbound .consumer) (rec .outbound .producer)
+
+abbrev stretchesIn : Record → ℕ → Stretches
+stretchesIn rec n = stretchesOf (rec .remote .size) (rec .outbound .producer) n
 
 -- n is at most the room and at most the length, and above 0 where both are
 module _ (rec : Record) (len : ℕ) where
@@ -46,9 +140,41 @@ module _ (rec : Record) (len : ℕ) where
   unfolding nOf
   n-len = taken-len (roomIn rec) len
 
+  -- so a coherent record names only places in the peer's data
+  n-placed : remoteOk (rec .remote) ≡ true → inRange (rec .remote .size) (rec .outbound .producer) ≡ true
+      → allPlaced (rec .remote .size) (stretchesIn rec (nOf rec len))
+  n-placed e r =
+      let o = rec .outbound in
+      let N' = rec .remote .size in
+      let q = range-is N' (o .producer) r in
+      let least = remote-facts (rec .remote) e .size-least in
+      let most = room-most N' (o .consumer) (o .producer) in
+      stretches-placed N' (o .producer) (nOf rec len) (q .0) (q .1) (omega (arith, n-room))
+
+  n-within : (n : ℕ) → coherentB n rec ≡ true → allWithin rec (placingsOf rec (stretchesIn rec (nOf rec len)))
+  n-within n e =
+      let f = coherent-facts n rec e in
+      placings-within rec (f .remote-ok) (stretchesIn rec (nOf rec len)) (n-placed (f .remote-ok) (f .q-range))
+
   n-some : 0 < roomIn rec → 0 < len → 0 < nOf rec len
   unfolding nOf
   n-some r l = taken-some (roomIn rec) len r l
+
+-- the same, of what the code has taken
+pub taken-placed : (rec : Record) (len room n : ℕ) (s : Stretches) → remoteOk (rec .remote) ≡ true
+    → inRange (rec .remote .size) (rec .outbound .producer) ≡ true → room ≡ roomIn rec → n ≡ takenOf room len → s ≡ stretchesIn rec n
+    → allPlaced (rec .remote .size) s
+unfolding nOf
+taken-placed rec len room n s e r hr hn hs =
+    let k : n ≡ nOf rec len = simp (hn, hr) in
+    rw (hs, k) (n-placed rec len e r)
+
+-- what an unrefused send may suppose of its record
+pub sent-may : (n : ℕ) (active : Bool) (rec : Record) (forbids : Bool) → refusalOf n active rec forbids ≡ 0
+    → (remoteOk (rec .remote) ≡ true) × (inRange (rec .remote .size) (rec .outbound .producer) ≡ true)
+sent-may n active rec forbids e =
+    let f = coherent-facts n rec (refusal-none n active rec forbids e .0) in
+    (f .remote-ok, f .q-range)
 
 -- Q moved by k, at most the room
 module _ (n : ℕ) (rec : Record) (k len : ℕ) (f : Coherent n rec) (h : k ≤ roomIn rec) where
@@ -92,7 +218,7 @@ outcome-gap reply tells rec = simp (outcome-remote reply tells rec, outcome-r re
 -- what an accepted send with bytes leaves
 module _ (rec : Record) (len : ℕ) where
   abbrev answer : Reply
-  answer = Sent (nOf rec len) (placingsOf (rec .remote .size) (rec .outbound .producer) (nOf rec len))
+  answer = Sent (nOf rec len) (placingsOf rec (stretchesIn rec (nOf rec len)))
 
   sent-is : sentOf rec len ≡ outcomeOf answer (tellsOf rec (nOf rec len) len) (producedOf rec (nOf rec len) len)
   unfolding sentOf
@@ -159,33 +285,29 @@ pub writes-a-byte : (n : ℕ) (active : Bool) (rec : Record) (len : ℕ) → coh
     × (sendOf n active rec len .reply ≡ Sent k p)
     × (sendOf n active rec len .made ≡ true)
     × (placingsTotal p ≡ k)
-    × allPlaced (rec .remote .size) p
+    × allWithin rec p
 writes-a-byte n active rec len e up may room some =
     let t = nOf rec len in
-    let o = rec .outbound in
-    let N' = rec .remote .size in
-    let q = range-is N' (o .producer) (coherent-facts n rec e .q-range) in
     let a = send-accepts n active rec len e up may some in
     let h = n-some rec len room some in
-    let most = room-most N' (o .consumer) (o .producer) in
-    let l = n-room rec len in
     let made = outcome-made (answer rec len) (tellsOf rec t len) (producedOf rec t len) ∙ tells-some rec t len h in (
       t,
-      placingsOf N' (o .producer) t,
+      placingsOf rec (stretchesIn rec t),
       h,
       ap (λ (x : Outcome). x .reply) a ∙ sent-reply rec len,
       ap (λ (x : Outcome). x .made) (a ∙ sent-is rec len) ∙ made,
-      placings-total N' (o .producer) t,
-      placings-placed N' (o .producer) t (q .0) (q .1) (omega arith),
+      placings-total rec (stretchesIn rec t) ∙ stretches-total (rec .remote .size) (rec .outbound .producer) t,
+      n-within rec len n e,
     )
 
--- whatever k a send names: it is at most the room and the length, the placings name k bytes, and the distance R to Q is k more
+-- whatever k a send names: it is at most the room and the length, the placings name k bytes and lie in the peer's data, and the distance
+-- R to Q is k more
 module _ (n : ℕ) (active : Bool) (rec : Record) (len k : ℕ) (p : Placings) (e : sendOf n active rec len .reply ≡ Sent k p) where
   none-is : outcomeOf (Sent 0 Nowhere) false rec .reply ≡ Sent k p → (0 ≡ k) × (Nowhere ≡ p)
   none-is r = let s : Sent 0 Nowhere ≡ Sent k p = sym (outcome-reply (Sent 0 Nowhere) false rec) ∙ r in (cc, cc)
 
   some-is : sentOf rec len .reply ≡ Sent k p
-      → (nOf rec len ≡ k) × (placingsOf (rec .remote .size) (rec .outbound .producer) (nOf rec len) ≡ p)
+      → (nOf rec len ≡ k) × (placingsOf rec (stretchesIn rec (nOf rec len)) ≡ p)
   some-is r = let s : answer rec len ≡ Sent k p = sym (sent-reply rec len) ∙ r in (cc, cc)
 
   not-refused : {A : Type 0} (j : ℕ) → refusedOf j rec .reply ≡ Sent k p → A
@@ -197,8 +319,17 @@ module _ (n : ℕ) (active : Bool) (rec : Record) (len k : ℕ) (p : Placings) (
       (λ z r. let a = none-is r in (omega arith, omega arith, rw (← (a .1)) (a .0)))
       (λ g r.
       let a = some-is r in
-      let total = placings-total (rec .remote .size) (rec .outbound .producer) (nOf rec len) in
+      let total =
+      placings-total rec (stretchesIn rec (nOf rec len))
+      ∙ stretches-total (rec .remote .size) (rec .outbound .producer) (nOf rec len)
+      in
       (rw (← (a .0)) (n-room rec len), rw (← (a .0)) (n-len rec len), rw (← (a .1)) (total ∙ a .0)))
+      e
+
+  pub send-within : allWithin rec p
+  send-within =
+      send-cases n active rec len (λ o. o .reply ≡ Sent k p → allWithin rec p) not-refused (λ z r. rw (← (none-is r .1)) tt)
+      (λ g r. rw (← (some-is r .1)) (n-within rec len n g))
       e
 
   pub send-moves : gapRQ (sendOf n active rec len .after) ≡ gapRQ rec + k

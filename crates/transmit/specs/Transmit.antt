@@ -1,18 +1,24 @@
--- Document 01, "Calls of a connection": Send.
+-- Document 01, "Calls of a connection": Send; its placings by document 02, 2026-09.
 -- Assumes nothing.
-use Prim.Native.Nat.{ℕ}
+use Prim.Native.Nat.{ℕ, _+_, _≤_, _<_}
+use mathlib.Core.Path.{_≡_}
 use mathlib.Core.Bool.{Bool, true, false, _&&_, _||_, not, cond}
 use lib.Dec.{ltb, eqb}
 use Rattle.cursor.specs.Cursor.{stepOf}
 use Rattle.closing.specs.declared.Marks.{Marks}
-use Rattle.flow.specs.declared.Placings.{Placings}
-use Rattle.flow.specs.declared.Placings.the-variants.{Nowhere}
-use Rattle.flow.specs.Flow.{roomOf, takenOf, placingsOf}
+use Rattle.flow.specs.declared.Stretch.{Stretch}
+use Rattle.flow.specs.declared.Stretches.{Stretches}
+use Rattle.flow.specs.declared.Stretches.the-variants as Parts
+use Rattle.flow.specs.Flow.{roomOf, takenOf, stretchesOf}
+use Rattle.connection.specs.declared.RToken.{RToken}
+use Rattle.connection.specs.declared.Placing.{Placing}
+use Rattle.connection.specs.declared.Placings.{Placings}
+use Rattle.connection.specs.declared.Placings.the-variants.{Nowhere, One, Two}
 use Rattle.connection.specs.declared.Outbound.{Outbound}
 use Rattle.connection.specs.declared.Record.{Record}
 use Rattle.connection.specs.declared.Reply.the-variants.{Sent}
 use Rattle.connection.specs.declared.Outcome.{Outcome}
-use Rattle.connection.specs.Connection.{qTo, blockedTo, outboundTo, refusalOf, refusedOf, outcomeOf}
+use Rattle.connection.specs.Connection.{mostAddress, firstByte, qTo, blockedTo, outboundTo, refusalOf, refusedOf, outcomeOf}
 
 -- 7: send after D, C or A sent or C heard
 unfoldable pub sendForbids : Marks → Bool
@@ -24,6 +30,26 @@ nOf rec len =
     let q = rec .outbound .producer in
     let r = rec .outbound .consumer in
     takenOf (roomOf (rec .remote .size) r q) len
+
+-- the peer's memory as the connection's own link reaches it (exact: the link is 1 to 4 in a coherent record)
+unfoldable pub rtokenOf : Record → RToken
+rtokenOf rec =
+    let link = rec .id .link in
+    let r = rec .remote in
+    cond (eqb link 1) (r .link1) (cond (eqb link 2) (r .link2) (cond (eqb link 3) (r .link3) (r .link4)))
+
+-- there, the first byte of the peer's element
+abbrev pub elementStart : Record → ℕ
+elementStart rec = firstByte (rec .remote .size) (rec .remote .index) (rtokenOf rec .base)
+
+-- a placing's offset becomes the peer's memory key and an address, base + (index - 1) x N' + offset
+unfoldable pub placingOf : Record → Stretch → Placing
+placingOf rec s = record { key = rtokenOf rec .key; address = elementStart rec + s .offset; start = s .start; len = s .len }
+
+abbrev pub placingsOf : Record → Stretches → Placings
+placingsOf rec Parts.Nowhere = Nowhere
+placingsOf rec (Parts.One s) = One (placingOf rec s)
+placingsOf rec (Parts.Two s t) = Two (placingOf rec s) (placingOf rec t)
 
 -- Q moves by n; with bytes offered, B becomes "n is less than the length"
 unfoldable pub producedOut : ℕ → Outbound → ℕ → ℕ → Outbound
@@ -44,7 +70,7 @@ unfoldable pub sentOf : Record → ℕ → Outcome
 sentOf rec len =
     let q = rec .outbound .producer in
     let n = nOf rec len in
-    outcomeOf (Sent n (placingsOf (rec .remote .size) q n)) (tellsOf rec n len) (producedOf rec n len)
+    outcomeOf (Sent n (placingsOf rec (stretchesOf (rec .remote .size) q n))) (tellsOf rec n len) (producedOf rec n len)
 
 -- nothing offered: n is 0, no message, no change
 unfoldable pub sendOf : ℕ → Bool → Record → ℕ → Outcome
@@ -53,3 +79,25 @@ sendOf N active rec len =
     cond (eqb no 0)
     (cond (eqb len 0) (outcomeOf (Sent 0 Nowhere) false rec) (sentOf rec len))
     (refusedOf no rec)
+
+-- What is claimed of placings, and no contract cites. How many bytes they name in all
+abbrev pub placingsTotal : Placings → ℕ
+placingsTotal Nowhere = 0
+placingsTotal (One p) = p .len
+placingsTotal (Two p q) = p .len + q .len
+
+-- a placing that is not empty, takes the bytes from `start` on, has the key of the connection's own link, and lies whole between the start
+-- of the element's data and its end, below 2^64
+pub record Within (rec : Record) (start : ℕ) (p : Placing) : Type 0 where
+  pub some : 0 < p .len
+  pub follows : p .start ≡ start
+  pub own-key : p .key ≡ rtokenOf rec .key
+  pub low : elementStart rec + 4 ≤ p .address
+  pub high : p .address + p .len ≤ elementStart rec + rec .remote .size
+  pub top : p .address + p .len ≤ mostAddress + 1
+
+-- each placing is so, a second one takes the bytes that follow, and ends where the first begins or before
+abbrev pub allWithin : Record → Placings → Type 0
+allWithin rec Nowhere = Unit
+allWithin rec (One p) = Within rec 0 p
+allWithin rec (Two p q) = Within rec 0 p × Within rec (p .len) q × (q .address + q .len ≤ p .address)

@@ -6,10 +6,10 @@ use Rattle.cursor.specs.Cursor.{inRange, sameB, movedOf, stepOf, turnsOf, dista
 use Rattle.cdc.specs.Cdc.{highByte, lowByte, encodeOf, num2, num4, cursorOf, flagsOf, fieldsOf, decodeOf}
 use Rattle.llc.specs.Llc.{classOf, namedOf, kindOf, testReplyOf, noReply, answeredOf, receivedOf}
 use Rattle.closing.specs.Closing.{closeStateOf, stateOf, doneSent, closedSent, abortSent, marksHeard}
-use Rattle.flow.specs.Flow.{roomOf, takenOf, firstOf, placingsOf, windowOf, updateDue}
+use Rattle.flow.specs.Flow.{roomOf, takenOf, firstOf, stretchesOf, windowOf, updateDue}
 use Rattle.element.specs.Element.{part, elementOf, splice, intactB, freshElement, allFree, ringFrom, unread}
-use Rattle.connection.specs.Connection.{zeroRecord, numbersOk, offsetsOk, distancesOk, coherentB, refusalOf, messageOf, toldIn, usedIn, toldOf, outcomeOf, refusedOf, closedIf, marksTo}
-use Rattle.transmit.specs.Transmit.{sendForbids, nOf, producedOut, producedOf, tellsOf, sentOf, sendOf}
+use Rattle.connection.specs.Connection.{zeroRecord, fitsB, remoteOk, numbersOk, offsetsOk, distancesOk, coherentB, refusalOf, messageOf, toldIn, usedIn, toldOf, outcomeOf, refusedOf, closedIf, marksTo}
+use Rattle.transmit.specs.Transmit.{sendForbids, nOf, rtokenOf, placingOf, producedOut, producedOf, tellsOf, sentOf, sendOf}
 use Rattle.receive.specs.Receive.{placeForbids, mayPlace, placeOf, readForbids, unreadOf, consumedIn, consumedOf, updateOf, tornOf, takeOf, readOf}
 use Rattle.hear.specs.Hear.{ruledOf, nextB, abortedOf, producerB, consumerB, heardIn, heardOut, heardRecord, answersB, acceptedOf, followedOf, hearOf}
 use Rattle.finish.specs.Finish.{resetOf, closingOf, shutdownForbids, shutdownOf, closeForbids, closeOf, abortOf}
@@ -23,10 +23,11 @@ unfolding inRange sameB movedOf stepOf turnsOf distanceOf goodB gapOf
     highByte lowByte encodeOf num2 num4 cursorOf flagsOf fieldsOf decodeOf
     classOf namedOf kindOf testReplyOf noReply answeredOf receivedOf
     closeStateOf stateOf doneSent closedSent abortSent marksHeard
-    roomOf takenOf firstOf placingsOf windowOf updateDue
+    roomOf takenOf firstOf stretchesOf windowOf updateDue
     part elementOf splice intactB freshElement allFree ringFrom unread
-    zeroRecord numbersOk offsetsOk distancesOk coherentB refusalOf messageOf toldIn usedIn toldOf outcomeOf refusedOf closedIf marksTo
-    sendForbids nOf producedOut producedOf tellsOf sentOf sendOf
+    zeroRecord fitsB remoteOk numbersOk offsetsOk distancesOk coherentB refusalOf
+    messageOf toldIn usedIn toldOf outcomeOf refusedOf closedIf marksTo
+    sendForbids nOf rtokenOf placingOf producedOut producedOf tellsOf sentOf sendOf
     placeForbids mayPlace placeOf readForbids unreadOf consumedIn consumedOf updateOf tornOf takeOf readOf
     abortedOf producerB consumerB heardIn heardOut heardRecord answersB acceptedOf followedOf ruledOf nextB hearOf
     shutdownForbids shutdownOf closeForbids closeOf resetOf closingOf abortOf

@@ -15,7 +15,6 @@ use Rattle.cdc.specs.declared.Message.{Message}
 use Rattle.cdc.specs.Cdc.{encodeOf, wholeExample}
 use Rattle.closing.specs.declared.Marks.{Marks}
 use Rattle.closing.specs.declared.State.the-variants.{Active, PeerCloseWait1, PeerCloseWait2, AppCloseWait1, AppCloseWait2, PeerAbortWait, Closed}
-use Rattle.flow.specs.declared.Placing.{Placing}
 use Rattle.flow.specs.Flow.{windowOf}
 use Rattle.gauge.specs.declared.Gauge.{Gauge}
 use Rattle.gauge.specs.declared.Health.the-variants.{Steady, Late}
@@ -23,9 +22,12 @@ use Rattle.gauge.specs.Gauge.{clearedOf}
 use Rattle.element.specs.Element.{freshElement}
 use Rattle.connection.specs.declared.Inbound.{Inbound}
 use Rattle.connection.specs.declared.Outbound.{Outbound}
+use Rattle.connection.specs.declared.RToken.{RToken}
+use Rattle.connection.specs.declared.Remote.{Remote}
+use Rattle.connection.specs.declared.Placing.{Placing}
 use Rattle.connection.specs.declared.Record.{Record}
 use Rattle.connection.specs.declared.Opening.{Opening}
-use Rattle.connection.specs.Connection.{zeroRecord, noMarks}
+use Rattle.connection.specs.Connection.{zeroRecord, zeroToken, noMarks}
 use Rattle.table.specs.Table.{gaugeAt}
 use Rattle.rules.specs.Rules.{Group, Request, send, place, read, shutdown, close, abort, openSlot, freeSlot, linkChange, linkMessage, sample, Call, on, hear, manage, Says, refusal, accepted, sent, wasRead, torn, reset, heard, sampled, Answer, answer, next, recordOf}
 
@@ -53,16 +55,27 @@ tokenA = 0x0A0B0C0D
 abbrev pub tokenB : ℕ
 tokenB = 0x01020304
 
--- an open record on link 1: its own token, the peer's, N', and the rest
-abbrev pub laid : ℕ → ℕ → ℕ → Inbound → Outbound → Marks → Record
-laid own peer size i o m =
+-- the peer's element: N', its index, and its memory on links 1 to 4
+abbrev pub reached : ℕ → ℕ → RToken → RToken → RToken → RToken → Remote
+reached size index a b c d = record { size = size; index = index; link1 = a; link2 = b; link3 = c; link4 = d }
+
+-- the first element of a memory that begins at 0 and has the key 0 on every link: an address there is an offset
+abbrev pub flat : ℕ → Remote
+flat size = reached size 1 zeroToken zeroToken zeroToken zeroToken
+
+-- an open record: its link, its own token, the peer's, the peer's element, and the rest; and on link 1, with N' alone
+abbrev pub laidOn : ℕ → ℕ → ℕ → Remote → Inbound → Outbound → Marks → Record
+laidOn link own peer r i o m =
     record {
-      id = record { opened = true; own = own; peer = peer; link = 1 };
-      remote = record { size = size };
+      id = record { opened = true; own = own; peer = peer; link = link };
+      remote = r;
       inbound = i;
       outbound = o;
       marks = m;
     }
+
+abbrev pub laid : ℕ → ℕ → ℕ → Inbound → Outbound → Marks → Record
+laid own peer size i o m = laidOn 1 own peer (flat size) i o m
 
 abbrev pub aGroup : ℕ → ℕ → List Record → List ℕ → Group
 aGroup s n table memory =
@@ -80,9 +93,12 @@ hostB n p c t = aGroup 1 n (laid tokenB tokenA n (inwards p c t) (outwards start
 abbrev pub bytes : ℕ → List ℕ
 bytes k = replicate k 0
 
--- a placing of k bytes, the first of which is byte `start` of those offered
+-- a placing of k bytes, the first of which is byte `start` of those offered: its key and address, and in a flat memory
+abbrev pub placingAt : ℕ → ℕ → ℕ → ℕ → Placing
+placingAt key address start k = record { key = key; address = address; start = start; len = k }
+
 abbrev pub placing : ℕ → ℕ → ℕ → Placing
-placing offset start k = record { offset = offset; start = start; len = k }
+placing offset start k = placingAt 0 offset start k
 
 -- the k bytes of a number, high byte first
 abbrev pub octets : ℕ → ℕ → List ℕ
@@ -182,7 +198,7 @@ freshGroup n =
     record { S = 1; N = n; table = zeroRecord ∷ []; links = replicate 4 false; gauges = replicate 4 clearedOf; memory = replicate n 0 }
 
 abbrev pub given : ℕ → ℕ → ℕ → Opening
-given own peer size = record { own = own; peer = peer; link = 1; remote = record { size = size } }
+given own peer size = record { own = own; peer = peer; link = 1; remote = flat size }
 
 abbrev pub upAndOpen : ℕ → ℕ → ℕ → List Line
 upAndOpen own peer size =
@@ -266,6 +282,24 @@ toB s l = told (0xFE2C_0000_01020304_0000_0000_00000004_0000_0000_00000004_0000 
 abbrev pub begins : ℕ → ℕ → Call
 begins first second = manage (linkMessage 1 (first ∷ second ∷ replicate 42 0))
 
+-- a memory's key and its base; element 3 of one with others on each link
+abbrev pub token : ℕ → ℕ → RToken
+token key base = record { key = key; base = base }
+
+abbrev pub far : Remote
+far = reached 8 3 (token 0xC1 0x1000) (token 0xC2 0x123456789ABC0000) (token 0xC3 0x3000) (token 0xFFFFFFFF 0x4000)
+
+-- slot 1 opened on link 1, N' 8, with an index, and its base on link 1 and on link 4
+abbrev pub edge : ℕ → ℕ → ℕ → Remote
+edge index own other = reached 8 index (token 7 own) zeroToken zeroToken (token 8 other)
+
+abbrev pub openEdge : ℕ → ℕ → ℕ → Call
+openEdge index own other = manage (openSlot 1 (record { own = tokenA; peer = tokenB; link = 1; remote = edge index own other }))
+
+-- a record with such an element
+abbrev pub onEdge : ℕ → ℕ → ℕ → Record
+onEdge index own other = laidOn 1 tokenA tokenB (edge index own other) (inwards start start start) (outwards start start) unmarked
+
 -- a double by its bits; a gauge; a group with such a gauge at link 1, which is active, and at link 3, which is down
 abbrev pub double : ℕ → Float
 double b = ofBits binary64 b
@@ -317,6 +351,31 @@ vectors =
     -- N' 8, room 4, Q (7,0), six bytes: n 4, placings 7 for 1 and 4 for 3, Q (7,1), B on
     ∷ leaves 8 (cur 7 0) (cur 7 0) (some 4)
     ∷ sends 8 (cur 7 0) (cur 7 0) 6 (sent 4 (placing 7 0 1 ∷ placing 4 1 3 ∷ [])) (cur 7 1) true
+    -- ADDRESSES (2026-09). Element 3 of 8 bytes, on link 2, N 12: the same placings, at base + 16
+    ∷ plays
+    (aGroup 1 12 (laidOn 2 tokenA tokenB far (inwards start start start) (outwards (cur 7 0) (cur 7 0)) unmarked ∷ []) (freshElement 12))
+    (gives (on 1 (send (bytes 6))) (sent 4 (placingAt 0xC2 0x123456789ABC0017 0 1 ∷ placingAt 0xC2 0x123456789ABC0014 1 3 ∷ []))
+    (told 0xFE2C_0001_01020304_0000_0001_00000007_0000_0000_00000004_8000)
+    ∷ [])
+    -- 12: an index outside 1 to 255; a last byte past the top of 64 bits, on the own link or on another. Up to the top it is sent
+    ∷ plays (freshGroup 8)
+    (gives (manage (linkChange 1 true)) accepted none
+    ∷ gives (openEdge 0 0 0) (refusal 12) none
+    ∷ gives (openEdge 256 0 0) (refusal 12) none
+    ∷ gives (openEdge 1 0xFFFFFFFF_FFFFFFF9 0) (refusal 12) none
+    ∷ gives (openEdge 1 0 0xFFFFFFFF_FFFFFFF9) (refusal 12) none
+    ∷ gives (openEdge 255 0 0xFFFFFFFF_FFFFF809) (refusal 12) none
+    ∷ gives (openEdge 255 0xFFFFFFFF_FFFFF808 0xFFFFFFFF_FFFFF808) accepted none
+    ∷ gives (on 1 (send (bytes 4))) (sent 4 (placingAt 7 0xFFFFFFFF_FFFFFFFC 0 4 ∷ []))
+    (told 0xFE2C_0001_01020304_0000_0001_00000004_0000_0000_00000004_0000)
+    ∷ [])
+    -- and 3, of a record laid so
+    ∷ plays (aGroup 1 8 (onEdge 1 0xFFFFFFFF_FFFFFFF8 0xFFFFFFFF_FFFFFFF8 ∷ []) (freshElement 8))
+    (gives (on 1 (send [])) (sent 0 []) none ∷ [])
+    ∷ plays (aGroup 1 8 (onEdge 0 0 0 ∷ []) (freshElement 8)) (gives (on 1 (send [])) (refusal 3) none ∷ [])
+    ∷ plays (aGroup 1 8 (onEdge 256 0 0 ∷ []) (freshElement 8)) (gives (on 1 (send [])) (refusal 3) none ∷ [])
+    ∷ plays (aGroup 1 8 (onEdge 1 0xFFFFFFFF_FFFFFFF9 0 ∷ []) (freshElement 8)) (gives (on 1 (send [])) (refusal 3) none ∷ [])
+    ∷ plays (aGroup 1 8 (onEdge 1 0 0xFFFFFFFF_FFFFFFF9 ∷ []) (freshElement 8)) (gives (on 1 (send [])) (refusal 3) none ∷ [])
     -- SCENARIO 1. A sends 1,000 bytes: the page's whole example
     ∷ plays (freshGroup 10000)
     (upAndOpen tokenA tokenB 10000 ++ gives (on 1 (send (bytes 1000))) (sent 1000 (placing 4 0 1000 ∷ [])) (some wholeExample) ∷ [])

@@ -100,17 +100,24 @@ pub(super) fn count_answer(
             cells.hit_if(c.closed_sent, "abort: after C sent");
             cells.hit_if(c.closed_heard, "abort: after C heard");
         }
-        (Line::Open { slot, own, .. }, _) => {
+        (Line::Open { opening }, _) => {
+            let slot = opening.slot;
             cells.hit("open: answered");
-            cells.hit_if(*slot > 16, "open: slot above 16");
-            cells.hit_if(*slot == 255, "open: slot 255");
+            cells.hit_if(slot > 16, "open: slot above 16");
+            cells.hit_if(slot == 255, "open: slot 255");
             cells.hit_if(before.element_used, "open: element held bytes before");
-            let elsewhere = before
-                .table
-                .iter()
-                .enumerate()
-                .any(|(index, c)| index + 1 != *slot as usize && c.own_token == *own);
+            let elsewhere =
+                before.table.iter().enumerate().any(|(index, c)| {
+                    index + 1 != slot as usize && c.own_token == opening.own_token
+                });
             cells.hit_if(elsewhere, "open: token of a closed slot");
+            cells.hit_if(opening.index == 255, "open: index 255");
+            let bytes = u128::from(opening.index) * u128::from(opening.peer_size);
+            let top = |base: &u64| u128::from(*base) + bytes == 1 << 64;
+            cells.hit_if(
+                opening.bases.iter().any(top),
+                "open: last address of 64 bits",
+            );
         }
         (Line::Free { .. }, _) => cells.hit("free: answered"),
         (Line::Link { up, .. }, _) => cells.hit(if *up {
@@ -169,13 +176,35 @@ fn count_send(
         sent.taken == data_size(before.n_peer()),
         "send: whole D' at once",
     );
-    if let [placing] = sent.placings[..] {
-        let end = placing.offset + placing.length;
-        cells.hit_if(
-            end == before.n_peer(),
-            "send: one placing that ends the element",
-        );
+    let end_of = |placing: &Placing| {
+        let last = placing.address.wrapping_add(placing.length as u64 - 1);
+        last == address(before, before.n_peer() - 1)
+    };
+    if let [placing] = &sent.placings[..] {
+        cells.hit_if(end_of(placing), "send: one placing that ends the element");
     }
+    if sent.placings.is_empty() {
+        return;
+    }
+    let own = usize::from(before.link) - 1;
+    let (key, base) = (before.keys[own], before.bases[own]);
+    cells.hit_if(
+        base == 0 && before.index == 1,
+        "send: base 0 and index 1, the address is the offset",
+    );
+    cells.hit_if(before.index > 1, "send: index above 1");
+    cells.hit_if(before.index == 255, "send: index 255");
+    let top = sent.placings.iter().any(|placing| {
+        let last = placing.address.checked_add(placing.length as u64 - 1);
+        last == Some(u64::MAX)
+    });
+    cells.hit_if(top, "send: last address of 64 bits");
+    let others = (0..LINKS).filter(|&link| link != own);
+    let mut differ = others.map(|link| before.keys[link] != key && before.bases[link] != base);
+    cells.hit_if(
+        differ.all(|differs| differs),
+        "send: links with other keys and bases",
+    );
 }
 
 fn count_read(

@@ -45,6 +45,9 @@ impl Cells {
         for (clause, reason) in NOT_ALONE {
             cells.cannot(format!("refused 3: {clause}"), reason);
         }
+        for reason in BARRED_OPENINGS {
+            cells.can(format!("refused 12: {reason}"));
+        }
         for rule in HEAR_RULES {
             cells.can(format!("refused 8: {rule}"));
         }

@@ -93,8 +93,8 @@ pub(super) fn count(
             cells.hit_if(held && !up && !active, "link: down again clears a gauge");
             cells.hit_if(held && *up && kept, "link: up keeps a gauge");
         }
-        (Line::Open { link, .. }, Answer::Word(_)) => {
-            let gauge = &after.gauges[usize::from(*link) - 1];
+        (Line::Open { opening }, Answer::Word(_)) => {
+            let gauge = &after.gauges[usize::from(opening.link) - 1];
             cells.hit_if(*gauge != Gauge::default(), "open: gauge kept");
         }
         _ => {}

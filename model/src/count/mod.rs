@@ -104,9 +104,9 @@ fn count_call(cells: &mut Cells, replay: &mut Replay, line: &Line) {
     let holding = holding(group, line);
     let table = group.table.clone();
     let element_used = match line {
-        Line::Open { slot, .. } if !group.sizes_wrong() && !group.slot_outside(*slot) => {
+        Line::Open { opening } if !group.sizes_wrong() && !group.slot_outside(opening.slot) => {
             let n = group.size as usize;
-            let start = (*slot as usize - 1) * n;
+            let start = (opening.slot as usize - 1) * n;
             group.memory[start..start + n].iter().any(|&byte| byte != 0)
         }
         _ => false,

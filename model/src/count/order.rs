@@ -68,22 +68,16 @@ pub(super) fn holding(group: &Group, line: &Line) -> Vec<u8> {
                 hold(looked_at && cursor_rule_broken(c, &message, n), 8);
             }
         }
-        Line::Open {
-            slot,
-            own,
-            peer,
-            link,
-            size,
-        } => {
+        Line::Open { opening } => {
+            let slot = opening.slot;
             hold(group.sizes_wrong(), 1);
-            hold(group.slot_outside(*slot), 2);
-            let open = !group.slot_outside(*slot) && group.table[*slot as usize - 1].open;
+            hold(group.slot_outside(slot), 2);
+            let open = !group.slot_outside(slot) && group.table[slot as usize - 1].open;
             hold(open, 10);
-            let size_right = size_in_range(i64::from(*size));
-            hold(*own == 0 || *peer == 0 || !size_right, 12);
-            hold(!link_in_range(*link), 13);
-            hold(link_down(*link), 6);
-            hold(group.token_held_elsewhere(*own, *slot), 11);
+            hold(opening.barred(), 12);
+            hold(!link_in_range(opening.link), 13);
+            hold(link_down(opening.link), 6);
+            hold(group.token_held_elsewhere(opening.own_token, slot), 11);
         }
         Line::Link { link, .. } => hold(!link_in_range(*link), 13),
         Line::Sample { link, milliseconds } => return gauges::holding(group, *link, *milliseconds),

@@ -93,17 +93,50 @@ pub(super) fn count_refusal(
             let c = &before.table[*slot as usize - 1];
             count_barred(cells, c, i64::from(*offset), bytes.len() as i64, before.n);
         }
-        (11, Line::Open { own, .. }) => {
-            let last = before
-                .table
-                .get(254)
-                .is_some_and(|c| c.open && c.own_token == *own);
+        (11, Line::Open { opening }) => {
+            let holds = |c: &Connection| c.open && c.own_token == opening.own_token;
+            let last = before.table.get(254).is_some_and(holds);
             cells.hit_if(last, "open: refused 11, held in slot 255");
         }
+        (12, Line::Open { opening }) => count_barred_opening(cells, opening),
         (14, Line::LinkMsg { bytes, .. }) => {
             cells.hit(&format!("{word}: refused 14, kind {:02X}", bytes[0]));
         }
         _ => {}
+    }
+}
+
+/// Why an open is refused with 12: by one reason, or by several.
+fn count_barred_opening(cells: &mut Cells, opening: &Opening) {
+    let size = i64::from(opening.peer_size);
+    let own = usize::from(opening.link).wrapping_sub(1);
+    let past = |link: usize| {
+        let base = opening.bases[link];
+        past_the_top(opening.index, base, opening.peer_size)
+    };
+    let links = (0..LINKS).filter(|&link| past(link));
+    let past: Vec<usize> = links.collect();
+    let reasons = [
+        (opening.own_token == 0, "own token 0"),
+        (opening.peer_token == 0, "peer token 0"),
+        (size < MIN_SIZE, "N' below 8"),
+        (size > MAX_SIZE, "N' above 65,540"),
+        (opening.index == 0, "index 0"),
+        (opening.index > 255, "index above 255"),
+        (past.contains(&own), "past the top on the own link"),
+        (
+            past.iter().any(|&link| link != own),
+            "past the top on another link",
+        ),
+    ];
+    let on: Vec<&str> = reasons
+        .iter()
+        .filter(|(on, _)| *on)
+        .map(|(_, name)| *name)
+        .collect();
+    match on[..] {
+        [one] => cells.hit(&format!("refused 12: {one}")),
+        _ => cells.hit("refused 12: several reasons"),
     }
 }
 
@@ -146,6 +179,13 @@ fn count_coherence(cells: &mut Cells, c: &Connection, n: i64) {
     check(written < 0, "R to Q below zero");
     check(written > data_size(n_peer), "R to Q above D'");
     check(c.closed_sent && c.closed_heard, "both C");
+    check(c.index == 0, "index 0");
+    for link in 0..LINKS {
+        let past = past_the_top(u32::from(c.index), c.bases[link], c.peer_size);
+        let own = usize::from(c.link) == link + 1;
+        check(past && own, "past the top on the own link");
+        check(past && !own, "past the top on another link");
+    }
     match broken[..] {
         [one] => cells.hit(&format!("refused 3: {one}")),
         _ => cells.hit("refused 3: several clauses"),

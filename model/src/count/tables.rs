@@ -132,7 +132,23 @@ pub(super) const COHERENCE: &[&str] = &[
     "R to Q below zero",
     "R to Q above D'",
     "both C",
+    "index 0",
+    "past the top on the own link",
+    "past the top on another link",
     "several clauses",
+];
+
+/// Why an open is refused with 12.
+pub(super) const BARRED_OPENINGS: &[&str] = &[
+    "own token 0",
+    "peer token 0",
+    "N' below 8",
+    "N' above 65,540",
+    "index 0",
+    "index above 255",
+    "past the top on the own link",
+    "past the top on another link",
+    "several reasons",
 ];
 
 pub(super) const HEAR_RULES: &[&str] = &[
@@ -182,6 +198,13 @@ pub(super) const FURTHER: &[&str] = &[
     "send: Q passes the end",
     "send: Q's wrap goes from 65,535 to 0",
     "send: whole D' at once",
+    "send: base 0 and index 1, the address is the offset",
+    "send: index above 1",
+    "send: index 255",
+    "send: last address of 64 bits",
+    "send: links with other keys and bases",
+    "open: last address of 64 bits",
+    "open: index 255",
     "place: bytes stored",
     "place: no bytes, offset inside",
     "place: no bytes, offset outside",

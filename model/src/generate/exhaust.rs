@@ -3,7 +3,7 @@
 //! 01, the examples of section 4.5.1, scenarios 1 to 4 of section 4.7, the pool,
 //! the gauges and the messages of set-up.
 
-use super::{gauges, message_of, pool, setup, List};
+use super::{gauges, message_of, offset_of, pool, setup, List};
 use crate::random::Random;
 use crate::replay::{set_marks, Answer};
 use crate::smcr::*;
@@ -37,6 +37,7 @@ fn resting(n: u32, own: u32, peer: u32, at: Cursor) -> Connection {
         peer_token: peer,
         link: 1,
         peer_size: n,
+        index: 1,
         peer_producer: at,
         consumer: at,
         told: at,
@@ -93,6 +94,19 @@ fn close_marks_heard(list: &mut List, random: &mut Random) {
         list.record(1, Connection::default());
         list.record(2, Connection::default());
     }
+    // R asks for a message while the C that closes the slot is heard.
+    let mut c = resting(12, token(random), token(random), cursor(5, 3));
+    set_marks(&mut c, 2);
+    c.peer_producer = cursor(7, 3);
+    c.consumer = cursor(7, 3);
+    list.record(1, c);
+    let message = Message {
+        closed: true,
+        update_requested: true,
+        ..message_to(&c)
+    };
+    list.hear(message.write().to_vec());
+    list.table();
 }
 
 /// The same rows before every call on a slot.
@@ -281,13 +295,30 @@ fn soundings(list: &mut List, random: &mut Random) {
         list.table();
     }
 
-    list.comment("N' 8, room 4, Q (7,0), six bytes");
+    list.comment("N' 8, room 4, Q (7,0), six bytes; at base 0, and elsewhere on each link");
     let mut c = resting(10_000, 5, 6, cursor(7, 0));
     c.peer_size = 8;
     list.record(1, c);
     list.send(1, random.bytes(6));
     list.table();
     list.send(1, random.bytes(1));
+    list.all_links_up();
+    for link in 1..=4 {
+        let c = Connection {
+            link,
+            index: *random.pick(&[1, 2, 3, 255]),
+            keys: [7, 0, u32::MAX, 0x0102_0304],
+            bases: [
+                4_096,
+                0x0001_0000_0000,
+                u64::MAX / 2,
+                u64::MAX - 255 * 8 + 1,
+            ],
+            ..c
+        };
+        list.record(1, c);
+        list.send(1, random.bytes(6));
+    }
 }
 
 /// Section 4.5.1's examples a, b and c, N 65,540.
@@ -313,13 +344,14 @@ fn window_examples(list: &mut List, random: &mut Random) {
 /// A send whose placings are performed at the other end and whose message is
 /// heard there.
 fn send_across(list: &mut List, from: u32, to: u32, bytes: &[u8]) -> i64 {
+    let c = list.replay.group.table[from as usize - 1];
     let Answer::Sent(sent) = list.send(from, bytes.to_vec()) else {
         return 0;
     };
     for placing in &sent.placings {
         let start = placing.start as usize;
         let part = bytes[start..start + placing.length as usize].to_vec();
-        list.place(to, placing.offset as u32, part);
+        list.place(to, offset_of(&c, placing), part);
     }
     if let Some(message) = sent.message {
         list.hear(message.to_vec());
@@ -335,11 +367,25 @@ fn read_back(list: &mut List, slot: u32, room: usize) {
     }
 }
 
+/// Both elements lie in one memory, which has a key and a base on each link.
 fn two_hosts(list: &mut List) {
     list.group(2, 10_000);
     list.link(1, true);
-    list.open(1, 0x0A0A_0A0A, 0x0102_0304, 1, 10_000);
-    list.open(2, 0x0102_0304, 0x0A0A_0A0A, 1, 10_000);
+    for slot in [1, 2] {
+        let tokens = [0x0A0A_0A0A, 0x0102_0304];
+        list.opening(Opening {
+            index: 3 - slot,
+            keys: [0x1111_1111, 0x2222_2222, 0x3333_3333, 0x4444_4444],
+            bases: [0x7F00_0000_1000, 0, 4_096, u64::MAX - 19_999],
+            ..Opening::at_base_0(
+                slot,
+                tokens[slot as usize - 1],
+                tokens[2 - slot as usize],
+                1,
+                10_000,
+            )
+        });
+    }
 }
 
 /// Host A is slot 1, host B slot 2.

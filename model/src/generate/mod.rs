@@ -96,14 +96,13 @@ impl List {
         self.add(Line::LinkMsg { link, bytes })
     }
 
+    /// An open of an element at base 0, where an address is the offset.
     pub fn open(&mut self, slot: u32, own: u32, peer: u32, link: u8, size: u32) -> Answer {
-        self.add(Line::Open {
-            slot,
-            own,
-            peer,
-            link,
-            size,
-        })
+        self.opening(Opening::at_base_0(slot, own, peer, link, size))
+    }
+
+    pub fn opening(&mut self, opening: Opening) -> Answer {
+        self.add(Line::Open { opening })
     }
 
     pub fn free(&mut self, slot: u32) -> Answer {
@@ -188,6 +187,11 @@ impl List {
             at += count;
         }
     }
+}
+
+/// The offset in the peer's element at which a placing of a connection begins.
+pub fn offset_of(c: &Connection, placing: &Placing) -> u32 {
+    placing.address.wrapping_sub(address(c, 0)) as u32
 }
 
 /// The message that an answer carries, if any.

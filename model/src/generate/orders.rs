@@ -91,6 +91,9 @@ fn lay_closed_records(random: &mut Random, list: &mut List) {
         record.peer_token = random.draw() as u32;
         record.link = random.draw() as u8;
         record.peer_size = random.draw() as u32;
+        record.index = random.draw() as u8;
+        record.keys[0] = random.draw() as u32;
+        record.bases[3] = random.draw();
         record.next_sequence = random.draw() as u16;
         record.heard_sequence = random.draw() as u16;
         set_marks(&mut record, random.below(512) as u16);

@@ -25,7 +25,7 @@ struct End {
 /// What is on its way to an end.
 #[derive(Clone, Debug)]
 enum Flight {
-    Write { offset: u32, bytes: Vec<u8> },
+    Write { address: u64, bytes: Vec<u8> },
     Message(Bytes44),
 }
 
@@ -51,9 +51,38 @@ pub struct Habits {
     pub beside: bool,
 }
 
+/// A group's memory as the other group's card knows it: a key and a base for
+/// each link. Slot k is element k.
+#[derive(Clone, Copy, Debug)]
+struct Registered {
+    keys: [u32; LINKS],
+    bases: [u64; LINKS],
+}
+
+impl Registered {
+    fn new(random: &mut Random, length: u64) -> Registered {
+        let mut registered = Registered {
+            keys: [0; LINKS],
+            bases: [0; LINKS],
+        };
+        for link in 0..LINKS {
+            registered.keys[link] = random.draw() as u32 >> random.below(32);
+            registered.bases[link] = match random.below(4) {
+                0 => 0,
+                1 => u64::MAX - length + 1,
+                2 => random.draw() >> 17 << 12,
+                _ => random.below(1_000_000),
+            };
+        }
+        registered
+    }
+}
+
 pub struct World {
     pub list: List,
     far: Replay,
+    /// The memory of the group, and that of the far one.
+    registered: [Registered; 2],
     pairs: Vec<Pair>,
     random: Random,
     habits: Habits,
@@ -102,9 +131,12 @@ impl World {
         far.group = Group::fresh(elements, far_size, slots * far_size as usize, slots);
         far.group.links = [true; 4];
         let next_token = random.between(1, 1_000_000_000) as u32;
+        let registered =
+            [size, far_size].map(|size| Registered::new(&mut random, u64::from(elements * size)));
         let mut world = World {
             list,
             far,
+            registered,
             pairs: Vec::new(),
             random,
             habits,
@@ -244,15 +276,19 @@ impl World {
         let ends = self.pairs[which].ends;
         let link = self.random.between(1, 4) as u8;
         for side in 0..2 {
-            let size = self.group_of(ends[1 - side]).size;
-            let line = Line::Open {
+            let peer = ends[1 - side];
+            let Registered { keys, bases } = self.registered[usize::from(peer.far)];
+            let opening = Opening {
                 slot: ends[side].slot,
-                own: tokens[side],
-                peer: tokens[1 - side],
+                own_token: tokens[side],
+                peer_token: tokens[1 - side],
                 link,
-                size,
+                peer_size: self.group_of(peer).size,
+                index: peer.slot,
+                keys,
+                bases,
             };
-            self.call(ends[side], line);
+            self.call(ends[side], Line::Open { opening });
         }
         self.pairs[which].flights = [VecDeque::new(), VecDeque::new()];
         self.pairs[which].last_heard = [None, None];
@@ -332,7 +368,7 @@ impl World {
             for placing in &sent.placings {
                 let start = placing.start as usize;
                 flights.push_back(Flight::Write {
-                    offset: placing.offset as u32,
+                    address: placing.address,
                     bytes: bytes[start..start + placing.length as usize].to_vec(),
                 });
             }
@@ -352,10 +388,10 @@ impl World {
                 return;
             };
             let (answer, is_message) = match &flight {
-                Flight::Write { offset, bytes } => {
+                Flight::Write { address, bytes } => {
                     let line = Line::Place {
                         slot: end.slot,
-                        offset: *offset,
+                        offset: self.offset_at(end, *address),
                         bytes: bytes.clone(),
                     };
                     (self.call_at(which, side, line), false)
@@ -374,6 +410,14 @@ impl World {
                 messages -= 1;
             }
         }
+    }
+
+    /// Where in an end's element an address of its memory lies.
+    fn offset_at(&self, end: End, address: u64) -> u32 {
+        let link = self.record_of(end).link.max(1);
+        let base = self.registered[usize::from(end.far)].bases[usize::from(link) - 1];
+        let element = u64::from(end.slot - 1) * u64::from(self.group_of(end).size);
+        address.wrapping_sub(base).wrapping_sub(element) as u32
     }
 
     /// A message heard a second time, out of step now unless it is an abort.

@@ -17,11 +17,7 @@ pub enum Line {
         records: Option<usize>,
     },
     Open {
-        slot: u32,
-        own: u32,
-        peer: u32,
-        link: u8,
-        size: u32,
+        opening: Opening,
     },
     Free {
         slot: u32,

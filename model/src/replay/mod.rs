@@ -67,13 +67,7 @@ impl Replay {
                 *group = Group::fresh(*elements, *size, *length, records);
                 Answer::Word("group")
             }
-            Line::Open {
-                slot,
-                own,
-                peer,
-                link,
-                size,
-            } => done("open", group.open(*slot, *own, *peer, *link, *size)),
+            Line::Open { opening } => done("open", group.open(opening)),
             Line::Free { slot } => done("free", group.free(*slot)),
             Line::Link { link, up } => done("link", group.link_change(*link, *up)),
             Line::LinkMsg { link, bytes } => {

@@ -106,7 +106,7 @@ fn gauged_link(word: &[u8]) -> Result<u8, BadLine> {
 /// The first words, and how many words a line may have, the first included.
 const WORDS: &[(&str, &[usize])] = &[
     ("group", &[4, 5]),
-    ("open", &[6]),
+    ("open", &[15]),
     ("free", &[2]),
     ("link", &[3]),
     ("linkmsg", &[3]),
@@ -117,7 +117,7 @@ const WORDS: &[(&str, &[usize])] = &[
     ("shutdown", &[2]),
     ("close", &[2]),
     ("abort", &[2]),
-    ("record", &[20]),
+    ("record", &[29]),
     ("poke", &[3]),
     ("table", &[1]),
     ("memory", &[3]),
@@ -159,11 +159,7 @@ impl Replay {
                 },
             },
             b"open" => Line::Open {
-                slot: number32(words[1])?,
-                own: number32(words[2])?,
-                peer: number32(words[3])?,
-                link: number8(words[4])?,
-                size: number32(words[5])?,
+                opening: parse_opening(&words)?,
             },
             b"free" => Line::Free {
                 slot: number32(words[1])?,
@@ -285,7 +281,8 @@ fn prefixes(word: &[u8]) -> Result<[Prefix; MAX_PREFIXES], BadLine> {
 }
 
 fn parse_settings(words: &[&[u8]]) -> Result<Settings, BadLine> {
-    let mut settings = Settings {
+    let (peer_keys, peer_bases) = keys_and_bases(&words[18..])?;
+    Ok(Settings {
         size: number32(words[1])?,
         peer_id: hex_of(words[2])?,
         gid: hex_of(words[3])?,
@@ -303,13 +300,34 @@ fn parse_settings(words: &[&[u8]]) -> Result<Settings, BadLine> {
         slot: number8(words[15])?,
         own_token: number32(words[16])?,
         link: number8(words[17])?,
-        ..Settings::default()
-    };
+        peer_keys,
+        peer_bases,
+    })
+}
+
+/// A key and a base for each link, from a word on.
+fn keys_and_bases(words: &[&[u8]]) -> Result<([u32; LINKS], [u64; LINKS]), BadLine> {
+    let mut keys = [0; LINKS];
+    let mut bases = [0; LINKS];
     for link in 0..LINKS {
-        settings.peer_keys[link] = number32(words[18 + 2 * link])?;
-        settings.peer_bases[link] = number64(words[19 + 2 * link])?;
+        keys[link] = number32(words[2 * link])?;
+        bases[link] = number64(words[2 * link + 1])?;
     }
-    Ok(settings)
+    Ok((keys, bases))
+}
+
+fn parse_opening(words: &[&[u8]]) -> Result<Opening, BadLine> {
+    let (keys, bases) = keys_and_bases(&words[7..])?;
+    Ok(Opening {
+        slot: number32(words[1])?,
+        own_token: number32(words[2])?,
+        peer_token: number32(words[3])?,
+        link: number8(words[4])?,
+        peer_size: number32(words[5])?,
+        index: number32(words[6])?,
+        keys,
+        bases,
+    })
 }
 
 fn parse_record(words: &[&[u8]], records: usize) -> Result<Line, BadLine> {
@@ -320,7 +338,11 @@ fn parse_record(words: &[&[u8]], records: usize) -> Result<Line, BadLine> {
     let cursor_at = |at: usize| -> Result<Cursor, BadLine> {
         Ok(cursor(number32(words[at])?, number16(words[at + 1])?))
     };
+    let (keys, bases) = keys_and_bases(&words[21..])?;
     let mut record = Connection {
+        index: number8(words[20])?,
+        keys,
+        bases,
         open: zero_or_one(words[2])?,
         own_token: number32(words[3])?,
         peer_token: number32(words[4])?,

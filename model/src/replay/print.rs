@@ -4,7 +4,7 @@ use super::parse::marks;
 use super::{Answer, Line, Replay};
 use crate::clc::{Clc, Ends, NoMessage, Prefix};
 use crate::gauge::{Gauge, Health};
-use crate::setup::{OpenArguments, SetUp, Settings};
+use crate::setup::{SetUp, Settings};
 use crate::smcr::*;
 
 const DIGITS: &[u8; 16] = b"0123456789ABCDEF";
@@ -39,28 +39,56 @@ fn push(out: &mut Vec<u8>, text: &str) {
 
 fn push_record(out: &mut Vec<u8>, c: &Connection) {
     let fields = [
-        u32::from(c.open),
-        c.own_token,
-        c.peer_token,
-        u32::from(c.link),
-        c.peer_size,
-        c.peer_producer.offset,
-        u32::from(c.peer_producer.wrap),
-        c.consumer.offset,
-        u32::from(c.consumer.wrap),
-        c.told.offset,
-        u32::from(c.told.wrap),
-        c.producer.offset,
-        u32::from(c.producer.wrap),
-        c.peer_consumer.offset,
-        u32::from(c.peer_consumer.wrap),
-        u32::from(c.next_sequence),
-        u32::from(c.heard_sequence),
-        u32::from(marks(c)),
+        u64::from(c.open),
+        u64::from(c.own_token),
+        u64::from(c.peer_token),
+        u64::from(c.link),
+        u64::from(c.peer_size),
+        u64::from(c.peer_producer.offset),
+        u64::from(c.peer_producer.wrap),
+        u64::from(c.consumer.offset),
+        u64::from(c.consumer.wrap),
+        u64::from(c.told.offset),
+        u64::from(c.told.wrap),
+        u64::from(c.producer.offset),
+        u64::from(c.producer.wrap),
+        u64::from(c.peer_consumer.offset),
+        u64::from(c.peer_consumer.wrap),
+        u64::from(c.next_sequence),
+        u64::from(c.heard_sequence),
+        u64::from(marks(c)),
+        u64::from(c.index),
     ];
-    for field in fields {
-        push(out, &format!(" {field}"));
+    push_words(out, &fields);
+    push_words(out, &keys_and_bases(&c.keys, &c.bases));
+}
+
+fn push_words(out: &mut Vec<u8>, numbers: &[u64]) {
+    for number in numbers {
+        push(out, &format!(" {number}"));
     }
+}
+
+/// A key and a base for each link, in turn.
+fn keys_and_bases(keys: &[u32; LINKS], bases: &[u64; LINKS]) -> Vec<u64> {
+    let pairs = keys.iter().zip(bases);
+    pairs
+        .flat_map(|(key, base)| [u64::from(*key), *base])
+        .collect()
+}
+
+/// The fourteen numbers of an `open` line.
+fn opening_numbers(opening: &Opening) -> Vec<u64> {
+    let mut numbers = vec![
+        u64::from(opening.slot),
+        u64::from(opening.own_token),
+        u64::from(opening.peer_token),
+        u64::from(opening.link),
+        u64::from(opening.peer_size),
+        u64::from(opening.index),
+    ];
+    numbers.extend(keys_and_bases(&opening.keys, &opening.bases));
+    numbers
 }
 
 fn bits(double: f64) -> String {
@@ -92,7 +120,13 @@ fn push_set_up(out: &mut Vec<u8>, answer: &SetUp) {
     push_hex(out, answer.message.as_deref().unwrap_or(&[]));
     push(out, " open ");
     match &answer.open {
-        Some(open) => push_open(out, open),
+        Some(opening) => {
+            let words: Vec<String> = opening_numbers(opening)
+                .iter()
+                .map(u64::to_string)
+                .collect();
+            push(out, &words.join(","));
+        }
         None => out.push(b'-'),
     }
     push(out, " decline ");
@@ -100,22 +134,6 @@ fn push_set_up(out: &mut Vec<u8>, answer: &SetUp) {
         Some(diagnosis) => push(out, &diagnosis.to_string()),
         None => out.push(b'-'),
     }
-}
-
-fn push_open(out: &mut Vec<u8>, open: &OpenArguments) {
-    let mut numbers = vec![
-        u64::from(open.slot),
-        u64::from(open.own_token),
-        u64::from(open.peer_token),
-        u64::from(open.link),
-        u64::from(open.peer_size),
-        u64::from(open.index),
-    ];
-    for (key, base) in open.keys.iter().zip(open.bases) {
-        numbers.extend([u64::from(*key), base]);
-    }
-    let words: Vec<String> = numbers.iter().map(u64::to_string).collect();
-    push(out, &words.join(","));
 }
 
 /// "`clc none`, or `clc`, the kind, its fields in the table's order [...],
@@ -171,9 +189,7 @@ fn push_ends(out: &mut Vec<u8>, ends: &Ends, first_contact: Option<bool>) {
         ends.base,
         u64::from(ends.psn),
     ];
-    for number in numbers {
-        push(out, &format!(" {number}"));
-    }
+    push_words(out, &numbers);
 }
 
 fn prefix_bytes(prefixes: &[Prefix]) -> Vec<u8> {
@@ -213,12 +229,11 @@ fn push_settings(out: &mut Vec<u8>, settings: &Settings) {
         u64::from(settings.own_token),
         u64::from(settings.link),
     ];
-    for number in numbers {
-        push(out, &format!(" {number}"));
-    }
-    for (key, base) in settings.peer_keys.iter().zip(settings.peer_bases) {
-        push(out, &format!(" {key} {base}"));
-    }
+    push_words(out, &numbers);
+    push_words(
+        out,
+        &keys_and_bases(&settings.peer_keys, &settings.peer_bases),
+    );
 }
 
 impl Replay {
@@ -244,7 +259,10 @@ impl Replay {
                     }
                     push(
                         out,
-                        &format!("{},{},{}", placing.offset, placing.start, placing.length),
+                        &format!(
+                            "{},{},{},{}",
+                            placing.key, placing.address, placing.start, placing.length
+                        ),
                     );
                 }
                 push(out, " message ");
@@ -324,13 +342,10 @@ pub fn print_line(out: &mut Vec<u8>, line: &Line) {
                 push(out, &format!(" {records}"));
             }
         }
-        Line::Open {
-            slot,
-            own,
-            peer,
-            link,
-            size,
-        } => push(out, &format!("open {slot} {own} {peer} {link} {size}")),
+        Line::Open { opening } => {
+            push(out, "open");
+            push_words(out, &opening_numbers(opening));
+        }
         Line::Free { slot } => push(out, &format!("free {slot}")),
         Line::Link { link, up } => push(out, &format!("link {link} {}", u8::from(*up))),
         Line::LinkMsg { link, bytes } => {

@@ -1,4 +1,4 @@
--- `lines::open_line` is safe and ends: five numbers and the rest of the line leave fewer bytes to come. Assumes nothing.
+-- `lines::open_line` is safe and ends: its numbers and the rest of the line leave fewer bytes to come. Assumes nothing.
 use native.Mathlib.Omega.{arith}
 use borrow.Author.Needs.{needs}
 use Rattle.lines.proofs.open_line.Statement.{statement}
@@ -19,14 +19,33 @@ number-requires-4 c κs = search needs
 number-requires-5 : tie.Need-number-requires-5
 number-requires-5 c κs = search needs
 
-cast-t16 : tie.Need-cast-t16
-cast-t16 c = search needs
+remote-requires : tie.Need-remote-requires
+remote-requires c κs = search needs
+
+cast-t18 : tie.Need-cast-t18
+cast-t18 c = search needs
 
 ended-requires : tie.Need-ended-requires
 ended-requires c κs = search needs
 
 returns : tie.Need-returns
-returns c = omega (arith, c .before .before .before .before .before .before .before)
+returns c =
+    let r = c .before .before .before .before in
+    let e = r .before .before in
+    let d = e .before .before in
+    let l = d .before .before in
+    let b = l .before .before in
+    let a = b .before .before in
+    omega (
+      arith,
+      a .number .ensures .0,
+      b .number2 .ensures .0,
+      l .number3 .ensures .0,
+      d .number4 .ensures .0,
+      e .number5 .ensures .0,
+      r .remote .ensures,
+      c .ended .ensures,
+    )
 
 pub open-line-spec : {M : Type 1} → statement M
 open-line-spec =
@@ -37,6 +56,7 @@ open-line-spec =
     number-requires-3
     number-requires-4
     number-requires-5
-    cast-t16
+    remote-requires
+    cast-t18
     ended-requires
     returns)

@@ -1,7 +1,9 @@
 -- `transmit::send` meets its contract. Assumes nothing.
+use mathlib.Core.Path.{sym, _∙_}
 use borrow.Author.Tests.{eq-eqb, ne-eqb}
 use borrow.Author.Needs.{needs}
 use Rattle.transmit.specs.Transmit.{sendOf}
+use Rattle.transmit.proofs.Laws.{sent-may}
 use Rattle.transmit.proofs.send.Statement.{statement}
 use Rattle.transmit.proofs.send.Tie as tie
 
@@ -39,7 +41,11 @@ returns-2 c =
     )
 
 sent-requires : tie.Need-sent-requires
-sent-requires c κs = search needs
+sent-requires c κs =
+    let e = c .before in
+    let r = e .before in
+    let a = r .before .before .args in
+    sent-may (a .n) (a .active) (a .rec) _ (sym (r .refusal .ensures) ∙ e .if1 .left)
 
 returns-3 : tie.Need-returns-3
 unfolding sendOf

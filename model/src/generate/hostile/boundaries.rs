@@ -2,7 +2,7 @@
 //! turns, and any marks at all.
 
 use super::calls::{allowing_marks, SlotCall, SLOT_CALLS};
-use super::records::{step_back, step_far, with_marks};
+use super::records::{highest_base, step_back, step_far, with_marks};
 use super::Bench;
 use crate::replay::set_marks;
 use crate::smcr::*;
@@ -178,6 +178,7 @@ impl Bench {
         for _ in 0..30 {
             let mut c = self.coherent_record(16);
             c.peer_size = *self.random.pick(&[8, 8, 9, 20, 40]);
+            self.somewhere(&mut c);
             let n = c.n_peer();
             c.peer_consumer = self.any_cursor(n);
             let written = self.part(data_size(n));
@@ -201,6 +202,61 @@ impl Bench {
                 }
             }
         }
+    }
+
+    /// Elements in reach and just out of it, on the own link and on another, by
+    /// open and by a record.
+    pub(super) fn addresses(&mut self) {
+        let (_, size) = self.small_group(true);
+        let n = i64::from(size);
+        self.list.all_links_up();
+        for index in [0, 1, 2, 255, 256, 257, 0x0001_0001, u32::MAX] {
+            for peer_size in [8, 23, 65_540] {
+                let own_link = self.random.between(1, 4) as u8;
+                let other = own_link % 4 + 1;
+                let near = if (1..=255).contains(&index) {
+                    highest_base(index, peer_size)
+                } else {
+                    0
+                };
+                for (link, base) in [
+                    (own_link, 0),
+                    (own_link, near / 2),
+                    (own_link, near),
+                    (own_link, near.saturating_add(1)),
+                    (own_link, u64::MAX),
+                    (other, near),
+                    (other, near.saturating_add(1)),
+                    (other, u64::MAX - 3),
+                ] {
+                    let mut opening = Opening {
+                        index,
+                        keys: [1, 0, u32::MAX, self.random.draw() as u32],
+                        ..Opening::at_base_0(1, 5, 6, own_link, peer_size)
+                    };
+                    opening.bases[usize::from(link) - 1] = base;
+                    self.list.record(1, Connection::default());
+                    self.list.opening(opening);
+                    if index <= 255 {
+                        // The same in a record, with Q close to the element's end.
+                        let at = cursor(peer_size - 1, 7);
+                        let mut c = self.coherent_record(n);
+                        c.link = own_link;
+                        c.peer_size = peer_size;
+                        c.index = index as u8;
+                        c.keys = opening.keys;
+                        c.bases = opening.bases;
+                        c.producer = at;
+                        c.peer_consumer = at;
+                        self.list.record(1, with_marks(c, 0));
+                    }
+                    self.list.send(1, vec![1, 2, 3]);
+                    self.list.send(1, vec![4]);
+                }
+                self.look();
+            }
+        }
+        self.list.table();
     }
 
     /// Windows around half of D, gains around a tenth of D.

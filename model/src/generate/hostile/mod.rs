@@ -51,6 +51,7 @@ pub fn list(seed: u64, count: Option<usize>) -> Vec<u8> {
         Bench::hear_boundaries,
         Bench::place_boundaries,
         Bench::send_boundaries,
+        Bench::addresses,
         Bench::read_boundaries,
         Bench::close_boundaries,
         Bench::full_turns,

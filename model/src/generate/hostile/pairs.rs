@@ -2,7 +2,7 @@
 //! at once.
 
 use super::calls::{allowing_marks, forbidding_marks, SlotCall, SLOT_CALLS};
-use super::records::with_marks;
+use super::records::{highest_base, with_marks};
 use super::Bench;
 use crate::smcr::*;
 
@@ -155,9 +155,9 @@ impl Bench {
         let (elements, size) = self.small_group(!has(1));
         let n = i64::from(size);
         let mut slot = self.any_slot(elements);
-        let mut own = self.random.between(1, 0xFFFF_FFFF) as u32;
-        let mut peer = self.random.between(1, 0xFFFF_FFFF) as u32;
-        let mut peer_size = *self.random.pick(&[8, 9, 16, 65_540, size]);
+        let own = self.random.between(1, 0xFFFF_FFFF) as u32;
+        let peer = self.random.between(1, 0xFFFF_FFFF) as u32;
+        let peer_size = *self.random.pick(&[8, 9, 16, 65_540, size]);
         let mut link = self.random.between(1, 4) as u8;
         self.links_around(link, !has(6), 2);
         if has(10) {
@@ -172,16 +172,6 @@ impl Bench {
         } else if self.random.chance(1, 2) {
             let junk = self.junk_record(own);
             self.list.record(slot as usize, junk);
-        }
-        if has(12) {
-            match self.random.below(6) {
-                0 => own = 0,
-                1 => peer = 0,
-                2 => peer_size = 7,
-                3 => peer_size = 65_541,
-                4 => peer_size = 0,
-                _ => peer_size = u32::MAX,
-            }
         }
         if has(11) {
             let other = if slot == elements { 1 } else { slot + 1 };
@@ -202,11 +192,51 @@ impl Bench {
         let length = self.list.replay.group.memory.len();
         let bytes = self.random.bytes(length.min(200));
         self.list.poke(0, bytes);
-        self.list.open(slot, own, peer, link, peer_size);
+        let mut opening = Opening::at_base_0(slot, own, peer, link, peer_size);
+        if self.random.chance(1, 2) {
+            self.open_somewhere(&mut opening);
+        }
+        if has(12) {
+            self.spoil_opening(&mut opening, has(11));
+        }
+        self.list.opening(opening);
         if self.random.chance(1, 6) {
             self.list.whole_memory();
         }
         self.look();
+    }
+
+    /// Puts the peer's element somewhere in reach.
+    fn open_somewhere(&mut self, opening: &mut Opening) {
+        let mut c = Connection {
+            peer_size: opening.peer_size,
+            ..Connection::default()
+        };
+        self.somewhere(&mut c);
+        opening.index = u32::from(c.index);
+        opening.keys = c.keys;
+        opening.bases = c.bases;
+    }
+
+    /// A reason for 12; the own token is kept where 11 is to hold too.
+    fn spoil_opening(&mut self, opening: &mut Opening, own_kept: bool) {
+        match self.random.below(12) {
+            0 if !own_kept => opening.own_token = 0,
+            0 | 1 => opening.peer_token = 0,
+            2 => opening.peer_size = 7,
+            3 => opening.peer_size = 65_541,
+            4 => opening.peer_size = 0,
+            5 => opening.peer_size = u32::MAX,
+            6 => opening.index = 0,
+            7 => opening.index = 256,
+            8 => opening.index = *self.random.pick(&[257, 65_537, u32::MAX]),
+            _ => {
+                let highest = highest_base(opening.index, opening.peer_size);
+                let more = *self.random.pick(&[1, 1, 4, u64::MAX - highest]);
+                let link = self.random.below(4) as usize;
+                opening.bases[link] = highest + more;
+            }
+        }
     }
 
     /// Pairs among 1, 2, 3 and 7.

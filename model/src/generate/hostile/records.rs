@@ -30,6 +30,12 @@ pub(super) fn step_far(mut from: Cursor, mut by: i64, size: i64) -> Cursor {
     from
 }
 
+/// The highest base at which an element is in reach: its last byte is the last
+/// of 64 bits.
+pub(super) fn highest_base(index: u32, peer_size: u32) -> u64 {
+    u64::MAX - u64::from(index) * u64::from(peer_size) + 1
+}
+
 /// The ways to break coherence, each clause alone where that can be.
 pub(super) fn broken_records(base: &Connection, n: i64) -> Vec<Connection> {
     let d = data_size(n);
@@ -114,6 +120,13 @@ pub(super) fn broken_records(base: &Connection, n: i64) -> Vec<Connection> {
     for link in [0, 5, 255] {
         all.push(Connection { link, ..*base });
     }
+    // The element out of reach: no index, or past the top on one link.
+    all.push(Connection { index: 0, ..*base });
+    for link in 0..LINKS {
+        let mut bases = base.bases;
+        bases[link] = highest_base(u32::from(base.index), base.peer_size) + 1;
+        all.push(Connection { bases, ..*base });
+    }
     // N' out of range, with offsets and distance that would suit it.
     for peer_size in [0, 7, 65_541, u32::MAX] {
         let start = at(4, 0);
@@ -121,6 +134,7 @@ pub(super) fn broken_records(base: &Connection, n: i64) -> Vec<Connection> {
             peer_size,
             producer: start,
             peer_consumer: start,
+            bases: [0; LINKS],
             ..*base
         });
     }
@@ -191,6 +205,7 @@ impl Bench {
             peer_token: self.random.between(1, 0xFFFF_FFFF) as u32,
             link: self.random.between(1, 4) as u8,
             peer_size: peer_size as u32,
+            index: 1,
             peer_producer,
             consumer,
             told,
@@ -201,7 +216,25 @@ impl Bench {
             ..Connection::default()
         };
         set_marks(&mut record, (self.random.below(8) * 64) as u16);
+        if self.random.chance(1, 3) {
+            self.somewhere(&mut record);
+        }
         record
+    }
+
+    /// Puts the peer's element somewhere in reach on every link, often at an end.
+    pub(super) fn somewhere(&mut self, c: &mut Connection) {
+        c.index = *self.random.pick(&[1, 2, 17, 254, 255]);
+        for link in 0..LINKS {
+            c.keys[link] = self.random.draw() as u32 >> self.random.below(32);
+            let highest = highest_base(u32::from(c.index), c.peer_size);
+            c.bases[link] = match self.random.below(5) {
+                0 => 0,
+                1 => highest,
+                2 => self.random.draw() % highest,
+                _ => self.random.below(1_000_000),
+            };
+        }
     }
 
     /// A closed record that holds anything.

@@ -1,4 +1,4 @@
--- `records::read::record` is safe and ends: nineteen numbers leave no more bytes to come, and the slot is at most 300. Assumes nothing.
+-- `records::read::record` is safe and ends: its numbers leave no more bytes to come, and the slot is at most 300. Assumes nothing.
 use borrow.Author.Needs.{needs}
 use native.Mathlib.Omega.{arith}
 use Rattle.records.proofs.read.record.Statement.{statement}
@@ -22,6 +22,9 @@ number-requires-3 c κs = search needs
 number-requires-4 : tie.Need-number-requires-4
 number-requires-4 c κs = search needs
 
+remote-requires : tie.Need-remote-requires
+remote-requires c κs = search needs
+
 cast-record-of : tie.Need-cast-record-of
 cast-record-of c = search needs
 
@@ -31,11 +34,28 @@ cast-record-of-2 c = search needs
 record-of-requires : tie.Need-record-of-requires
 record-of-requires c κs = search needs
 
-cast-t19 : tie.Need-cast-t19
-cast-t19 c = search needs
+cast-t23 : tie.Need-cast-t23
+cast-t23 c = search needs
 
 returns : tie.Need-returns
-returns c = omega (arith, c .before .before, c .before .before .before .before .before .before, c .before .before .before .before .before .before .before .before .before .before)
+returns c =
+    let r = c .before .before .before .before .before .before .before in
+    let m = r .before .before in
+    let l = m .before .before in
+    let n = l .before .before in
+    let k = n .before .before in
+    let h = k .before .before in
+    let s = h .before .before in
+    omega (
+      arith,
+      s .number .ensures,
+      h .who-of .ensures,
+      k .cursors-of .ensures,
+      n .number2 .ensures .0,
+      l .number3 .ensures .0,
+      m .number4 .ensures .0,
+      r .remote .ensures,
+    )
 
 pub record-spec : {M : Type 1} → statement M
 record-spec =
@@ -47,8 +67,9 @@ record-spec =
     number-requires-2
     number-requires-3
     number-requires-4
+    remote-requires
     cast-record-of
     cast-record-of-2
     record-of-requires
-    cast-t19
+    cast-t23
     returns)

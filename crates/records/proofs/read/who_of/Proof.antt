@@ -19,11 +19,17 @@ number-requires-4 c κs = search needs
 number-requires-5 : tie.Need-number-requires-5
 number-requires-5 c κs = search needs
 
-cast-t17 : tie.Need-cast-t17
-cast-t17 c = search needs
+cast-t16 : tie.Need-cast-t16
+cast-t16 c = search needs
 
 returns : tie.Need-returns
-returns c = omega (arith, c .before .before .before .before .before .before .before)
+returns c =
+    let e = c .before .before .before in
+    let d = e .before .before in
+    let l = d .before .before in
+    let b = l .before .before in
+    let a = b .before .before in
+    omega (arith, a .number .ensures .0, b .number2 .ensures .0, l .number3 .ensures .0, d .number4 .ensures .0, e .number5 .ensures .0)
 
 pub who-of-spec : {M : Type 1} → statement M
 who-of-spec =
@@ -34,5 +40,5 @@ who-of-spec =
     number-requires-3
     number-requires-4
     number-requires-5
-    cast-t17
+    cast-t16
     returns)

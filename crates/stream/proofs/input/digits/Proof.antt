@@ -5,10 +5,10 @@ use Rattle.stream.proofs.input.digits.Statement.{statement}
 use Rattle.stream.proofs.input.digits.Tie as tie
 
 abbrev Inv-loop : tie.InvT-loop
-Inv-loop buf₀ scan₀ value₀ buf scan value = scan .left ≤ scan₀ .left
+Inv-loop buf₀ scan₀ sum₀ buf scan sum = scan .left ≤ scan₀ .left
 
 abbrev μ-loop : tie.MeasureT-loop
-μ-loop buf₀ scan₀ value₀ buf scan value = scan .left
+μ-loop buf₀ scan₀ sum₀ buf scan sum = scan .left
 
 loop-holds : tie.Need-loop-holds Inv-loop μ-loop
 loop-holds c = search needs

@@ -1,19 +1,19 @@
--- `flow::placings_of` meets its contract. Assumes nothing.
+-- `flow::stretches_of` meets its contract. Assumes nothing.
 use borrow.Author.Needs.{needs}
 use borrow.Author.Tests.{eq-eqb, ne-eqb}
-use Rattle.flow.specs.Flow.{placingsOf}
-use Rattle.flow.proofs.placings_of.Statement.{statement}
-use Rattle.flow.proofs.placings_of.Tie as tie
+use Rattle.flow.specs.Flow.{stretchesOf}
+use Rattle.flow.proofs.stretches_of.Statement.{statement}
+use Rattle.flow.proofs.stretches_of.Tie as tie
 
 first-part-requires : tie.Need-first-part-requires
 first-part-requires c κs = search needs
 
 returns : tie.Need-returns
-unfolding placingsOf
+unfolding stretchesOf
 returns c = simp (eq-eqb _ _ (c .if1 .taken))
 
 returns-2 : tie.Need-returns-2
-unfolding placingsOf
+unfolding stretchesOf
 returns-2 c =
     let b = c .before .before in
     simp (ne-eqb _ _ (c .before .if1 .left), ← (b .first-part .ensures .0), eq-eqb _ _ (c .if2 .taken))
@@ -22,10 +22,10 @@ sub-t8 : tie.Need-sub-t8
 sub-t8 c = search needs
 
 returns-3 : tie.Need-returns-3
-unfolding placingsOf
+unfolding stretchesOf
 returns-3 c =
     let b = c .before .before in
     simp (ne-eqb _ _ (c .before .if1 .left), ← (b .first-part .ensures .0), ne-eqb _ _ (c .if2 .left))
 
-pub placings-of-spec : {M : Type 1} → statement M
-placings-of-spec = tie.close (tie.spec first-part-requires returns returns-2 sub-t8 returns-3)
+pub stretches-of-spec : {M : Type 1} → statement M
+stretches-of-spec = tie.close (tie.spec first-part-requires returns returns-2 sub-t8 returns-3)
