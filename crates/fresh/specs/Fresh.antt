@@ -1,0 +1,24 @@
+-- A fresh group's tables, as the code makes them. Assumes nothing.
+use Prim.Native.Nat.{ℕ, _*_}
+use mathlib.Core.Path.{_≡_}
+use mathlib.Core.Bool.{true, false}
+use mathlib.Core.List.{List}
+use lib.ListN.{take, replicate}
+use Rattle.gauge.specs.Gauge.{clearedOf}
+use Rattle.connection.specs.declared.Record.{Record}
+use Rattle.connection.specs.Connection.{zeroRecord}
+use Rattle.table.specs.declared.Links.{Links}
+use Rattle.table.specs.Table.{mostSlots, sizesB}
+use Rattle.rules.specs.Rules.{groupOf, Fresh}
+
+-- every slot closed, all zeros
+unfoldable pub closedTable : List Record
+closedTable = replicate mostSlots zeroRecord
+
+-- every link down, every gauge cleared
+unfoldable pub downLinks : Links
+downLinks = record { active = replicate 4 false; gauges = replicate 4 clearedOf }
+
+-- for every S and N in range: with the first S records and any zeroed memory of S x N bytes, a fresh group
+abbrev pub FreshTables : List Record → Links → Type 0
+FreshTables t l = (s n : ℕ) → sizesB s n (s * n) s ≡ true → Fresh (groupOf s n (take s t) l (replicate (s * n) 0))
