@@ -1,11 +1,9 @@
 // A line of the input: a call with its numbers, one of the seven lines that are no calls, a line of the pool or one on setting up.
 ghost use Prim.Native.Nat.{_-_, _≤_};
-use calls::Request;
-use connection::Opening;
+use call_text::CallVerb;
 use connection::Record;
 use gauge::Gauge;
 use group::Command;
-use management::Management;
 use pool_text::PoolLine;
 use pool_text::PoolVerb;
 use records::read;
@@ -48,18 +46,7 @@ const MOST: u32 = 4294967295;
 
 enum Verb {
     Group,
-    Open,
-    Free,
-    Link,
-    LinkMessage,
-    Sample,
-    Send,
-    Place,
-    Read,
-    Hear,
-    Shutdown,
-    Close,
-    Abort,
+    Call(CallVerb),
     Record,
     Poke,
     Table,
@@ -128,25 +115,25 @@ fn call_verb(letters: &[u8; 8], count: usize) -> Verb
     requires { ⌜ count ≤ 8 ⌝ }
 {
     if is(letters, count, b"send") {
-        return Verb::Send;
+        return Verb::Call(CallVerb::Send);
     }
     if is(letters, count, b"place") {
-        return Verb::Place;
+        return Verb::Call(CallVerb::Place);
     }
     if is(letters, count, b"read") {
-        return Verb::Read;
+        return Verb::Call(CallVerb::Read);
     }
     if is(letters, count, b"hear") {
-        return Verb::Hear;
+        return Verb::Call(CallVerb::Hear);
     }
     if is(letters, count, b"shutdown") {
-        return Verb::Shutdown;
+        return Verb::Call(CallVerb::Shutdown);
     }
     if is(letters, count, b"close") {
-        return Verb::Close;
+        return Verb::Call(CallVerb::Close);
     }
     if is(letters, count, b"abort") {
-        return Verb::Abort;
+        return Verb::Call(CallVerb::Abort);
     }
     pool_verb(letters, count)
 }
@@ -156,19 +143,19 @@ fn management_verb(letters: &[u8; 8], count: usize) -> Verb
     requires { ⌜ count ≤ 8 ⌝ }
 {
     if is(letters, count, b"open") {
-        return Verb::Open;
+        return Verb::Call(CallVerb::Open);
     }
     if is(letters, count, b"free") {
-        return Verb::Free;
+        return Verb::Call(CallVerb::Free);
     }
     if is(letters, count, b"link") {
-        return Verb::Link;
+        return Verb::Call(CallVerb::Link);
     }
     if is(letters, count, b"linkmsg") {
-        return Verb::LinkMessage;
+        return Verb::Call(CallVerb::LinkMessage);
     }
     if is(letters, count, b"sample") {
-        return Verb::Sample;
+        return Verb::Call(CallVerb::Sample);
     }
     call_verb(letters, count)
 }
@@ -254,107 +241,6 @@ fn group_line(buf: &mut [u8; 65536], c: Scan) -> Parsed
     counted(buf, len.scan, s.value, n.value, len.value as usize)
 }
 
-// SLOT OWN PEER LINK SIZE, and the rest of what is fixed about the peer
-fn open_line(buf: &mut [u8; 65536], c: Scan) -> Parsed
-    ensures { λ r. ⌜ r .scan .left ≤ c .left - 1 ⌝ }
-{
-    let slot = input::number(buf, c, MOST);
-    let own = input::number(buf, slot.scan, MOST);
-    let peer = input::number(buf, own.scan, MOST);
-    let link = input::number(buf, peer.scan, 255);
-    let size = input::number(buf, link.scan, MOST);
-    let to = read::remote(buf, size.scan, size.value, MOST);
-    let remote = to.remote;
-    let given = Opening {
-        own: own.value,
-        peer: peer.value,
-        link: link.value as u8,
-        remote: remote,
-    };
-    let command = Command::Manage(Management::Open(slot.value, given));
-    ended(buf, to.scan, Line::Call(command, 0, 0))
-}
-
-fn link_line(buf: &mut [u8; 65536], c: Scan) -> Parsed
-    ensures { λ r. ⌜ r .scan .left ≤ c .left - 1 ⌝ }
-{
-    let link = input::number(buf, c, 255);
-    let up = input::number(buf, link.scan, 1);
-    let command = Command::Manage(Management::LinkChange(link.value as u8, up.value == 1));
-    ended(buf, up.scan, Line::Call(command, 0, 0))
-}
-
-fn linkmsg_line(buf: &mut [u8; 65536], given: &mut [u8], c: Scan) -> Parsed
-    ensures { λ r. ⌜ r .scan .left ≤ c .left - 1 ⌝ }
-{
-    let link = input::number(buf, c, 255);
-    let b = input::bytes(buf, given, link.scan);
-    let command = Command::Manage(Management::LinkMessage(link.value as u8));
-    ended(buf, b.scan, Line::Call(command, b.count, 0))
-}
-
-fn sample_line(buf: &mut [u8; 65536], c: Scan) -> Parsed
-    ensures { λ r. ⌜ r .scan .left ≤ c .left - 1 ⌝ }
-{
-    let link = input::number(buf, c, 255);
-    let ms = input::number(buf, link.scan, MOST);
-    let command = Command::Manage(Management::Sample(link.value as u8, ms.value));
-    ended(buf, ms.scan, Line::Call(command, 0, 0))
-}
-
-fn send_line(buf: &mut [u8; 65536], given: &mut [u8], c: Scan) -> Parsed
-    ensures { λ r. ⌜ r .scan .left ≤ c .left - 1 ⌝ }
-{
-    let slot = input::number(buf, c, MOST);
-    let b = input::bytes(buf, given, slot.scan);
-    let command = Command::On(slot.value, Request::Send);
-    ended(buf, b.scan, Line::Call(command, b.count, 0))
-}
-
-fn place_line(buf: &mut [u8; 65536], given: &mut [u8], c: Scan) -> Parsed
-    ensures { λ r. ⌜ r .scan .left ≤ c .left - 1 ⌝ }
-{
-    let slot = input::number(buf, c, MOST);
-    let offset = input::number(buf, slot.scan, MOST);
-    let b = input::bytes(buf, given, offset.scan);
-    let command = Command::On(slot.value, Request::Place(offset.value));
-    ended(buf, b.scan, Line::Call(command, b.count, 0))
-}
-
-fn read_line(buf: &mut [u8; 65536], c: Scan) -> Parsed
-    ensures { λ r. ⌜ r .scan .left ≤ c .left - 1 ⌝ }
-{
-    let slot = input::number(buf, c, MOST);
-    let room = input::number(buf, slot.scan, 65600);
-    let command = Command::On(slot.value, Request::Read);
-    ended(buf, room.scan, Line::Call(command, 0, room.value as usize))
-}
-
-fn hear_line(buf: &mut [u8; 65536], given: &mut [u8], c: Scan) -> Parsed
-    ensures { λ r. ⌜ r .scan .left ≤ c .left - 1 ⌝ }
-{
-    let b = input::bytes(buf, given, c);
-    ended(buf, b.scan, Line::Call(Command::Hear, b.count, 0))
-}
-
-// The four calls that name a slot and nothing else.
-fn slot_command(verb: Verb, slot: u32) -> Command {
-    match verb {
-        Verb::Shutdown => Command::On(slot, Request::Shutdown),
-        Verb::Close => Command::On(slot, Request::Close),
-        Verb::Abort => Command::On(slot, Request::Abort),
-        _ => Command::Manage(Management::Free(slot)),
-    }
-}
-
-fn slot_line(buf: &mut [u8; 65536], c: Scan, verb: Verb) -> Parsed
-    ensures { λ r. ⌜ r .scan .left ≤ c .left - 1 ⌝ }
-{
-    let slot = input::number(buf, c, MOST);
-    let command = slot_command(verb, slot.value);
-    ended(buf, slot.scan, Line::Call(command, 0, 0))
-}
-
 fn poke_line(buf: &mut [u8; 65536], given: &mut [u8], c: Scan) -> Parsed
     ensures { λ r. ⌜ r .scan .left ≤ c .left - 1 ⌝ }
 {
@@ -398,6 +284,14 @@ fn gauge_line(buf: &mut [u8; 65536], given: &mut [u8], c: Scan) -> Parsed
     ended(buf, p.scan, Line::Gauge(p.link, g))
 }
 
+fn call_line(buf: &mut [u8; 65536], given: &mut [u8], c: Scan, verb: CallVerb) -> Parsed
+    ensures { λ r. ⌜ r .scan .left ≤ c .left - 1 ⌝ }
+{
+    let p = call_text::parse(buf, given, c, verb);
+    let command = p.command;
+    ended(buf, p.scan, Line::Call(command, p.count, p.room))
+}
+
 fn pool_line(buf: &mut [u8; 65536], given: &mut [u8], c: Scan, verb: PoolVerb) -> Parsed
     ensures { λ r. ⌜ r .scan .left ≤ c .left - 1 ⌝ }
 {
@@ -414,28 +308,12 @@ fn setup_line(buf: &mut [u8; 65536], given: &mut [u8], c: Scan, verb: SetupVerb)
     ended(buf, p.scan, Line::Setup(line))
 }
 
-// The lines of calls.
-fn call_line(buf: &mut [u8; 65536], given: &mut [u8], c: Scan, verb: Verb) -> Parsed
-    ensures { λ r. ⌜ r .scan .left ≤ c .left - 1 ⌝ }
-{
-    match verb {
-        Verb::Open => open_line(buf, c),
-        Verb::Link => link_line(buf, c),
-        Verb::LinkMessage => linkmsg_line(buf, given, c),
-        Verb::Sample => sample_line(buf, c),
-        Verb::Send => send_line(buf, given, c),
-        Verb::Place => place_line(buf, given, c),
-        Verb::Read => read_line(buf, c),
-        Verb::Hear => hear_line(buf, given, c),
-        _ => slot_line(buf, c, verb),
-    }
-}
-
 fn line_of(buf: &mut [u8; 65536], given: &mut [u8], c: Scan, verb: Verb) -> Parsed
     ensures { λ r. ⌜ r .scan .left ≤ c .left - 1 ⌝ }
 {
     match verb {
         Verb::Group => group_line(buf, c),
+        Verb::Call(v) => call_line(buf, given, c, v),
         Verb::Record => record_line(buf, c),
         Verb::Poke => poke_line(buf, given, c),
         Verb::Table => ended(buf, c, Line::Table),
@@ -445,7 +323,6 @@ fn line_of(buf: &mut [u8; 65536], given: &mut [u8], c: Scan, verb: Verb) -> Pars
         Verb::Pool(v) => pool_line(buf, given, c, v),
         Verb::Setup(v) => setup_line(buf, given, c, v),
         Verb::Unknown => ended(buf, c, Line::Bad),
-        _ => call_line(buf, given, c, verb),
     }
 }
 

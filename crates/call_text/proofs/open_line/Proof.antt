@@ -1,8 +1,8 @@
--- `lines::open_line` is safe and ends: its numbers and the rest of the line leave fewer bytes to come. Assumes nothing.
+-- `call_text::open_line` is safe and ends: its numbers leave no more bytes to come. Assumes nothing.
 use native.Mathlib.Omega.{arith}
 use borrow.Author.Needs.{needs}
-use Rattle.lines.proofs.open_line.Statement.{statement}
-use Rattle.lines.proofs.open_line.Tie as tie
+use Rattle.call_text.proofs.open_line.Statement.{statement}
+use Rattle.call_text.proofs.open_line.Tie as tie
 
 number-requires : tie.Need-number-requires
 number-requires c κs = search needs
@@ -25,12 +25,12 @@ remote-requires c κs = search needs
 cast-t18 : tie.Need-cast-t18
 cast-t18 c = search needs
 
-ended-requires : tie.Need-ended-requires
-ended-requires c κs = search needs
+line-of-requires : tie.Need-line-of-requires
+line-of-requires c κs = search needs
 
 returns : tie.Need-returns
 returns c =
-    let r = c .before .before .before .before in
+    let r = c .before .before .before in
     let e = r .before .before in
     let d = e .before .before in
     let l = d .before .before in
@@ -44,7 +44,7 @@ returns c =
       d .number4 .ensures .0,
       e .number5 .ensures .0,
       r .remote .ensures,
-      c .ended .ensures,
+      c .line-of .ensures,
     )
 
 pub open-line-spec : {M : Type 1} → statement M
@@ -58,5 +58,5 @@ open-line-spec =
     number-requires-5
     remote-requires
     cast-t18
-    ended-requires
+    line-of-requires
     returns)
