@@ -1,0 +1,23 @@
+#!/bin/sh
+# Times calls over a lent table. No call is exported yet: a table can be lent from C only if its structs are `#[repr(C)]`. So the crates are
+# copied to target/calls, the attribute is set there, and group_c, beside this script, is proved with them and built. Takes some minutes.
+# The files of group_c end in .in, since it is no crate that crates.txt lists.
+set -eu
+cd "$(dirname "$0")/../.."
+copy=$PWD/target/calls
+rm -rf "$copy/crates"
+mkdir -p "$copy"
+cp -r crates tools "$copy/"
+cp -r bench/calls/group_c "$copy/crates/"
+find "$copy/crates/group_c" -name '*.in' | while read -r f; do mv "$f" "${f%.in}"; done
+rm -rf "$copy"/crates/*/must-fail
+{
+    grep -E '^(cursor|cdc|llc|closing|gauge|flow|element|connection|transmit|receive|hear|finish|table|rules|calls|management|group):' crates.txt
+    echo "group_c: cursor cdc llc closing gauge flow element connection transmit receive hear finish table rules calls management group"
+} >"$copy/crates.txt"
+for name in cursor:Cursor closing:Side closing:Marks connection:Identity connection:RToken connection:Remote connection:Inbound \
+    connection:Outbound connection:Record; do
+    sed -i "s/^pub struct ${name#*:} {/#[repr(C)]\n&/" "$copy/crates/${name%:*}/src/lib.rt"
+done
+(cd "$copy" && tools/walk group_c group_call && rt staticlib group_c) >target/calls.log 2>&1 || { tail -20 target/calls.log; exit 1; }
+RUSTFLAGS="-L native=$copy/target/staticlib" CARGO_TARGET_DIR="$PWD/target/bench" cargo run --quiet --release --manifest-path bench/calls/Cargo.toml
