@@ -266,6 +266,19 @@ fn describe(
         (Line::Send { slot, bytes, .. }, _) => {
             call(*slot, format!("send {} bytes", bytes.len()), makes)
         }
+        (Line::Urgent { slot, bytes }, Answer::Urgent(sent)) => call(
+            *slot,
+            format!(
+                "urgent send {} bytes, {} taken{}",
+                bytes.len(),
+                sent.taken,
+                quoted(bytes)
+            ),
+            makes,
+        ),
+        (Line::Urgent { slot, bytes }, _) => {
+            call(*slot, format!("urgent send {} bytes", bytes.len()), makes)
+        }
         (
             Line::Place {
                 slot,

@@ -118,6 +118,10 @@ pub struct Connection {
     pub peer_blocked: bool,
     /// R (cursor update requested) in the last message heard.
     pub update_requested: bool,
+    /// The urgent place of our own sends, in the peer's element (2026-04).
+    pub urgent_sent: Option<Cursor>,
+    /// The urgent place in our own element.
+    pub urgent_heard: Option<Cursor>,
 }
 
 impl Connection {
@@ -171,7 +175,8 @@ pub fn past_the_top(index: u32, base: u64, peer_size: u32) -> bool {
 /// "An open record is coherent if both tokens are nonzero, link and N' are in
 /// range, all offsets are in range, the distances T to C and C to P are good
 /// and sum to at most D, the distance R to Q is good by D', and the close marks
-/// sent and heard are not both C." 2026-09 bars an element out of reach too.
+/// sent and heard are not both C." 2026-09 bars an element out of reach too, and
+/// 2026-04 adds "an urgent place lies after R up to Q, or after C up to P".
 pub fn coherent(c: &Connection, n: i64) -> bool {
     tokens_nonzero(c)
         && link_in_range(c.link)
@@ -181,6 +186,19 @@ pub fn coherent(c: &Connection, n: i64) -> bool {
         && writing_distance_good(c)
         && !(c.closed_sent && c.closed_heard)
         && !element_out_of_reach(u32::from(c.index), &c.bases, c.peer_size)
+        && c.urgent_sent
+            .is_none_or(|place| lies_between(c.peer_consumer, place, c.producer, c.n_peer()))
+        && c.urgent_heard
+            .is_none_or(|place| lies_between(c.consumer, place, c.peer_producer, n))
+}
+
+/// Whether a place lies after one cursor and up to another.
+pub fn lies_between(after: Cursor, place: Cursor, up_to: Cursor, size: i64) -> bool {
+    let ahead = distance(after, place, size);
+    offset_in_range(place.offset, size)
+        && good(ahead, size)
+        && 1 <= ahead
+        && ahead <= distance(after, up_to, size)
 }
 
 fn tokens_nonzero(c: &Connection) -> bool {
@@ -360,14 +378,23 @@ impl Message {
 
 /// "Each message carries the peer token, Q, C, our present B, and D, C or A for
 /// the marks we have sent; P, U, R and F stay zero for now. Making one sets T
-/// to C and uses the next sequence number. [...] after 65,535 comes 0."
+/// to C and uses the next sequence number. [...] after 65,535 comes 0." 2026-04:
+/// from an urgent send taken whole on "our messages carry flags P and U until R
+/// reaches or passes" its place.
 fn make_message(c: &mut Connection) -> Bytes44 {
+    let urgent = c.urgent_sent.is_some();
+    make_message_with(c, urgent, urgent)
+}
+
+fn make_message_with(c: &mut Connection, pending: bool, present: bool) -> Bytes44 {
     let message = Message {
         sequence: c.next_sequence,
         token: c.peer_token,
         producer: c.producer,
         consumer: c.consumer,
         blocked: c.blocked,
+        urgent_pending: pending,
+        urgent_present: present,
         done: c.done_sent,
         closed: c.closed_sent,
         abort: c.abort_sent,
@@ -568,6 +595,20 @@ impl Group {
         Ok(take_and_announce(
             &mut self.table[index],
             bytes.len() as i64,
+            false,
+        ))
+    }
+
+    /// **Urgent send** (2026-04), slot and bytes; it is refused as send is.
+    pub fn urgent(&mut self, slot: u32, bytes: &[u8]) -> Result<Sent, u8> {
+        let index = self.test_slot(slot)?;
+        if send_forbidden(&self.table[index]) {
+            return Err(7);
+        }
+        Ok(take_and_announce(
+            &mut self.table[index],
+            bytes.len() as i64,
+            true,
         ))
     }
 
@@ -679,9 +720,13 @@ impl Group {
 
 // Send, sentence by sentence.
 
-fn take_and_announce(c: &mut Connection, length: i64) -> Sent {
-    if length == 0 {
-        return nothing_offered();
+/// 2026-04: while an urgent place of our own stands "send takes 0 bytes, changes
+/// nothing and makes no message". "An urgent send of a byte or more, taken whole,
+/// makes Q the urgent place [...]. One cut short at other times always makes a
+/// message, with P and no U."
+fn take_and_announce(c: &mut Connection, length: i64, urgent: bool) -> Sent {
+    if length == 0 || c.urgent_sent.is_some() {
+        return nothing_taken();
     }
     let taken = c.room().min(length);
     let placings = placings(c, taken);
@@ -689,10 +734,17 @@ fn take_and_announce(c: &mut Connection, length: i64) -> Sent {
     let left_over = taken < length;
     let told_before = c.blocked;
     c.blocked = left_over;
-    let message = if taken > 0 || (left_over && !told_before) {
-        Some(make_message(c))
+    let message = if urgent && left_over {
+        Some(make_message_with(c, true, false))
     } else {
-        None
+        if urgent {
+            c.urgent_sent = Some(c.producer);
+        }
+        if taken > 0 || (left_over && !told_before) {
+            Some(make_message(c))
+        } else {
+            None
+        }
     };
     Sent {
         taken,
@@ -702,7 +754,7 @@ fn take_and_announce(c: &mut Connection, length: i64) -> Sent {
 }
 
 /// "Nothing offered: n is 0, no message, no change."
-fn nothing_offered() -> Sent {
+fn nothing_taken() -> Sent {
     Sent {
         taken: 0,
         placings: Vec::new(),
@@ -778,13 +830,24 @@ impl Group {
         }
         let c = &mut self.table[index];
         c.consumer = step(from, taken, n);
-        let message = if taken > 0 && update_due(c, n) {
+        let reached = urgent_place_reached(c, from, taken, n);
+        if reached {
+            c.urgent_heard = None;
+        }
+        let message = if taken > 0 && (reached || update_due(c, n)) {
             Some(make_message(c))
         } else {
             None
         };
         ReadAnswer::Read { taken, message }
     }
+}
+
+/// 2026-04: whether a read of so many bytes from the old C "reaches or passes"
+/// the urgent place.
+pub fn urgent_place_reached(c: &Connection, from: Cursor, taken: i64, n: i64) -> bool {
+    c.urgent_heard
+        .is_some_and(|place| distance(from, place, n) <= taken)
 }
 
 /// "B or R stood in the last message heard, or" the window rule.
@@ -879,7 +942,14 @@ fn hear_cursors(c: &mut Connection, message: &Message, n: i64) -> Heard {
     c.update_requested = message.update_requested;
     c.done_heard = c.done_heard || message.done;
     c.closed_heard = c.closed_heard || message.closed;
-    let answer = if message.update_requested && c.told != c.consumer {
+    clear_urgent_place_reached(c);
+    // 2026-04: "a heard message with U that moves P makes the new P urgent; the
+    // reader makes one message then".
+    let urgent = message.urgent_present && moved > 0;
+    if urgent {
+        c.urgent_heard = Some(c.peer_producer);
+    }
+    let answer = if urgent || (message.update_requested && c.told != c.consumer) {
         Some(make_message(c))
     } else {
         None
@@ -892,6 +962,17 @@ fn hear_cursors(c: &mut Connection, message: &Message, n: i64) -> Heard {
         moved,
         state,
         message: answer,
+    }
+}
+
+/// 2026-04: our urgent place is "cleared when reached or passed" by R.
+fn clear_urgent_place_reached(c: &mut Connection) {
+    let size = c.n_peer();
+    let left = |from: Cursor| distance(from, c.producer, size);
+    if c.urgent_sent
+        .is_some_and(|place| left(c.peer_consumer) <= left(place))
+    {
+        c.urgent_sent = None;
     }
 }
 

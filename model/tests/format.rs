@@ -77,18 +77,18 @@ fn lines_that_do_not_parse() {
         "group 1 8",
         "group 4294967296 8 8",
         "table 1",
-        "record 0 0 0 0 0 0 0 0 0 0 0 0 0 0 0 0 0 0 0 0 0 0 0 0 0 0 0 0",
-        "record 2 0 0 0 0 0 0 0 0 0 0 0 0 0 0 0 0 0 0 0 0 0 0 0 0 0 0 0",
+        "record 0 0 0 0 0 0 0 0 0 0 0 0 0 0 0 0 0 0 0 0 0 0 0 0 0 0 0 0 - -",
+        "record 2 0 0 0 0 0 0 0 0 0 0 0 0 0 0 0 0 0 0 0 0 0 0 0 0 0 0 0 - -",
         "group 1 8 8 301",
         "group 1 8 8 1 1",
         "group 1 8 8 -",
-        "record 1 0 0 0 0 0 0 0 0 0 0 0 0 0 0 0 0 0 512 0 0 0 0 0 0 0 0 0",
-        "record 1 0 0 0 0 0 0 65536 0 0 0 0 0 0 0 0 0 0 0 0 0 0 0 0 0 0 0 0",
-        "record 1 2 0 0 0 0 0 0 0 0 0 0 0 0 0 0 0 0 0 0 0 0 0 0 0 0 0 0",
-        "record 1 0 0 0 256 0 0 0 0 0 0 0 0 0 0 0 0 0 0 0 0 0 0 0 0 0 0 0",
+        "record 1 0 0 0 0 0 0 0 0 0 0 0 0 0 0 0 0 0 512 0 0 0 0 0 0 0 0 0 - -",
+        "record 1 0 0 0 0 0 0 65536 0 0 0 0 0 0 0 0 0 0 0 0 0 0 0 0 0 0 0 0 - -",
+        "record 1 2 0 0 0 0 0 0 0 0 0 0 0 0 0 0 0 0 0 0 0 0 0 0 0 0 0 0 - -",
+        "record 1 0 0 0 256 0 0 0 0 0 0 0 0 0 0 0 0 0 0 0 0 0 0 0 0 0 0 0 - -",
         "record 1 0 0 0 0 0 0 0 0 0 0 0 0 0 0 0 0 0 0",
-        "record 1 0 0 0 0 0 0 0 0 0 0 0 0 0 0 0 0 0 0 0 0 0 0 0 0 0 0",
-        "record 1 0 0 0 0 0 0 0 0 0 0 0 0 0 0 0 0 0 0 0 0 0 0 0 0 0 0 0 0",
+        "record 1 0 0 0 0 0 0 0 0 0 0 0 0 0 0 0 0 0 0 0 0 0 0 0 0 0 0 - -",
+        "record 1 0 0 0 0 0 0 0 0 0 0 0 0 0 0 0 0 0 0 0 0 0 0 0 0 0 0 0 0 - -",
         "record 1 0 0 0 0 0 0 0 0 0 0 0 0 0 0 0 0 0 0 256 0 0 0 0 0 0 0 0",
         "record 1 0 0 0 0 0 0 0 0 0 0 0 0 0 0 0 0 0 0 0 4294967296 0 0 0 0 0 0 0",
         "record 1 0 0 0 0 0 0 0 0 0 0 0 0 0 0 0 0 0 0 0 0 18446744073709551616 0 0 0 0 0 0",
@@ -136,8 +136,8 @@ fn lines_that_parse() {
 #[test]
 fn table() {
     let record = "1 2 3 4 5 6 7 8 9 10 11 12 13 14 15 16 17 511 255 18 19 20 21 22 23 \
-                  4294967295 18446744073709551615";
-    let none = "0 0 0 0 0 0 0 0 0 0 0 0 0 0 0 0 0 0 0 0 0 0 0 0 0 0 0";
+                  4294967295 18446744073709551615 0:0 4294967295:65535";
+    let none = "0 0 0 0 0 0 0 0 0 0 0 0 0 0 0 0 0 0 0 0 0 0 0 0 0 0 0 - -";
     for (group, count) in [
         ("group 16 8 128", 16),
         ("group 0 8 0 16", 16),
@@ -168,7 +168,7 @@ fn table() {
 fn what_calls_print() {
     let lines = answers(
         "group 1 8 8\nlink 2 1\nopen 1 1 2 2 8 1 0 0 0 0 0 0 0 0\n\
-         record 1 1 1 2 2 8 7 0 4 0 4 0 7 0 7 0 65535 0 0 2 1 1000 9 100 3 3000 4 4000\n\
+         record 1 1 1 2 2 8 7 0 4 0 4 0 7 0 7 0 65535 0 0 2 1 1000 9 100 3 3000 4 4000 - -\n\
          send 1 010203040506\nsend 1 07\nsend 1 -\nplace 1 7 AB\nread 1 5\n\
          linkmsg 2 072C00000102030405060708090A0B0C0D0E0F10FFFFFFFFFFFFFFFFFFFFFFFFFFFFFFFFFFFFFFFFFFFFFFFF\n\
          linkmsg 2 072C00800102030405060708090A0B0C0D0E0F10000000000000000000000000000000000000000000000000\n\
@@ -195,29 +195,66 @@ fn what_calls_print() {
 }
 
 #[test]
+fn what_urgent_prints() {
+    let lines = answers(
+        "link 1 1\nopen 1 1 2 1 8 1 0 0 0 0 0 0 0 0\nurgent 1 0102\nurgent 1 -\nsend 1 03\ntable\n",
+    );
+    assert_eq!(
+        lines[2..6],
+        [
+            "urgent 2 placings 0,4,0,2 message FE2C00010000000200000000000000060000000000000004600000\
+             0000000000000000000000000000000000",
+            "urgent 0 placings - message -",
+            "send 0 placings - message -",
+            "slot 1 1 1 2 1 8 4 0 4 0 4 0 6 0 4 0 2 0 0 1 0 0 0 0 0 0 0 0 6:0 -",
+        ]
+    );
+    let record = "record 1 1 1 2 1 8 5 0 4 0 4 0 4 0 4 0 2 0 0 1 0 0 0 0 0 0 0 0";
+    for place in [
+        "--",
+        "4",
+        "4:",
+        ":0",
+        "4:0:0",
+        "4:65536",
+        "4294967296:0",
+        "+4:0",
+    ] {
+        assert_eq!(answers(&format!("{record} - {place}")), ["bad line"]);
+        assert_eq!(answers(&format!("{record} {place} -")), ["bad line"]);
+    }
+    let lines = answers(&format!(
+        "poke 0 E2D4C3D9\nlink 1 1\n{record} - 05:00\nread 1 1\ntable\n"
+    ));
+    assert_eq!(lines[2], "record");
+    assert!(lines[3].starts_with("read 1 out 00 message FE2C0002"));
+    assert!(lines[4].ends_with(" - -"));
+}
+
+#[test]
 fn what_close_prints() {
     // C (4,0), P (6,0), C heard: two bytes unread; then none.
     let head = "link 1 1\nrecord 1 1 1 2 1 8";
     let lines = answers(&format!(
-        "{head} 6 0 4 0 4 0 4 0 4 0 7 0 9 {AT}\nclose 1\ntable\n"
+        "{head} 6 0 4 0 4 0 4 0 4 0 7 0 9 {AT} - -\nclose 1\ntable\n"
     ));
     assert_eq!(
         lines[2..4],
         [
             "reset message FE2C0007000000020000000000000004000000000000000400A0000000000000000000000000\
              000000000000",
-            "slot 1 1 1 2 1 8 6 0 4 0 4 0 4 0 4 0 8 0 41 1 0 0 0 0 0 0 0 0",
+            "slot 1 1 1 2 1 8 6 0 4 0 4 0 4 0 4 0 8 0 41 1 0 0 0 0 0 0 0 0 - -",
         ]
     );
     let lines = answers(&format!(
-        "{head} 4 0 4 0 4 0 4 0 4 0 7 0 9 {AT}\nclose 1\ntable\n"
+        "{head} 4 0 4 0 4 0 4 0 4 0 7 0 9 {AT} - -\nclose 1\ntable\n"
     ));
     assert_eq!(
         lines[2..4],
         [
             "close message FE2C0007000000020000000000000004000000000000000400C0000000000000000000000000\
              000000000000",
-            "slot 1 0 0 0 0 0 0 0 0 0 0 0 0 0 0 0 0 0 0 0 0 0 0 0 0 0 0 0",
+            "slot 1 0 0 0 0 0 0 0 0 0 0 0 0 0 0 0 0 0 0 0 0 0 0 0 0 0 0 0 - -",
         ]
     );
 }

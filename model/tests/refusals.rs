@@ -17,7 +17,7 @@ const AT: &str = "1 0 0 0 0 0 0 0 0";
 /// A record of slot 1 with the given marks; P (10,0), C (8,0), T (6,0), Q and R
 /// (4,0).
 fn marked(marks: u16) -> String {
-    format!("{START}record 1 1 5 6 1 16 10 0 8 0 6 0 4 0 4 0 1 0 {marks} {AT}\n")
+    format!("{START}record 1 1 5 6 1 16 10 0 8 0 6 0 4 0 4 0 1 0 {marks} {AT} - -\n")
 }
 
 /// A message to slot 1 in hex.
@@ -94,7 +94,7 @@ fn number_2() {
     assert_eq!(last(&format!("{START}open 3 7 8 1 16 {AT}")), "refused 2");
     assert_eq!(last(&format!("{START}open 2 7 8 1 16 {AT}")), "open");
     // Closed by its mark, whatever else it holds.
-    let junk = "record 2 0 7 8 1 16 10 0 8 0 6 0 4 0 4 0 1 0 32 1 0 0 0 0 0 0 0 0\n";
+    let junk = "record 2 0 7 8 1 16 10 0 8 0 6 0 4 0 4 0 1 0 32 1 0 0 0 0 0 0 0 0 - -\n";
     assert_eq!(last(&format!("{START}{junk}free 2")), "refused 2");
 }
 
@@ -120,7 +120,7 @@ fn number_3() {
         "5 6 1 16 10 0 8 0 6 0 4 1 16 0",
     ];
     for record in broken {
-        let start = format!("{START}record 1 1 {record} 1 0 0 {AT}\n");
+        let start = format!("{START}record 1 1 {record} 1 0 0 {AT} - -\n");
         assert_eq!(last(&format!("{start}send 1 00")), "refused 3", "{record}");
         assert_eq!(last(&format!("{start}free 1")), "refused 3", "{record}");
     }
@@ -128,7 +128,7 @@ fn number_3() {
     // The same cursors, coherent: T to C 2, C to P 2; a full turn is coherent.
     assert!(last(&format!("{}close 1", marked(0))).starts_with("reset message FE2C"));
     assert!(last(&format!("{START}close 1")).starts_with("close message FE2C"));
-    let full = "record 1 1 5 6 1 16 6 1 6 0 6 0 4 1 4 0 1 0 0 1 0 0 0 0 0 0 0 0\n";
+    let full = "record 1 1 5 6 1 16 6 1 6 0 6 0 4 1 4 0 1 0 0 1 0 0 0 0 0 0 0 0 - -\n";
     assert_eq!(
         last(&format!("{START}{full}send 1 -")),
         "send 0 placings - message -"
@@ -157,7 +157,7 @@ fn numbers_4_and_5() {
     // 4 comes before 5, 5 before 3.
     let both = unknown.replacen("2C", "2D", 1);
     assert_eq!(last(&format!("{}hear {both}", marked(0))), "refused 4");
-    let zero_held = "record 1 1 0 6 1 16 10 0 8 0 6 0 4 0 4 0 1 0 0 1 0 0 0 0 0 0 0 0\n";
+    let zero_held = "record 1 1 0 6 1 16 10 0 8 0 6 0 4 0 4 0 1 0 0 1 0 0 0 0 0 0 0 0 - -\n";
     assert_eq!(last(&format!("{START}{zero_held}hear {zero}")), "refused 5");
 }
 
@@ -271,7 +271,7 @@ fn number_8() {
 fn number_16() {
     // The last number heard and the one in the message; T (6,0), P (10,0).
     let heard = |last: u16, marks: u16| {
-        format!("{START}record 1 1 5 6 1 16 10 0 8 0 6 0 4 0 4 0 1 {last} {marks} {AT}\n")
+        format!("{START}record 1 1 5 6 1 16 10 0 8 0 6 0 4 0 4 0 1 {last} {marks} {AT} - -\n")
     };
     let hear = |sequence: u16, producer: (u32, u16), flags: u16| {
         let one = message(producer, (4, 0), flags);
@@ -422,7 +422,7 @@ fn elements_out_of_reach() {
             assert_eq!(last(&format!("{START}open 2 7 8 9 16 {at}")), "refused 12");
         }
         if index < 256 {
-            let record = format!("record 1 1 5 6 1 16 10 0 8 0 6 0 4 0 4 0 1 0 0 {at}\n");
+            let record = format!("record 1 1 5 6 1 16 10 0 8 0 6 0 4 0 4 0 1 0 0 {at} - -\n");
             let send = last(&format!("{START}{record}send 1 0102"));
             if answer == "open" {
                 let address = bases[0] + (index as u64 - 1) * 16 + 4;
@@ -438,17 +438,17 @@ fn elements_out_of_reach() {
 fn order_of_slot_calls() {
     // Incoherent and its link down: 3. Link down and forbidden: 6. Forbidden and
     // not free: 7.
-    let broken = "record 1 1 0 6 2 16 10 0 8 0 6 0 4 0 4 0 1 0 32 1 0 0 0 0 0 0 0 0\n";
+    let broken = "record 1 1 0 6 2 16 10 0 8 0 6 0 4 0 4 0 1 0 32 1 0 0 0 0 0 0 0 0 - -\n";
     assert_eq!(last(&format!("{START}{broken}place 1 3 00")), "refused 3");
-    let down = "record 1 1 5 6 2 16 10 0 8 0 6 0 4 0 4 0 1 0 32 1 0 0 0 0 0 0 0 0\n";
+    let down = "record 1 1 5 6 2 16 10 0 8 0 6 0 4 0 4 0 1 0 32 1 0 0 0 0 0 0 0 0 - -\n";
     assert_eq!(last(&format!("{START}{down}place 1 3 00")), "refused 6");
-    let forbidden = "record 1 1 5 6 1 16 10 0 8 0 6 0 4 0 4 0 1 0 32 1 0 0 0 0 0 0 0 0\n";
+    let forbidden = "record 1 1 5 6 1 16 10 0 8 0 6 0 4 0 4 0 1 0 32 1 0 0 0 0 0 0 0 0 - -\n";
     assert_eq!(
         last(&format!("{START}{forbidden}place 1 3 00")),
         "refused 7"
     );
     // Hear gives no 7, and 6 comes before 8.
     let hear = format!("hear {}", message((0, 0), (0, 0), 0));
-    let down = "record 1 1 5 6 2 16 10 0 8 0 6 0 4 0 4 0 1 0 0 1 0 0 0 0 0 0 0 0\n";
+    let down = "record 1 1 5 6 2 16 10 0 8 0 6 0 4 0 4 0 1 0 0 1 0 0 0 0 0 0 0 0 - -\n";
     assert_eq!(last(&format!("{START}{down}{hear}")), "refused 6");
 }

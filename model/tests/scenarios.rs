@@ -1,4 +1,4 @@
-//! Scenarios 1 to 4 of section 4.7, host A as slot 1 and host B as slot 2 of one
+//! Scenarios 1 to 6 of section 4.7, host A as slot 1 and host B as slot 2 of one
 //! group. The expected cursors are those of the figures; where the text and the
 //! figure differ, NOTES.md says which holds.
 
@@ -173,6 +173,229 @@ fn scenario_4() {
     let (received, update) = receive(&mut group, 2);
     assert_eq!(received, bytes[19_992..]);
     assert_eq!(update, None);
+}
+
+/// Host A writes from a place on, and host B has read up to another.
+fn from_a_to_b(written: Cursor, read: Cursor) -> Group {
+    let mut group = hosts();
+    group.table[0].producer = written;
+    group.table[0].peer_consumer = read;
+    group.table[1].peer_producer = written;
+    group.table[1].consumer = read;
+    group.table[1].told = read;
+    group
+}
+
+/// An urgent send performed at the other host.
+fn write_urgent(group: &mut Group, from: u32, to: u32, bytes: &[u8]) -> (Sent, Bytes44) {
+    let sent = group.urgent(from, bytes).unwrap();
+    for placing in &sent.placings {
+        let start = placing.start as usize;
+        let part = &bytes[start..start + placing.length as usize];
+        group.place(to, placing.address as u32, part).unwrap();
+    }
+    let message = sent.message.expect("a message");
+    (sent, message)
+}
+
+/// A message in hex without the eighteen zeros at its end.
+fn hex(message: &[u8]) -> String {
+    assert!(message[26..].iter().all(|&byte| byte == 0));
+    message[..26]
+        .iter()
+        .map(|byte| format!("{byte:02X}"))
+        .collect()
+}
+
+const NOTHING: Sent = Sent {
+    taken: 0,
+    placings: Vec::new(),
+    message: None,
+};
+
+#[test]
+fn scenario_5() {
+    // Figure 20; its cursors run from 1000 as they stand there.
+    let mut group = from_a_to_b(cursor(1000, 1), cursor(1000, 1));
+    let urgent = pattern(500, 1);
+    let normal = pattern(1_000, 2);
+    // Times 1 and 2.
+    let (sent, message) = write_urgent(&mut group, 1, 2, &urgent);
+    assert_eq!(ranges(&sent), [(1000, 1499)]);
+    assert_eq!(
+        hex(&message),
+        "FE2C000101020304000000010000 05DC 0000 0000 00000004 6000".replace(' ', "")
+    );
+    assert_eq!(group.table[0].urgent_sent, Some(cursor(1500, 1)));
+    // A cannot send until B has consumed the urgent data.
+    let before = group.clone();
+    assert_eq!(group.send(1, &normal), Ok(NOTHING));
+    assert_eq!(group.urgent(1, &normal), Ok(NOTHING));
+    assert_eq!(group, before);
+    // B hears it: one message then, and one on the read (time 3).
+    let heard = group.hear(&message).unwrap();
+    assert_eq!(heard.moved, 500);
+    assert_eq!(
+        hex(&heard.message.unwrap()),
+        "FE2C00010A0A0A0A000000000000 0004 0000 0001 000003E8 0000".replace(' ', "")
+    );
+    assert_eq!(group.table[1].urgent_heard, Some(cursor(1500, 1)));
+    assert_eq!(group.hear(&heard.message.unwrap()).unwrap().moved, 0);
+    assert_eq!(group.send(1, &normal), Ok(NOTHING));
+    let (received, update) = receive(&mut group, 2);
+    assert_eq!(received, urgent);
+    let update = update.expect("whatever the window").write();
+    assert_eq!(
+        hex(&update),
+        "FE2C00020A0A0A0A000000000000 0004 0000 0001 000005DC 0000".replace(' ', "")
+    );
+    assert_eq!(group.table[1].urgent_heard, None);
+    // Time 4: A resumes.
+    group.hear(&update).unwrap();
+    assert_eq!(group.table[0].urgent_sent, None);
+    let (sent, message) = write(&mut group, 1, 2, &normal);
+    assert_eq!(ranges(&sent), [(1500, 2499)]);
+    assert_eq!(message.producer, cursor(2500, 1));
+    assert!(!message.urgent_pending && !message.urgent_present);
+    // Time 5: no update is needed.
+    assert_eq!(group.hear(&message.write()).unwrap().message, None);
+    let (received, update) = receive(&mut group, 2);
+    assert_eq!((received, update), (normal, None));
+}
+
+#[test]
+fn scenario_6() {
+    // Figure 21: the window closed, the writer blocked.
+    let mut group = from_a_to_b(cursor(1000, 2), cursor(1000, 1));
+    group.table[0].blocked = true;
+    group.table[1].peer_blocked = true;
+    let urgent = pattern(500, 1);
+    // Time 1: nothing can be written, but the peer learns that urgent data is pending.
+    let (sent, message) = write_urgent(&mut group, 1, 2, &urgent);
+    assert_eq!((sent.taken, sent.placings), (0, Vec::new()));
+    assert_eq!(
+        hex(&message),
+        "FE2C000101020304000000020000 03E8 0000 0000 00000004 C000".replace(' ', "")
+    );
+    assert_eq!(group.table[0].urgent_sent, None);
+    assert_eq!(group.hear(&message).unwrap().message, None);
+    assert_eq!(group.table[1].urgent_heard, None);
+    // Once more: it always makes its message.
+    let (_, again) = write_urgent(&mut group, 1, 2, &urgent);
+    assert_eq!(hex(&again)[4..8], *"0002");
+    group.hear(&again).unwrap();
+    // Time 2: a full window is consumed.
+    let (received, update) = receive(&mut group, 2);
+    assert_eq!(received.len(), 9_996);
+    let update = update.expect("the writer is blocked");
+    assert_eq!(update.consumer, cursor(1000, 2));
+    group.hear(&update.write()).unwrap();
+    // Times 3 and 4.
+    let (sent, message) = write_urgent(&mut group, 1, 2, &urgent);
+    assert_eq!(ranges(&sent), [(1000, 1499)]);
+    assert_eq!(
+        hex(&message),
+        "FE2C000301020304000000020000 05DC 0000 0000 00000004 6000".replace(' ', "")
+    );
+    let heard = group
+        .hear(&message)
+        .unwrap()
+        .message
+        .expect("one message then");
+    group.hear(&heard).unwrap();
+    // Times 5 to 7.
+    let (received, update) = receive(&mut group, 2);
+    assert_eq!(received, urgent);
+    group.hear(&update.unwrap().write()).unwrap();
+    let (sent, message) = write(&mut group, 1, 2, &pattern(1_000, 2));
+    assert_eq!(ranges(&sent), [(1500, 2499)]);
+    assert_eq!(message.producer, cursor(2500, 2));
+    assert!(!message.urgent_pending && !message.urgent_present && !message.blocked);
+}
+
+#[test]
+fn urgent_places_reached_and_missed() {
+    // Our place at (1500,1), Q there too; R heard just before it and at it.
+    for (offset, stands) in [(1499, true), (1500, false)] {
+        let mut group = from_a_to_b(cursor(1000, 1), cursor(1000, 1));
+        write_urgent(&mut group, 1, 2, &pattern(500, 1));
+        let message = Message {
+            sequence: 1,
+            token: TOKEN_A,
+            producer: cursor(4, 0),
+            consumer: cursor(offset, 1),
+            ..Message::default()
+        };
+        group.hear(&message.write()).unwrap();
+        assert_eq!(group.table[0].urgent_sent.is_some(), stands);
+        let abort = Message::read(&group.abort(1).unwrap()).unwrap();
+        assert_eq!(
+            (abort.urgent_pending, abort.urgent_present),
+            (stands, stands)
+        );
+    }
+    // B reads one byte short of its place, then one more.
+    let mut group = from_a_to_b(cursor(1000, 1), cursor(1000, 1));
+    let (_, message) = write_urgent(&mut group, 1, 2, &pattern(500, 1));
+    group.hear(&message).unwrap();
+    let short = group.read(2, &mut [0; 499]).unwrap();
+    assert!(matches!(short, ReadAnswer::Read { message: None, .. }));
+    assert!(group.table[1].urgent_heard.is_some());
+    let rest = group.read(2, &mut [0; 1]).unwrap();
+    assert!(matches!(
+        rest,
+        ReadAnswer::Read {
+            message: Some(_),
+            ..
+        }
+    ));
+    assert_eq!(group.table[1].urgent_heard, None);
+}
+
+#[test]
+fn urgent_marks_heard_without_a_move() {
+    let mut group = hosts();
+    for (pending, present) in [(true, false), (true, true), (false, true)] {
+        let message = Message {
+            sequence: group.table[1].heard_sequence + 1,
+            token: TOKEN_B,
+            producer: cursor(4, 0),
+            consumer: cursor(4, 0),
+            urgent_pending: pending,
+            urgent_present: present,
+            ..Message::default()
+        };
+        assert_eq!(group.hear(&message.write()).unwrap().message, None);
+        assert_eq!(group.table[1].urgent_heard, None);
+    }
+}
+
+#[test]
+fn urgent_places_and_coherence() {
+    let mut group = hosts();
+    group.table[0].producer = cursor(9, 0);
+    group.table[0].peer_producer = cursor(9, 0);
+    for (place, right) in [
+        (cursor(4, 0), false),
+        (cursor(5, 0), true),
+        (cursor(9, 0), true),
+        (cursor(10, 0), false),
+        (cursor(3, 0), false),
+        (cursor(9, 1), false),
+        (cursor(9_999, 65_535), false),
+        (cursor(0, 0), false),
+    ] {
+        let mut own = group.clone();
+        own.table[0].urgent_sent = Some(place);
+        assert_eq!(own.send(1, &[]).is_ok(), right, "{place:?}");
+        let mut heard = group.clone();
+        heard.table[0].urgent_heard = Some(place);
+        assert_eq!(heard.send(1, &[]).is_ok(), right, "{place:?}");
+        if !right {
+            assert_eq!(own.send(1, &[]), Err(3));
+            assert_eq!(heard.send(1, &[]), Err(3));
+        }
+    }
 }
 
 #[test]

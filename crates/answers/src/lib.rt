@@ -54,10 +54,37 @@ fn placings(o: &mut [u8; 65536], at: usize, list: Placings) -> usize {
     }
 }
 
-fn sent(o: &mut [u8; 65536], at: usize, n: u32, list: Placings, said: Answered) -> usize
+// The word of a call on a slot that sends.
+fn send_word(o: &mut [u8; 65536], at: usize, request: Request) -> usize
     ensures { λ r. ⌜ r ≤ 65536 ⌝ }
 {
-    let a = output::text(o, at, b"send ");
+    match request {
+        Request::Urgent => output::text(o, at, b"urgent "),
+        _ => output::text(o, at, b"send "),
+    }
+}
+
+// The word of a call that sends.
+fn sending(o: &mut [u8; 65536], at: usize, command: Command) -> usize
+    ensures { λ r. ⌜ r ≤ 65536 ⌝ }
+{
+    match command {
+        Command::On(_, request) => send_word(o, at, request),
+        _ => output::text(o, at, b"send "),
+    }
+}
+
+fn sent(
+    o: &mut [u8; 65536],
+    at: usize,
+    command: Command,
+    n: u32,
+    list: Placings,
+    said: Answered,
+) -> usize
+    ensures { λ r. ⌜ r ≤ 65536 ⌝ }
+{
+    let a = sending(o, at, command);
     let b = output::decimal(o, a, n as u64);
     let c = output::text(o, b, b" placings ");
     let d = placings(o, c, list);
@@ -135,6 +162,7 @@ fn on_accepted(o: &mut [u8; 65536], at: usize, request: Request, said: Answered)
 {
     match request {
         Request::Send => with_message(o, at, b"send message ", said),
+        Request::Urgent => with_message(o, at, b"urgent message ", said),
         Request::Place(_) => output::text(o, at, b"place\n"),
         Request::Read => with_message(o, at, b"read message ", said),
         Request::Shutdown => with_message(o, at, b"shutdown message ", said),
@@ -182,7 +210,7 @@ pub fn answer(o: &mut [u8; 65536], at: usize, command: Command, said: Answered, 
     match reply {
         Reply::Refused(k) => refused(o, at, command, k, out),
         Reply::Accepted => accepted(o, at, command, said),
-        Reply::Sent(n, list) => sent(o, at, n, list, said),
+        Reply::Sent(n, list) => sent(o, at, command, n, list, said),
         Reply::Read(n) => was_read(o, at, n, said, out),
         Reply::Torn => torn(o, at, said, out),
         Reply::Heard(moved, s) => heard(o, at, moved, s, said),

@@ -15,6 +15,7 @@ pub enum CallVerb {
     LinkMessage,
     Sample,
     Send,
+    Urgent,
     Place,
     Read,
     Hear,
@@ -92,12 +93,13 @@ fn sample_line(buf: &mut [u8; 65536], c: Scan) -> CallLine
     line_of(ms.scan, command, 0, 0)
 }
 
-fn send_line(buf: &mut [u8; 65536], given: &mut [u8], c: Scan) -> CallLine
+// A plain send or an urgent one.
+fn send_line(buf: &mut [u8; 65536], given: &mut [u8], c: Scan, request: Request) -> CallLine
     ensures { λ r. ⌜ r .scan .left ≤ c .left ⌝ }
 {
     let slot = input::number(buf, c, MOST);
     let b = input::bytes(buf, given, slot.scan);
-    let command = Command::On(slot.value, Request::Send);
+    let command = Command::On(slot.value, request);
     line_of(b.scan, command, b.count, 0)
 }
 
@@ -154,7 +156,8 @@ pub fn parse(buf: &mut [u8; 65536], given: &mut [u8], c: Scan, verb: CallVerb) -
         CallVerb::Link => link_line(buf, c),
         CallVerb::LinkMessage => linkmsg_line(buf, given, c),
         CallVerb::Sample => sample_line(buf, c),
-        CallVerb::Send => send_line(buf, given, c),
+        CallVerb::Send => send_line(buf, given, c, Request::Send),
+        CallVerb::Urgent => send_line(buf, given, c, Request::Urgent),
         CallVerb::Place => place_line(buf, given, c),
         CallVerb::Read => read_line(buf, c),
         CallVerb::Hear => hear_line(buf, given, c),

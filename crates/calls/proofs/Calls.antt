@@ -20,7 +20,7 @@ use Rattle.connection.specs.declared.Reply.the-variants.{Accepted}
 use Rattle.connection.specs.declared.Effect.the-variants.{Nothing}
 use Rattle.connection.specs.declared.Outcome.{Outcome}
 use Rattle.connection.specs.Connection.{mostSize, effectOf}
-use Rattle.transmit.specs.Transmit.{sendOf}
+use Rattle.transmit.specs.Transmit.{sendOf, urgentSendOf}
 use Rattle.receive.specs.Receive.{placeOf, readOf}
 use Rattle.receive.proofs.Laws.{place-accepted}
 use Rattle.hear.specs.Hear.{hearOf}
@@ -74,6 +74,10 @@ module _ (n : ℕ) (active : Bool) (c : Record) (e : List ℕ) (o : Outcome) whe
   pub send-turn : (b : List ℕ) → o ≡ sendOf n active c (length b) → requestTurn n active c e (Request.send b) ≡ turnOf o e []
   unfolding requestTurn
   send-turn b h = ap (λ (w : Outcome). turnOf w e []) (sym h)
+
+  pub urgent-turn : (b : List ℕ) → o ≡ urgentSendOf n active c (length b) → requestTurn n active c e (Request.urgent b) ≡ turnOf o e []
+  unfolding requestTurn
+  urgent-turn b h = ap (λ (w : Outcome). turnOf w e []) (sym h)
 
   pub shutdown-turn : o ≡ shutdownOf n active c → requestTurn n active c e Request.shutdown ≡ turnOf o e []
   unfolding requestTurn

@@ -32,6 +32,7 @@ copiedOf (Copies n) = n
 -- the rules' request that the code's names, with what is lent
 abbrev pub requestOf : Request → List ℕ → List ℕ → Rules.Request
 requestOf Requests.Send b out = Rules.Request.send b
+requestOf Requests.Urgent b out = Rules.Request.urgent b
 requestOf (Requests.Place at) b out = Rules.Request.place at b
 requestOf Requests.Read b out = Rules.Request.read out
 requestOf Requests.Shutdown b out = Rules.Request.shutdown
@@ -41,6 +42,7 @@ requestOf Requests.Abort b out = Rules.Request.abort
 -- the out buffer is a read's alone
 abbrev pub readsB : Request → Bool
 readsB Requests.Send = false
+readsB Requests.Urgent = false
 readsB (Requests.Place at) = false
 readsB Requests.Read = true
 readsB Requests.Shutdown = false

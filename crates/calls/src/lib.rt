@@ -18,6 +18,7 @@ use table::Turned;
 // A call on a slot, with its numbers; its bytes are lent beside it.
 pub enum Request {
     Send,
+    Urgent,
     // an offset in our element
     Place(u32),
     Read,
@@ -43,6 +44,26 @@ pub fn send(
     let no = table::found(s, n, mem.len(), count, slot, rec);
     let active = table::link_active(links, rec.id.link);
     let o = transmit::send(n, active, rec, bytes.len());
+    table::settled(no, links, rec, o)
+}
+
+pub fn urgent_send(
+    s: u32,
+    n: u32,
+    mem: &[u8],
+    count: usize,
+    links: Links,
+    slot: u32,
+    rec: Record,
+    bytes: &[u8],
+) -> Turned
+    ensures { λ r.
+        ⌜ DidOn s n (now (mem .entry)) (now (mem .entry)) count links
+        (Call.on slot (Rules.Request.urgent (now (bytes .entry)))) slot rec r [] ⌝ }
+{
+    let no = table::found(s, n, mem.len(), count, slot, rec);
+    let active = table::link_active(links, rec.id.link);
+    let o = transmit::urgent_send(n, active, rec, bytes.len());
     table::settled(no, links, rec, o)
 }
 
@@ -199,6 +220,7 @@ pub fn on(
 {
     match request {
         Request::Send => send(s, n, mem, count, links, slot, rec, bytes),
+        Request::Urgent => urgent_send(s, n, mem, count, links, slot, rec, bytes),
         Request::Place(offset) => place(s, n, mem, count, links, slot, rec, offset, bytes),
         Request::Read => read(s, n, mem, count, links, slot, rec, out),
         Request::Shutdown => shutdown(s, n, mem, count, links, slot, rec),

@@ -1,7 +1,7 @@
 -- Laws of a connection's record: the facts of a coherent one, what a refusal tells, and what making a message keeps.
 -- Assumes nothing.
-use mathlib.Core.Path.{_≡_, refl, sym}
-use mathlib.Core.Bool.{Bool, true, false, _&&_, not, cond}
+use mathlib.Core.Path.{_≡_, refl, sym, ap, _∙_}
+use mathlib.Core.Bool.{Bool, true, false, _&&_, _||_, not, cond}
 use mathlib.Core.List.{List, [], _∷_}
 use mathlib.Core.Logic.{_⊎_, inl, inr}
 use Prim.Native.Nat.{ℕ, zero, suc, _+_, _-_, _*_, _≤_, _<_}
@@ -10,17 +10,20 @@ use lib.Dec.{ltb, leb}
 use lib.ListN.{getD}
 use borrow.Author.Needs.{needs}
 use borrow.Author.Tests.{leb-true, leb-false, ltb-true, not-true, le-leb, lt-leb, lt-ltb}
+use Rattle.cursor.specs.declared.Cursor.{Cursor}
 use Rattle.cursor.specs.Cursor.{inRange, goodB, gapOf}
-use Rattle.cursor.proofs.Laws.{gap-self, gap-adds, good-most}
+use Rattle.cursor.proofs.Laws.{gap-self, gap-adds, gap-rest, gap-front, good-most}
+use Rattle.cdc.specs.declared.Message.{Message}
 use Rattle.cdc.specs.Cdc.{encodeOf}
 use Rattle.closing.specs.declared.Marks.{Marks}
 use Rattle.connection.specs.declared.Opening.{Opening}
 use Rattle.connection.specs.declared.Record.{Record}
 use Rattle.connection.specs.declared.Remote.{Remote}
+use Rattle.connection.specs.declared.Urgent.{Urgent}
 use Rattle.connection.specs.declared.Reply.{Reply}
 use Rattle.connection.specs.declared.Reply.the-variants.{Refused}
 use Rattle.connection.specs.declared.Outcome.{Outcome}
-use Rattle.connection.specs.Connection.{leastSize, mostSize, mostLink, mostIndex, mostAddress, startCursor, openedRecord, every, lastByte, fitsB, remoteOk, numbersOk, offsetsOk, distancesOk, coherentB, refusalOf, messageOf, noMessage, sequenceAfter, toldIn, usedIn, toldOf, outcomeOf, refusedOf, closedIf, zeroRecord, marksTo}
+use Rattle.connection.specs.Connection.{leastSize, mostSize, mostLink, mostIndex, mostAddress, startCursor, openedRecord, every, lastByte, fitsB, remoteOk, numbersOk, offsetsOk, distancesOk, placeOk, placesOk, coherentB, noPlace, placeAt, reachedB, passedBy, refusalOf, messageOf, noMessage, sequenceAfter, toldIn, usedIn, toldOf, outcomeOf, urgentOutcome, refusedOf, closedIf, zeroRecord, marksTo}
 
 pub and-left : (a b : Bool) → a && b ≡ true → a ≡ true
 and-left true b e = refl
@@ -123,6 +126,70 @@ pub record Coherent (n : ℕ) (rec : Record) : Type 0 where
   pub sum :
       gapOf (n - 4) (rec .inbound .told) (rec .inbound .consumer) + gapOf (n - 4) (rec .inbound .consumer) (rec .inbound .producer) ≤ n - 4
   pub rq-good : goodB (rec .remote .size - 4) (rec .outbound .consumer) (rec .outbound .producer) ≡ true
+  pub their-place : placeOk n (rec .inbound .consumer) (rec .inbound .producer) (rec .inbound .urgent) ≡ true
+  pub own-place : placeOk (rec .remote .size) (rec .outbound .consumer) (rec .outbound .producer) (rec .outbound .urgent) ≡ true
+
+-- URGENT PLACES. Where one stands
+pub record Stands (n : ℕ) (from to at : Cursor) : Type 0 where
+  pub range : inRange n at ≡ true
+  pub good : goodB (n - 4) from at ≡ true
+  pub least : 1 ≤ gapOf (n - 4) from at
+  pub most : gapOf (n - 4) from at ≤ gapOf (n - 4) from to
+
+module _ (n : ℕ) (from to : Cursor) where
+  pub place-none : placeOk n from to noPlace ≡ true
+  unfolding placeOk
+  place-none = refl
+
+  pub place-new : (at : Cursor) → Stands n from to at → placeOk n from to (placeAt at) ≡ true
+  unfolding placeOk
+  place-new at s = simp (s .range, s .good, le-leb 1 _ (s .least), le-leb _ _ (s .most))
+
+  pub place-facts : (u : Urgent) → placeOk n from to u ≡ true → u .standing ≡ true → Stands n from to (u .place)
+  unfolding placeOk
+  place-facts u e s =
+      let d = n - 4 in
+      let at = u .place in
+      let tests = inRange n at ∷ goodB d from at ∷ leb 1 (gapOf d from at) ∷ leb (gapOf d from at) (gapOf d from to) ∷ [] in
+      let h = holds tests (go (u .standing) (every tests) s e) in
+      record { range = h 0; good = h 1; least = leb-true 1 _ (h 2); most = leb-true _ _ (h 3) }
+    where
+      go : (s x : Bool) → s ≡ true → not s || x ≡ true → x ≡ true
+      go true x e h = h
+      go false x e h = cc
+
+  -- a place that stands is where one stands; one that does not is everywhere
+  pub place-by : (u : Urgent) → (u .standing ≡ true → Stands n from to (u .place)) → placeOk n from to u ≡ true
+  unfolding placeOk
+  place-by u h = go (u .standing) refl
+    where
+      go : (s : Bool) → u .standing ≡ s → placeOk n from to u ≡ true
+      go true e = let s = h e in simp (e, s .range, s .good, le-leb 1 _ (s .least), le-leb _ _ (s .most))
+      go false e = simp e
+
+-- it stands as well where the way goes further
+pub place-further : (n : ℕ) (from to to' : Cursor) (u : Urgent) → placeOk n from to u ≡ true
+    → gapOf (n - 4) from to ≤ gapOf (n - 4) from to' → placeOk n from to' u ≡ true
+place-further n from to to' u e h =
+    place-by n from to' u (λ s.
+    let p = place-facts n from to u e s in
+    record { range = p .range; good = p .good; least = p .least; most = omega (arith, p .most) })
+
+-- a cursor that has come to `at` leaves it where it stood, unless it reached or passed it
+pub place-passed : (n : ℕ) (from at to : Cursor) (u : Urgent) → inRange n from ≡ true → inRange n at ≡ true → inRange n to ≡ true
+    → goodB (n - 4) from to ≡ true → goodB (n - 4) at to ≡ true → placeOk n from to u ≡ true → placeOk n at to (passedBy n at to u) ≡ true
+unfolding passedBy reachedB
+place-passed n from at to u rf ra rt ft at-to e = go (reachedB n at to u) refl
+  where
+    go : (r : Bool) → reachedB n at to u ≡ r → placeOk n at to (cond r noPlace u) ≡ true
+    go true h = place-none n at to
+    go false h =
+        place-by n at to u (λ s.
+        let p = place-facts n from to u e s in
+        let rest = gap-rest n from (u .place) to rf (p .range) rt (p .good) ft (p .most) in
+        let near = leb-false (gapOf (n - 4) at to) (gapOf (n - 4) (u .place) to) (sym (ap (λ (b : Bool). b && leb (gapOf (n - 4) at to) (gapOf (n - 4) (u .place) to)) s) ∙ h) in
+        let front = gap-front n at (u .place) to ra (p .range) (rest .0) at-to (omega arith) in
+        record { range = p .range; good = front .0; least = omega (arith, front .1); most = omega (arith, front .1) })
 
 -- the tests of each part, as the list that the part is
 abbrev numberTests : Record → List Bool
@@ -154,11 +221,17 @@ distanceTests n rec =
     ∷ goodB (rec .remote .size - 4) (rec .outbound .consumer) (rec .outbound .producer)
     ∷ []
 
+abbrev theirPlace : ℕ → Record → Bool
+theirPlace n rec = placeOk n (rec .inbound .consumer) (rec .inbound .producer) (rec .inbound .urgent)
+
+abbrev ownPlace : Record → Bool
+ownPlace rec = placeOk (rec .remote .size) (rec .outbound .consumer) (rec .outbound .producer) (rec .outbound .urgent)
+
 module _ (n : ℕ) (rec : Record) where
   pub coherent-facts : coherentB n rec ≡ true → Coherent n rec
-  unfolding coherentB numbersOk offsetsOk distancesOk
+  unfolding coherentB numbersOk offsetsOk distancesOk placesOk
   coherent-facts e =
-      let part = holds (numbersOk rec ∷ offsetsOk n rec ∷ distancesOk n rec ∷ []) e in
+      let part = holds (numbersOk rec ∷ offsetsOk n rec ∷ distancesOk n rec ∷ placesOk n rec ∷ []) e in
       let number = holds (numberTests rec) (part 0) in
       let offset = holds (offsetTests n rec) (part 1) in
       let distance = holds (distanceTests n rec) (part 2) in
@@ -178,6 +251,8 @@ module _ (n : ℕ) (rec : Record) where
         cp-good = distance 1;
         sum = leb-true _ (n - 4) (distance 2);
         rq-good = distance 3;
+        their-place = and-left (theirPlace n rec) (ownPlace rec) (part 3);
+        own-place = and-right (theirPlace n rec) (ownPlace rec) (part 3);
       }
 
   numbers-from : Coherent n rec → numbersOk rec ≡ true
@@ -200,9 +275,13 @@ module _ (n : ℕ) (rec : Record) where
   unfolding distancesOk
   distances-from f = simp (f .tc-good, f .cp-good, le-leb _ (n - 4) (f .sum), f .rq-good)
 
+  places-from : Coherent n rec → placesOk n rec ≡ true
+  unfolding placesOk
+  places-from f = simp (f .their-place, f .own-place)
+
   pub coherent-from : Coherent n rec → coherentB n rec ≡ true
   unfolding coherentB
-  coherent-from f = simp (numbers-from f, offsets-from f, distances-from f)
+  coherent-from f = simp (numbers-from f, offsets-from f, distances-from f, places-from f)
 
   -- the distance T to P, of which the peer's window is what is left
   pub tp-good :
@@ -317,6 +396,24 @@ module _ (reply : Reply) (tells : Bool) (rec : Record) where
   unfolding outcomeOf toldOf usedIn
   outcome-next = elim tells [ true ↦ refl | false ↦ refl ]
 
+-- an urgent send differs from another call that tells in its message alone
+module _ (reply : Reply) (m : Message) (rec : Record) where
+  pub urgent-reply : urgentOutcome reply m rec .reply ≡ reply
+  unfolding urgentOutcome
+  urgent-reply = refl
+
+  pub urgent-made : urgentOutcome reply m rec .made ≡ true
+  unfolding urgentOutcome
+  urgent-made = refl
+
+  pub urgent-message : urgentOutcome reply m rec .message ≡ encodeOf m
+  unfolding urgentOutcome
+  urgent-message = refl
+
+  pub urgent-after : urgentOutcome reply m rec .after ≡ toldOf rec
+  unfolding urgentOutcome
+  urgent-after = refl
+
 module _ (k : ℕ) (rec : Record) where
   pub refused-reply : refusedOf k rec .reply ≡ Refused k
   unfolding refusedOf
@@ -407,4 +504,6 @@ opened-coherent n given n-least own-some peer-some link-least link-most remote-o
       cp-good = own-gap .0;
       sum = omega (arith, own-gap .1);
       rq-good = remote-gap .0;
+      their-place = place-none n startCursor startCursor;
+      own-place = place-none (given .remote .size) startCursor startCursor;
     })

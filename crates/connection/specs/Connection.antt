@@ -1,11 +1,12 @@
 -- Document 01, "The memory and the tables" and "The 44-byte message": a connection's record, coherence, and making a message.
 -- P, C, T are the inbound producer, consumer and told; Q, R the outbound producer and consumer; N' is the remote size. Inbound `last` is
 -- the last sequence number heard, `blocked` and `request` are B and R of the last message heard; outbound `next` is the next sequence
--- number, `blocked` our present B. Of the marks, `abort` is A sent and `first` ours first. Remote `index` is the place of the peer's
--- element in its memory, and `link1` to `link4` are that memory's key and base on each link.
+-- number, `blocked` our present B. Each side's `urgent` is its urgent place (request 2026-04). Of the marks, `abort` is A sent and `first`
+-- ours first. Remote `index` is the place of the peer's element in its memory, and `link1` to `link4` are that memory's key and base on
+-- each link.
 -- Assumes nothing.
 use Prim.Native.Nat.{ℕ, _+_, _-_, _*_, _%_}
-use mathlib.Core.Bool.{Bool, true, false, _&&_, not, cond}
+use mathlib.Core.Bool.{Bool, true, false, _&&_, _||_, not, cond}
 use mathlib.Core.List.{List, [], _∷_}
 use lib.Dec.{ltb, leb}
 use lib.ListN.{replicate}
@@ -18,6 +19,7 @@ use Rattle.closing.specs.declared.Marks.{Marks}
 use Rattle.connection.specs.declared.Identity.{Identity}
 use Rattle.connection.specs.declared.RToken.{RToken}
 use Rattle.connection.specs.declared.Remote.{Remote}
+use Rattle.connection.specs.declared.Urgent.{Urgent}
 use Rattle.connection.specs.declared.Inbound.{Inbound}
 use Rattle.connection.specs.declared.Outbound.{Outbound}
 use Rattle.connection.specs.declared.Record.{Record}
@@ -45,7 +47,18 @@ mostIndex = 255
 abbrev pub mostAddress : ℕ
 mostAddress = 18446744073709551615
 
--- A record before anything is sent or heard: all cursors at one place, the next sequence number `next`, last heard 0, marks off
+abbrev pub zeroCursor : Cursor
+zeroCursor = record { offset = 0; wrap = 0 }
+
+-- An urgent place: none, or a cursor. A place that is cleared is all zeros
+abbrev pub noPlace : Urgent
+noPlace = record { standing = false; place = zeroCursor }
+
+abbrev pub placeAt : Cursor → Urgent
+placeAt c = record { standing = true; place = c }
+
+-- A record before anything is sent or heard: all cursors at one place, the next sequence number `next`, last heard 0, no urgent place,
+-- marks off
 abbrev pub noMarks : Side
 noMarks = record { done = false; closed = false }
 
@@ -54,15 +67,13 @@ restingRecord id remote at next =
     record {
       id = id;
       remote = remote;
-      inbound = record { producer = at; consumer = at; told = at; last = 0; blocked = false; request = false };
-      outbound = record { producer = at; consumer = at; next = next; blocked = false };
+      inbound =
+          record { producer = at; consumer = at; told = at; last = 0; blocked = false; request = false; urgent = noPlace };
+      outbound = record { producer = at; consumer = at; next = next; blocked = false; urgent = noPlace };
       marks = record { sent = noMarks; heard = noMarks; first = false; abort = false };
     }
 
 -- closing writes all zeros
-abbrev pub zeroCursor : Cursor
-zeroCursor = record { offset = 0; wrap = 0 }
-
 abbrev pub zeroToken : RToken
 zeroToken = record { key = 0; base = 0 }
 
@@ -81,38 +92,46 @@ openedRecord given =
 
 -- One setter for each field that a call changes. No definition but these and `restingRecord` spells the fields of a record: a rule that
 -- sets several is these, one after the other.
--- P, C and T; the last sequence number heard; B and R of the last message heard
+-- P, C and T; the last sequence number heard; B and R of the last message heard; the urgent place of our element
 abbrev pub pTo : Inbound → Cursor → Inbound
 pTo i p =
-    record { producer = p; consumer = i .consumer; told = i .told; last = i .last; blocked = i .blocked; request = i .request }
+    record { producer = p; consumer = i .consumer; told = i .told; last = i .last; blocked = i .blocked; request = i .request; urgent = i .urgent }
 
 abbrev pub cTo : Inbound → Cursor → Inbound
 cTo i c =
-    record { producer = i .producer; consumer = c; told = i .told; last = i .last; blocked = i .blocked; request = i .request }
+    record { producer = i .producer; consumer = c; told = i .told; last = i .last; blocked = i .blocked; request = i .request; urgent = i .urgent }
 
 abbrev pub tTo : Inbound → Cursor → Inbound
 tTo i t =
-    record { producer = i .producer; consumer = i .consumer; told = t; last = i .last; blocked = i .blocked; request = i .request }
+    record { producer = i .producer; consumer = i .consumer; told = t; last = i .last; blocked = i .blocked; request = i .request; urgent = i .urgent }
 
 abbrev pub lastTo : Inbound → ℕ → Inbound
 lastTo i s =
-    record { producer = i .producer; consumer = i .consumer; told = i .told; last = s; blocked = i .blocked; request = i .request }
+    record { producer = i .producer; consumer = i .consumer; told = i .told; last = s; blocked = i .blocked; request = i .request; urgent = i .urgent }
 
 abbrev pub flagsTo : Inbound → Bool → Bool → Inbound
-flagsTo i b r = record { producer = i .producer; consumer = i .consumer; told = i .told; last = i .last; blocked = b; request = r }
+flagsTo i b r =
+    record { producer = i .producer; consumer = i .consumer; told = i .told; last = i .last; blocked = b; request = r; urgent = i .urgent }
 
--- Q and R; the next sequence number; our present B
+abbrev pub urgentInTo : Inbound → Urgent → Inbound
+urgentInTo i u =
+    record { producer = i .producer; consumer = i .consumer; told = i .told; last = i .last; blocked = i .blocked; request = i .request; urgent = u }
+
+-- Q and R; the next sequence number; our present B; the urgent place of our own sends
 abbrev pub qTo : Outbound → Cursor → Outbound
-qTo o q = record { producer = q; consumer = o .consumer; next = o .next; blocked = o .blocked }
+qTo o q = record { producer = q; consumer = o .consumer; next = o .next; blocked = o .blocked; urgent = o .urgent }
 
 abbrev pub rTo : Outbound → Cursor → Outbound
-rTo o r = record { producer = o .producer; consumer = r; next = o .next; blocked = o .blocked }
+rTo o r = record { producer = o .producer; consumer = r; next = o .next; blocked = o .blocked; urgent = o .urgent }
 
 abbrev pub nextTo : Outbound → ℕ → Outbound
-nextTo o s = record { producer = o .producer; consumer = o .consumer; next = s; blocked = o .blocked }
+nextTo o s = record { producer = o .producer; consumer = o .consumer; next = s; blocked = o .blocked; urgent = o .urgent }
 
 abbrev pub blockedTo : Outbound → Bool → Outbound
-blockedTo o b = record { producer = o .producer; consumer = o .consumer; next = o .next; blocked = b }
+blockedTo o b = record { producer = o .producer; consumer = o .consumer; next = o .next; blocked = b; urgent = o .urgent }
+
+abbrev pub urgentOutTo : Outbound → Urgent → Outbound
+urgentOutTo o u = record { producer = o .producer; consumer = o .consumer; next = o .next; blocked = o .blocked; urgent = u }
 
 -- what came in, what goes out, the marks. Who the connection is and what its peer said of itself at open stay
 abbrev pub inboundTo : Record → Inbound → Record
@@ -191,16 +210,40 @@ distancesOk N rec =
     let D' = dataOf (rec .remote .size) in
     every (goodB D t c ∷ goodB D c p ∷ leb (gapOf D t c + gapOf D c p) D ∷ goodB D' r q ∷ [])
 
+-- an urgent place, in an element of n bytes, lies after `from` up to `to`: its offset is in range, the distance to it is good, at least 1,
+-- at most the distance to `to`
+unfoldable pub placeOk : ℕ → Cursor → Cursor → Urgent → Bool
+placeOk n from to u =
+    let D = dataOf n in
+    let at = u .place in
+    not (u .standing) || every (inRange n at ∷ goodB D from at ∷ leb 1 (gapOf D from at) ∷ leb (gapOf D from at) (gapOf D from to) ∷ [])
+
+-- an urgent place lies after C up to P, or, of our own sends, after R up to Q
+unfoldable pub placesOk : ℕ → Record → Bool
+placesOk N rec =
+    let i = rec .inbound in
+    let o = rec .outbound in
+    placeOk N (i .consumer) (i .producer) (i .urgent) && placeOk (rec .remote .size) (o .consumer) (o .producer) (o .urgent)
+
 -- an open record is coherent
 unfoldable pub coherentB : ℕ → Record → Bool
-coherentB N rec = every (numbersOk rec ∷ offsetsOk N rec ∷ distancesOk N rec ∷ [])
+coherentB N rec = every (numbersOk rec ∷ offsetsOk N rec ∷ distancesOk N rec ∷ placesOk N rec ∷ [])
 
 -- what every call on a connection tests, in this order: 3, the record is not coherent; 6, its link is down; 7, the state forbids.
 -- 0: not refused
 unfoldable pub refusalOf : ℕ → Bool → Record → Bool → ℕ
 refusalOf N active rec forbids = cond (coherentB N rec) (cond active (cond forbids 7 0) 6) 3
 
--- each message carries the peer token, Q, C, our present B, and D, C or A for the marks we have sent; P, U, R and F stay zero
+-- A cursor on its way to `to`, now at `at`, has reached or passed a place that stands: it is no further from `to` than the place
+unfoldable pub reachedB : ℕ → Cursor → Cursor → Urgent → Bool
+reachedB n at to u = u .standing && leb (gapOf (dataOf n) at to) (gapOf (dataOf n) (u .place) to)
+
+-- the place is cleared then
+unfoldable pub passedBy : ℕ → Cursor → Cursor → Urgent → Urgent
+passedBy n at to u = cond (reachedB n at to u) noPlace u
+
+-- each message carries the peer token, Q, C, our present B, P and U while an urgent place of our own stands, and D, C or A for the marks
+-- we have sent; R and F stay zero
 unfoldable pub messageOf : Record → Message
 messageOf rec =
     record {
@@ -211,13 +254,34 @@ messageOf rec =
       flags =
           record {
             blocked = rec .outbound .blocked;
-            pending = false;
-            urgent = false;
+            pending = rec .outbound .urgent .standing;
+            urgent = rec .outbound .urgent .standing;
             request = false;
             failover = false;
             done = rec .marks .sent .done;
             closed = rec .marks .sent .closed;
             abort = rec .marks .abort;
+          };
+    }
+
+-- the message of an urgent send that is cut short has P whatever stands
+unfoldable pub pendingOf : Message → Message
+pendingOf m =
+    record {
+      sequence = m .sequence;
+      token = m .token;
+      producer = m .producer;
+      consumer = m .consumer;
+      flags =
+          record {
+            blocked = m .flags .blocked;
+            pending = true;
+            urgent = m .flags .urgent;
+            request = m .flags .request;
+            failover = m .flags .failover;
+            done = m .flags .done;
+            closed = m .flags .closed;
+            abort = m .flags .abort;
           };
     }
 
@@ -249,6 +313,10 @@ outcomeOf reply tells rec =
     cond tells
     (record { reply = reply; made = true; message = encodeOf (messageOf rec); after = toldOf rec })
     (silentOf reply rec)
+
+-- an urgent send always makes one: m, which tells the record rec
+unfoldable pub urgentOutcome : Reply → Message → Record → Outcome
+urgentOutcome reply m rec = record { reply = reply; made = true; message = encodeOf m; after = toldOf rec }
 
 -- a refusal returns its number only, and changes nothing
 unfoldable pub refusedOf : ℕ → Record → Outcome

@@ -3,9 +3,9 @@
 ghost use mathlib.Core.Path.{_≡_};
 ghost use mathlib.Core.Bool.{Bool};
 ghost use Rattle.connection.specs.Connection.{restingRecord, zeroRecord, openedRecord, fitsB, remoteOk, numbersOk, offsetsOk};
-ghost use Rattle.connection.specs.Connection.{distancesOk, coherentB};
+ghost use Rattle.connection.specs.Connection.{distancesOk, placeOk, placesOk, coherentB, reachedB, passedBy};
 ghost use Rattle.connection.specs.Connection.{refusalOf, messageOf, toldIn, usedIn, toldOf, silentOf, outcomeOf, refusedOf, closedIf};
-ghost use Rattle.connection.specs.Connection.{marksTo, effectOf};
+ghost use Rattle.connection.specs.Connection.{noPlace, pendingOf, urgentOutcome, marksTo, effectOf};
 use cdc::Flags;
 use cdc::Message;
 use closing::Marks;
@@ -53,8 +53,14 @@ pub struct Remote {
     pub link4: RToken,
 }
 
+// An urgent place: whether one stands, and where. All zeros where none does.
+pub struct Urgent {
+    pub standing: bool,
+    pub place: Cursor,
+}
+
 // What comes in, in our own element: P the peer's producer as last heard, C our consumer, T the consumer last told; the last sequence
-// number heard; B and R of the last message heard.
+// number heard; B and R of the last message heard; the urgent place.
 pub struct Inbound {
     pub producer: Cursor,
     pub consumer: Cursor,
@@ -62,14 +68,17 @@ pub struct Inbound {
     pub last: u16,
     pub blocked: bool,
     pub request: bool,
+    pub urgent: Urgent,
 }
 
-// What goes out, in the peer's element: Q our producer, R the peer's consumer as last heard; the next sequence number; our present B.
+// What goes out, in the peer's element: Q our producer, R the peer's consumer as last heard; the next sequence number; our present B;
+// the urgent place of our own sends.
 pub struct Outbound {
     pub producer: Cursor,
     pub consumer: Cursor,
     pub next: u16,
     pub blocked: bool,
+    pub urgent: Urgent,
 }
 
 pub struct Record {
@@ -135,10 +144,22 @@ pub struct Outcome {
     pub after: Record,
 }
 
+// No urgent place stands.
+fn no_place() -> Urgent
+    ensures { λ r. ⌜ r ≡ noPlace ⌝ }
+{
+    let at = Cursor { offset: 0, wrap: 0 };
+    Urgent {
+        standing: false,
+        place: at,
+    }
+}
+
 // A record before anything is sent or heard, all its cursors at one place.
 fn resting_record(id: Identity, remote: Remote, at: Cursor, next: u16) -> Record
     ensures { λ r. ⌜ r ≡ restingRecord id remote at next ⌝ }
 {
+    let nowhere = no_place();
     let inbound = Inbound {
         producer: at,
         consumer: at,
@@ -146,12 +167,14 @@ fn resting_record(id: Identity, remote: Remote, at: Cursor, next: u16) -> Record
         last: 0,
         blocked: false,
         request: false,
+        urgent: nowhere,
     };
     let outbound = Outbound {
         producer: at,
         consumer: at,
         next: next,
         blocked: false,
+        urgent: nowhere,
     };
     let side = Side {
         done: false,
@@ -282,11 +305,53 @@ fn distances_ok(n: u32, rec: Record) -> bool
             & ((cursor::gap(d, t, c) + cursor::gap(d, c, p) <= (d as u64)) & cursor::good(e, r, q)))
 }
 
+// Whether an urgent place lies after `from` up to `to`, in an element of n bytes.
+fn place_ok(n: u32, from: Cursor, to: Cursor, u: Urgent) -> bool
+    ensures { λ r. ⌜ r ≡ placeOk n from to u ⌝ }
+{
+    let at = u.place;
+    let d = cursor::data_size(n);
+    let far = cursor::gap(d, from, at);
+    !u.standing
+        | (cursor::in_range(n, at)
+            & (cursor::good(d, from, at) & ((1 <= far) & (far <= cursor::gap(d, from, to)))))
+}
+
+fn places_ok(n: u32, rec: Record) -> bool
+    ensures { λ r. ⌜ r ≡ placesOk n rec ⌝ }
+{
+    let i = rec.inbound;
+    let o = rec.outbound;
+    let c = i.consumer;
+    let p = i.producer;
+    let theirs = i.urgent;
+    let r = o.consumer;
+    let q = o.producer;
+    let ours = o.urgent;
+    place_ok(n, c, p, theirs) & place_ok(rec.remote.size, r, q, ours)
+}
+
 // Whether an open record is coherent, in a memory whose elements have n bytes.
 pub fn coherent(n: u32, rec: Record) -> bool
     ensures { λ r. ⌜ r ≡ coherentB n rec ⌝ }
 {
-    numbers_ok(rec) & (offsets_ok(n, rec) & distances_ok(n, rec))
+    numbers_ok(rec) & (offsets_ok(n, rec) & (distances_ok(n, rec) & places_ok(n, rec)))
+}
+
+// Whether a cursor on its way to `to`, now at `at`, has reached or passed an urgent place that stands.
+pub fn reached(n: u32, at: Cursor, to: Cursor, u: Urgent) -> bool
+    ensures { λ r. ⌜ r ≡ reachedB n at to u ⌝ }
+{
+    let place = u.place;
+    let d = cursor::data_size(n);
+    u.standing & (cursor::gap(d, at, to) <= cursor::gap(d, place, to))
+}
+
+// The place is cleared then.
+pub fn passed_by(n: u32, at: Cursor, to: Cursor, u: Urgent) -> Urgent
+    ensures { λ r. ⌜ r ≡ passedBy n at to u ⌝ }
+{
+    if reached(n, at, to, u) { no_place() } else { u }
 }
 
 // The refusal that every call on a connection tests: 3, then 6, then 7 where `forbids`; 0 for none.
@@ -306,15 +371,15 @@ pub fn refusal(n: u32, active: bool, rec: Record, forbids: bool) -> u8
 }
 
 // The message that tells the record's present state.
-fn message_of(rec: Record) -> Message
+pub fn message_of(rec: Record) -> Message
     ensures { λ r. ⌜ r ≡ messageOf rec ⌝ }
 {
     let q = rec.outbound.producer;
     let c = rec.inbound.consumer;
     let flags = Flags {
         blocked: rec.outbound.blocked,
-        pending: false,
-        urgent: false,
+        pending: rec.outbound.urgent.standing,
+        urgent: rec.outbound.urgent.standing,
         request: false,
         failover: false,
         done: rec.marks.sent.done,
@@ -328,6 +393,15 @@ fn message_of(rec: Record) -> Message
         consumer: c,
         flags: flags,
     }
+}
+
+// The message with P.
+pub fn pending(m: Message) -> Message
+    ensures { λ r. ⌜ r ≡ pendingOf m ⌝ }
+{
+    let mut next = m;
+    next.flags.pending = true;
+    next
 }
 
 fn told_in(i: Inbound) -> Inbound
@@ -387,6 +461,20 @@ pub fn outcome_of(reply: Reply, tells: bool, rec: Record) -> Outcome
         };
     }
     silent(reply, rec)
+}
+
+// The outcome of an urgent send that left the record rec: with the message m.
+pub fn urgent_outcome(reply: Reply, m: Message, rec: Record) -> Outcome
+    ensures { λ r. ⌜ r ≡ urgentOutcome reply m rec ⌝ }
+{
+    let bytes = cdc::encode(m);
+    let left = told(rec);
+    Outcome {
+        reply: reply,
+        made: true,
+        message: bytes,
+        after: left,
+    }
 }
 
 // A refusal: its number, and the record as it was.

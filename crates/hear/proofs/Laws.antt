@@ -6,9 +6,9 @@ use mathlib.Core.List.{[], _∷_}
 use mathlib.Core.Logic.{_⊎_, inl, inr}
 use Prim.Native.Nat.{ℕ, _+_, _-_, _≤_}
 use native.Mathlib.Omega.{arith}
-use lib.Dec.{leb, eqb}
+use lib.Dec.{ltb, leb, eqb}
 use borrow.Author.Needs.{needs}
-use borrow.Author.Tests.{leb-true}
+use borrow.Author.Tests.{leb-true, ltb-true}
 use Rattle.cursor.specs.declared.Cursor.{Cursor}
 use Rattle.cursor.specs.Cursor.{inRange, sameB, goodB, gapOf}
 use Rattle.cursor.proofs.Laws.{gap-rest, good-most}
@@ -19,9 +19,9 @@ use Rattle.connection.specs.declared.Record.{Record}
 use Rattle.connection.specs.declared.Reply.{Reply}
 use Rattle.connection.specs.declared.Reply.the-variants.{Heard}
 use Rattle.connection.specs.declared.Outcome.{Outcome}
-use Rattle.connection.specs.Connection.{zeroRecord, coherentB, refusalOf, outcomeOf, refusedOf, closedIf, marksTo}
-use Rattle.connection.proofs.Laws.{and-left, and-right, holds, Coherent, coherent-facts, coherent-from, tp-good, refusal-0, outcome-reply, outcome-id, outcome-coherent, refused-after, closed-reply, closed-after, closed-not}
-use Rattle.hear.specs.Hear.{producerB, consumerB, heardIn, heardOut, heardRecord, answersB, abortedOf, acceptedOf, ruledOf, nextB, followedOf, hearOf}
+use Rattle.connection.specs.Connection.{zeroRecord, placeAt, placeOk, coherentB, refusalOf, outcomeOf, refusedOf, closedIf, marksTo}
+use Rattle.connection.proofs.Laws.{and-left, and-right, holds, Coherent, coherent-facts, coherent-from, place-new, place-further, place-passed, tp-good, refusal-0, outcome-reply, outcome-id, outcome-coherent, refused-after, closed-reply, closed-after, closed-not}
+use Rattle.hear.specs.Hear.{producerB, consumerB, movedBy, urgesB, urgentIn, heardIn, heardOut, heardRecord, answersB, abortedOf, acceptedOf, ruledOf, nextB, followedOf, hearOf}
 
 -- the rules that a heard producer p keeps
 pub record Produces (n : ℕ) (rec : Record) (p : Cursor) : Type 0 where
@@ -73,83 +73,121 @@ new-cp n rec p f k =
     gap-rest n (rec .inbound .told) (rec .inbound .consumer) p (f .t-range) (f .c-range) (k .range) (f .tc-good) (k .tp-good)
     (omega (arith, tp-good n rec f, k .no-less))
 
--- how far P moved is what the distance from T grew by
-pub hear-moved : (n : ℕ) (rec : Record) (p : Cursor) → Coherent n rec → producerB n rec p ≡ true
+moved-is : (n : ℕ) (rec : Record) (p : Cursor) → Coherent n rec → Produces n rec p
     → gapOf (n - 4) (rec .inbound .told) (rec .inbound .producer) + gapOf (n - 4) (rec .inbound .producer) p
     ≡ gapOf (n - 4) (rec .inbound .told) p
-hear-moved n rec p f e =
-    let k = producer-rules n rec p e in
+moved-is n rec p f k =
     gap-rest n (rec .inbound .told) (rec .inbound .producer) p (f .t-range) (f .p-range) (k .range) (tp-good n rec f .0) (k .tp-good)
     (k .no-less)
     .1
 
+-- how far P moved is what the distance from T grew by
+pub hear-moved : (n : ℕ) (rec : Record) (p : Cursor) → Coherent n rec → producerB n rec p ≡ true
+    → gapOf (n - 4) (rec .inbound .told) (rec .inbound .producer) + gapOf (n - 4) (rec .inbound .producer) p
+    ≡ gapOf (n - 4) (rec .inbound .told) p
+hear-moved n rec p f e = moved-is n rec p f (producer-rules n rec p e)
+
+-- and the distance from C
+pub cp-grown : (n : ℕ) (rec : Record) (p : Cursor) → Coherent n rec → Produces n rec p
+    → gapOf (n - 4) (rec .inbound .consumer) p
+    ≡ gapOf (n - 4) (rec .inbound .consumer) (rec .inbound .producer) + gapOf (n - 4) (rec .inbound .producer) p
+cp-grown n rec p f k = omega (arith, new-cp n rec p f k .1, moved-is n rec p f k, tp-good n rec f .1)
+
+-- the urgent place of our element, a new one or the old, lies after C up to the new P
+new-place : (n : ℕ) (rec : Record) (m : Message) → Coherent n rec → Produces n rec (m .producer)
+    → placeOk n (rec .inbound .consumer) (m .producer) (urgentIn n (rec .inbound) m) ≡ true
+unfolding urgentIn urgesB
+new-place n rec m f k = go (m .flags .urgent) (ltb 0 (movedBy n (rec .inbound) m)) refl
+  where
+    old : placeOk n (rec .inbound .consumer) (m .producer) (rec .inbound .urgent) ≡ true
+    old =
+        let i = rec .inbound in
+        place-further n (i .consumer) (i .producer) (m .producer) (i .urgent) (f .their-place)
+        (omega (arith, cp-grown n rec (m .producer) f k))
+
+    go : (u moves : Bool) → ltb 0 (movedBy n (rec .inbound) m) ≡ moves
+        → placeOk n (rec .inbound .consumer) (m .producer) (cond (u && moves) (placeAt (m .producer)) (rec .inbound .urgent)) ≡ true
+    go true true e =
+        let grown = cp-grown n rec (m .producer) f k in
+        let some = ltb-true 0 (movedBy n (rec .inbound) m) e in
+        place-new n (rec .inbound .consumer) (m .producer) (m .producer)
+        (record { range = k .range; good = new-cp n rec (m .producer) f k .0; least = omega arith; most = omega arith })
+    go true false e = old
+    go false moves e = old
+
 -- the record with what the message says is coherent, unless C is then heard and sent
 pub heard-facts : (n : ℕ) (rec : Record) (m : Message) → Coherent n rec → Produces n rec (m .producer) → Consumes rec (m .consumer)
-    → heardRecord rec m .marks .heard .closed && heardRecord rec m .marks .sent .closed ≡ false → Coherent n (heardRecord rec m)
+    → heardRecord n rec m .marks .heard .closed && heardRecord n rec m .marks .sent .closed ≡ false → Coherent n (heardRecord n rec m)
 unfolding heardRecord heardIn heardOut marksTo marksHeard
 heard-facts n rec m f k r e =
     let g = new-cp n rec (m .producer) f k in
     let up = good-most (n - 4) (rec .inbound .told) (m .producer) (k .tp-good) in
-    let not-both = and-comm (rec .marks .sent .closed) (heardRecord rec m .marks .heard .closed) ∙ e in
+    let not-both = and-comm (rec .marks .sent .closed) (heardRecord n rec m .marks .heard .closed) ∙ e in
+    let theirs = new-place n rec m f k in
+    let o = rec .outbound in
+    let own =
+    place-passed (rec .remote .size) (o .consumer) (m .consumer) (o .producer) (o .urgent) (f .r-range) (r .range) (f .q-range) (f .rq-good)
+    (r .rq-good) (f .own-place)
+    in
     search needs
 
-pub heard-id : (rec : Record) (m : Message) → heardRecord rec m .id ≡ rec .id
+pub heard-id : (n : ℕ) (rec : Record) (m : Message) → heardRecord n rec m .id ≡ rec .id
 unfolding heardRecord marksTo
-heard-id rec m = refl
+heard-id n rec m = refl
 
 pub aborted-shut : (rec : Record) → abortedOf rec .after ≡ zeroRecord
 unfolding abortedOf
 aborted-shut rec = closed-after true _
 
 -- an accepted message: whether C is then heard and sent, what the answer names, and the outcome before the slot may be closed
-abbrev pub shutBy : Record → Message → Bool
-shutBy rec m = heardRecord rec m .marks .heard .closed && heardRecord rec m .marks .sent .closed
+abbrev pub shutBy : ℕ → Record → Message → Bool
+shutBy n rec m = heardRecord n rec m .marks .heard .closed && heardRecord n rec m .marks .sent .closed
 
 abbrev pub repliedTo : ℕ → Record → Message → Reply
-repliedTo n rec m = Heard (gapOf (n - 4) (rec .inbound .producer) (m .producer)) (stateOf (heardRecord rec m .marks))
+repliedTo n rec m = Heard (gapOf (n - 4) (rec .inbound .producer) (m .producer)) (stateOf (heardRecord n rec m .marks))
 
 abbrev pub heardOutcome : ℕ → Record → Message → Outcome
-heardOutcome n rec m = outcomeOf (repliedTo n rec m) (answersB (rec .inbound) m) (heardRecord rec m)
+heardOutcome n rec m = outcomeOf (repliedTo n rec m) (answersB n (rec .inbound) m) (heardRecord n rec m)
 
 module _ (n : ℕ) (rec : Record) (m : Message) where
-  pub accepted-is : acceptedOf n rec m ≡ closedIf (shutBy rec m) (heardOutcome n rec m)
+  pub accepted-is : acceptedOf n rec m ≡ closedIf (shutBy n rec m) (heardOutcome n rec m)
   unfolding acceptedOf
   accepted-is = refl
 
   pub accepted-reply : acceptedOf n rec m .reply ≡ repliedTo n rec m
   accepted-reply =
       ap (λ (o : Outcome). o .reply) accepted-is
-      ∙ closed-reply (shutBy rec m) (heardOutcome n rec m)
-      ∙ outcome-reply (repliedTo n rec m) (answersB (rec .inbound) m) (heardRecord rec m)
+      ∙ closed-reply (shutBy n rec m) (heardOutcome n rec m)
+      ∙ outcome-reply (repliedTo n rec m) (answersB n (rec .inbound) m) (heardRecord n rec m)
 
-  pub accepted-shut : shutBy rec m ≡ true → acceptedOf n rec m .after ≡ zeroRecord
+  pub accepted-shut : shutBy n rec m ≡ true → acceptedOf n rec m .after ≡ zeroRecord
   accepted-shut e =
       ap (λ (o : Outcome). o .after) accepted-is
-      ∙ closed-after (shutBy rec m) (heardOutcome n rec m)
+      ∙ closed-after (shutBy n rec m) (heardOutcome n rec m)
       ∙ ap (λ (s : Bool). cond s zeroRecord (heardOutcome n rec m .after)) e
 
-  pub accepted-open : shutBy rec m ≡ false → acceptedOf n rec m ≡ heardOutcome n rec m
+  pub accepted-open : shutBy n rec m ≡ false → acceptedOf n rec m ≡ heardOutcome n rec m
   accepted-open e = accepted-is ∙ ap (λ (s : Bool). closedIf s (heardOutcome n rec m)) e ∙ closed-not (heardOutcome n rec m)
 
   -- it leaves the slot closed, or what holds of the outcome before
-  accepted-left : (P : Record → Type 0) → (shutBy rec m ≡ false → P (heardOutcome n rec m .after))
+  accepted-left : (P : Record → Type 0) → (shutBy n rec m ≡ false → P (heardOutcome n rec m .after))
       → (acceptedOf n rec m .after ≡ zeroRecord) ⊎ P (acceptedOf n rec m .after)
-  accepted-left P h = go (shutBy rec m) refl
+  accepted-left P h = go (shutBy n rec m) refl
     where
-      go : (s : Bool) → shutBy rec m ≡ s → (acceptedOf n rec m .after ≡ zeroRecord) ⊎ P (acceptedOf n rec m .after)
+      go : (s : Bool) → shutBy n rec m ≡ s → (acceptedOf n rec m .after ≡ zeroRecord) ⊎ P (acceptedOf n rec m .after)
       go true e = inl (accepted-shut e)
       go false e = inr (subst⁻¹ (λ (o : Outcome). P (o .after)) (accepted-open e) (h e))
 
   pub accepted-id : (acceptedOf n rec m .after ≡ zeroRecord) ⊎ (acceptedOf n rec m .after .id ≡ rec .id)
   accepted-id =
-      let kept = outcome-id (repliedTo n rec m) (answersB (rec .inbound) m) (heardRecord rec m) in
-      accepted-left (λ w. w .id ≡ rec .id) (λ s. kept ∙ heard-id rec m)
+      let kept = outcome-id (repliedTo n rec m) (answersB n (rec .inbound) m) (heardRecord n rec m) in
+      accepted-left (λ w. w .id ≡ rec .id) (λ s. kept ∙ heard-id n rec m)
 
   pub accepted-coherent : Coherent n rec → Produces n rec (m .producer) → Consumes rec (m .consumer)
       → (acceptedOf n rec m .after ≡ zeroRecord) ⊎ (coherentB n (acceptedOf n rec m .after) ≡ true)
   accepted-coherent f k r =
-      let kept = outcome-coherent n (heardRecord rec m) (repliedTo n rec m) (answersB (rec .inbound) m) in
-      accepted-left (λ w. coherentB n w ≡ true) (λ s. kept (coherent-from n (heardRecord rec m) (heard-facts n rec m f k r s)))
+      let kept = outcome-coherent n (heardRecord n rec m) (repliedTo n rec m) (answersB n (rec .inbound) m) in
+      accepted-left (λ w. coherentB n w ≡ true) (λ s. kept (coherent-from n (heardRecord n rec m) (heard-facts n rec m f k r s)))
 
 -- the tests of hear, walked once: what holds of each outcome that they lead to holds of hear's
 module _ (n : ℕ) (active : Bool) (rec : Record) (m : Message) (P : Outcome → Type 0) where
@@ -199,9 +237,9 @@ module _ (n : ℕ) (active : Bool) (rec : Record) (m : Message) (k : coherentB n
   pub hear-names :
       hearOf n active rec m .reply
       ≡ Heard (gapOf (n - 4) (rec .inbound .told) (m .producer) - gapOf (n - 4) (rec .inbound .told) (rec .inbound .producer))
-      (stateOf (heardRecord rec m .marks))
+      (stateOf (heardRecord n rec m .marks))
   hear-names =
       let moved = hear-moved n rec (m .producer) (coherent-facts n rec k) p in
       ap (λ (o : Outcome). o .reply) hear-accepts
       ∙ accepted-reply n rec m
-      ∙ ap (λ (x : ℕ). Heard x (stateOf (heardRecord rec m .marks))) (omega (arith, moved))
+      ∙ ap (λ (x : ℕ). Heard x (stateOf (heardRecord n rec m .marks))) (omega (arith, moved))

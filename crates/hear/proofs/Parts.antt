@@ -3,7 +3,6 @@
 use mathlib.Core.Path.{_≡_}
 use mathlib.Core.Bool.{Bool, _&&_}
 use Prim.Native.Nat.{ℕ}
-use Rattle.cursor.specs.Cursor.{dataOf, gapOf}
 use Rattle.cdc.specs.declared.Message.{Message}
 use Rattle.closing.specs.declared.State.{State}
 use Rattle.closing.specs.Closing.{stateOf}
@@ -11,11 +10,11 @@ use Rattle.connection.specs.declared.Record.{Record}
 use Rattle.connection.specs.declared.Reply.the-variants.{Heard}
 use Rattle.connection.specs.declared.Outcome.{Outcome}
 use Rattle.connection.specs.Connection.{outcomeOf, closedIf}
-use Rattle.hear.specs.Hear.{heardRecord, answersB, acceptedOf}
+use Rattle.hear.specs.Hear.{movedBy, heardRecord, answersB, acceptedOf}
 
-pub accepted-parts : (n : ℕ) (rec : Record) (m : Message) (d g : ℕ) (w : Record) (s : State) (t : Bool) (o z : Outcome)
-    → d ≡ dataOf n → g ≡ gapOf d (rec .inbound .producer) (m .producer) → w ≡ heardRecord rec m → s ≡ stateOf (w .marks)
-    → t ≡ answersB (rec .inbound) m → o ≡ outcomeOf (Heard g s) t w
+pub accepted-parts : (n : ℕ) (rec : Record) (m : Message) (g : ℕ) (w : Record) (s : State) (t : Bool) (o z : Outcome)
+    → g ≡ movedBy n (rec .inbound) m → w ≡ heardRecord n rec m → s ≡ stateOf (w .marks)
+    → t ≡ answersB n (rec .inbound) m → o ≡ outcomeOf (Heard g s) t w
     → z ≡ closedIf (w .marks .heard .closed && w .marks .sent .closed) o → z ≡ acceptedOf n rec m
 unfolding acceptedOf
-accepted-parts n rec m d g w s t o z hd hg hw hs ht ho hz = simp (hz, ho, ht, hs, hw, hg, hd)
+accepted-parts n rec m g w s t o z hg hw hs ht ho hz = simp (hz, ho, ht, hs, hw, hg)

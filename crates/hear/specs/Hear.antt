@@ -3,19 +3,20 @@
 use Prim.Native.Nat.{ℕ}
 use mathlib.Core.Bool.{Bool, true, false, _&&_, _||_, not, cond}
 use mathlib.Core.List.{List, [], _∷_}
-use lib.Dec.{leb, eqb}
+use lib.Dec.{ltb, leb, eqb}
 use Rattle.cursor.specs.declared.Cursor.{Cursor}
 use Rattle.cursor.specs.Cursor.{dataOf, inRange, sameB, goodB, gapOf}
 use Rattle.cdc.specs.declared.Message.{Message}
 use Rattle.closing.specs.declared.State.{State}
 use Rattle.closing.specs.declared.State.the-variants.{PeerAbortWait, Closed}
 use Rattle.closing.specs.Closing.{marked, stateOf, abortSent, marksHeard}
+use Rattle.connection.specs.declared.Urgent.{Urgent}
 use Rattle.connection.specs.declared.Inbound.{Inbound}
 use Rattle.connection.specs.declared.Outbound.{Outbound}
 use Rattle.connection.specs.declared.Record.{Record}
 use Rattle.connection.specs.declared.Reply.the-variants.{Heard}
 use Rattle.connection.specs.declared.Outcome.{Outcome}
-use Rattle.connection.specs.Connection.{sequenceAfter, pTo, lastTo, flagsTo, rTo, inboundTo, outboundTo, marksTo}
+use Rattle.connection.specs.Connection.{placeAt, passedBy, pTo, lastTo, flagsTo, urgentInTo, rTo, urgentOutTo, inboundTo, outboundTo, marksTo}
 use Rattle.connection.specs.Connection.{sequenceAfter, every, refusalOf, refusedOf, outcomeOf, closedIf}
 
 -- With A: if we had not sent A, one abort message is made; the slot is then closed, cursors not looked at. P isn't replaced: 0.
@@ -45,34 +46,45 @@ consumerB rec r =
     let old = rec .outbound .consumer in
     every (inRange N' r ∷ goodB D' r q ∷ leb (gapOf D' r q) (gapOf D' old q) ∷ [])
 
--- then P, R, sequence, B and R flag are replaced; a D or C mark once heard stays; flags P, U and F are not looked at
-unfoldable pub heardIn : Inbound → Message → Inbound
-heardIn i m = flagsTo (lastTo (pTo i (m .producer)) (m .sequence)) (m .flags .blocked) (m .flags .request)
+-- how far P moves (that distance is good: the new P is no nearer to T than the old one, and both are within D of it)
+abbrev pub movedBy : ℕ → Inbound → Message → ℕ
+movedBy N i m = gapOf (dataOf N) (i .producer) (m .producer)
 
-unfoldable pub heardOut : Outbound → Message → Outbound
-heardOut o m = rTo o (m .consumer)
+-- a message with U that moves P makes the new P the urgent place of our element (request 2026-04)
+unfoldable pub urgesB : ℕ → Inbound → Message → Bool
+urgesB N i m = m .flags .urgent && ltb 0 (movedBy N i m)
 
-unfoldable pub heardRecord : Record → Message → Record
-heardRecord rec m =
+unfoldable pub urgentIn : ℕ → Inbound → Message → Urgent
+urgentIn N i m = cond (urgesB N i m) (placeAt (m .producer)) (i .urgent)
+
+-- then P, R, sequence, B and R flag are replaced; a D or C mark once heard stays; flags P and F are not looked at
+unfoldable pub heardIn : ℕ → Inbound → Message → Inbound
+heardIn N i m =
+    urgentInTo (flagsTo (lastTo (pTo i (m .producer)) (m .sequence)) (m .flags .blocked) (m .flags .request)) (urgentIn N i m)
+
+-- our own urgent place is cleared if the new R reaches or passes it
+unfoldable pub heardOut : ℕ → Outbound → Message → Outbound
+heardOut N' o m = urgentOutTo (rTo o (m .consumer)) (passedBy N' (m .consumer) (o .producer) (o .urgent))
+
+unfoldable pub heardRecord : ℕ → Record → Message → Record
+heardRecord N rec m =
     marksTo
-    (outboundTo (inboundTo rec (heardIn (rec .inbound) m)) (heardOut (rec .outbound) m))
+    (outboundTo (inboundTo rec (heardIn N (rec .inbound) m)) (heardOut (rec .remote .size) (rec .outbound) m))
     (marksHeard (rec .marks) (m .flags .done) (m .flags .closed))
 
--- if the R flag is on and T differs from C, a message is made
-unfoldable pub answersB : Inbound → Message → Bool
-answersB i m =
+-- one message is made if the urgent place of our element is a new one, or if the R flag is on and T differs from C
+unfoldable pub answersB : ℕ → Inbound → Message → Bool
+answersB N i m =
     let c = i .consumer in
     let t = i .told in
-    m .flags .request && not (sameB t c)
+    urgesB N i m || (m .flags .request && not (sameB t c))
 
--- after that, C heard and C sent: closed. The answer names how far P moved and the state (that distance is good: the new P is no nearer
--- to T than the old one, and both are within D of it)
+-- after that, C heard and C sent: closed. The answer names how far P moved and the state
 unfoldable pub acceptedOf : ℕ → Record → Message → Outcome
 acceptedOf N rec m =
-    let next = heardRecord rec m in
-    let moved = gapOf (dataOf N) (rec .inbound .producer) (m .producer) in
+    let next = heardRecord N rec m in
     closedIf (next .marks .heard .closed && next .marks .sent .closed)
-    (outcomeOf (Heard moved (stateOf (next .marks))) (answersB (rec .inbound) m) next)
+    (outcomeOf (Heard (movedBy N (rec .inbound) m) (stateOf (next .marks))) (answersB N (rec .inbound) m) next)
 
 -- the cursors' rules, or 8
 unfoldable pub ruledOf : ℕ → Record → Message → Outcome

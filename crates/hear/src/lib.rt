@@ -1,6 +1,6 @@
 // Hear, as a step of one record (document 01, "Calls of a connection").
 ghost use mathlib.Core.Path.{_≡_};
-ghost use Rattle.hear.specs.Hear.{producerB, consumerB, heardIn, heardOut, heardRecord};
+ghost use Rattle.hear.specs.Hear.{producerB, consumerB, movedBy, urgesB, urgentIn, heardIn, heardOut, heardRecord};
 ghost use Rattle.hear.specs.Hear.{answersB, abortedOf, acceptedOf, ruledOf, nextB, followedOf, hearOf};
 use cdc::Message;
 use closing::State;
@@ -9,6 +9,7 @@ use connection::Outbound;
 use connection::Outcome;
 use connection::Record;
 use connection::Reply;
+use connection::Urgent;
 use cursor::Cursor;
 
 // Whether the heard producer may replace P.
@@ -38,33 +39,72 @@ fn consumer_ok(rec: Record, r: Cursor) -> bool
         & (cursor::good(e, r, q) & (cursor::gap(e, r, q) <= cursor::gap(e, old, q)))
 }
 
-fn heard_in(i: Inbound, m: Message) -> Inbound
-    ensures { λ r. ⌜ r ≡ heardIn i m ⌝ }
+// How far P moves.
+fn moved_by(n: u32, i: Inbound, m: Message) -> u64
+    ensures { λ r. ⌜ r ≡ movedBy n i m ⌝ }
+{
+    let old = i.producer;
+    let p = m.producer;
+    let d = cursor::data_size(n);
+    cursor::gap(d, old, p)
+}
+
+// Whether the message has U and moves P.
+fn urges(n: u32, i: Inbound, m: Message) -> bool
+    ensures { λ r. ⌜ r ≡ urgesB n i m ⌝ }
+{
+    let moved = moved_by(n, i, m);
+    m.flags.urgent & (0 < moved)
+}
+
+// The urgent place of our element: the new P then.
+fn urgent_in(n: u32, i: Inbound, m: Message) -> Urgent
+    ensures { λ r. ⌜ r ≡ urgentIn n i m ⌝ }
 {
     let p = m.producer;
+    if urges(n, i, m) {
+        Urgent {
+            standing: true,
+            place: p,
+        }
+    } else {
+        i.urgent
+    }
+}
+
+fn heard_in(n: u32, i: Inbound, m: Message) -> Inbound
+    ensures { λ r. ⌜ r ≡ heardIn n i m ⌝ }
+{
+    let p = m.producer;
+    let u = urgent_in(n, i, m);
     let mut next = i;
     next.producer = p;
     next.last = m.sequence;
     next.blocked = m.flags.blocked;
     next.request = m.flags.request;
+    next.urgent = u;
     next
 }
 
-fn heard_out(o: Outbound, m: Message) -> Outbound
-    ensures { λ r. ⌜ r ≡ heardOut o m ⌝ }
+fn heard_out(size: u32, o: Outbound, m: Message) -> Outbound
+    ensures { λ r. ⌜ r ≡ heardOut size o m ⌝ }
 {
     let r = m.consumer;
+    let q = o.producer;
+    let old = o.urgent;
+    let u = connection::passed_by(size, r, q, old);
     let mut next = o;
     next.consumer = r;
+    next.urgent = u;
     next
 }
 
 // The record with what the message says.
-fn heard(rec: Record, m: Message) -> Record
-    ensures { λ r. ⌜ r ≡ heardRecord rec m ⌝ }
+fn heard(n: u32, rec: Record, m: Message) -> Record
+    ensures { λ r. ⌜ r ≡ heardRecord n rec m ⌝ }
 {
-    let i = heard_in(rec.inbound, m);
-    let o = heard_out(rec.outbound, m);
+    let i = heard_in(n, rec.inbound, m);
+    let o = heard_out(rec.remote.size, rec.outbound, m);
     let marks = closing::marks_heard(rec.marks, m.flags.done, m.flags.closed);
     let mut next = rec;
     next.inbound = i;
@@ -73,13 +113,14 @@ fn heard(rec: Record, m: Message) -> Record
     next
 }
 
-// Whether a message is made in answer: the R flag is on and T differs from C.
-fn answers(i: Inbound, m: Message) -> bool
-    ensures { λ r. ⌜ r ≡ answersB i m ⌝ }
+// Whether a message is made in answer: the urgent place is a new one, or the R flag is on and T differs from C.
+fn answers(n: u32, i: Inbound, m: Message) -> bool
+    ensures { λ r. ⌜ r ≡ answersB n i m ⌝ }
 {
     let t = i.told;
     let c = i.consumer;
-    m.flags.request & !cursor::same(t, c)
+    let urged = urges(n, i, m);
+    urged | (m.flags.request & !cursor::same(t, c))
 }
 
 // A message with A: one abort message is made if we had not sent A, and the slot is closed.
@@ -97,14 +138,11 @@ fn aborted(rec: Record) -> Outcome
 fn accepted(n: u32, rec: Record, m: Message) -> Outcome
     ensures { λ r. ⌜ r ≡ acceptedOf n rec m ⌝ }
 {
-    let old = rec.inbound.producer;
-    let p = m.producer;
-    let d = cursor::data_size(n);
-    let moved = cursor::gap(d, old, p);
-    let next = heard(rec, m);
+    let moved = moved_by(n, rec.inbound, m);
+    let next = heard(n, rec, m);
     let marks = next.marks;
     let state = closing::state_of(marks);
-    let tells = answers(rec.inbound, m);
+    let tells = answers(n, rec.inbound, m);
     let o = connection::outcome_of(Reply::Heard(moved, state), tells, next);
     let shut = marks.heard.closed & marks.sent.closed;
     connection::closed_if(shut, o)

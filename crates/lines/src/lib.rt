@@ -117,6 +117,9 @@ fn call_verb(letters: &[u8; 8], count: usize) -> Verb
     if is(letters, count, b"send") {
         return Verb::Call(CallVerb::Send);
     }
+    if is(letters, count, b"urgent") {
+        return Verb::Call(CallVerb::Urgent);
+    }
     if is(letters, count, b"place") {
         return Verb::Call(CallVerb::Place);
     }

@@ -20,12 +20,12 @@ use Rattle.connection.specs.declared.Record.{Record}
 use Rattle.connection.specs.declared.Reply.{Reply}
 use Rattle.connection.specs.declared.Reply.the-variants.{Accepted}
 use Rattle.connection.specs.declared.Outcome.{Outcome}
-use Rattle.connection.specs.Connection.{effectOf, zeroRecord, refusalOf, refusedOf, outcomeOf, toldOf, closedIf, marksTo}
-use Rattle.transmit.specs.Transmit.{sendOf, sentOf, producedOf}
+use Rattle.connection.specs.Connection.{effectOf, zeroRecord, refusalOf, refusedOf, outcomeOf, urgentOutcome, toldOf, closedIf, marksTo}
+use Rattle.transmit.specs.Transmit.{sendOf, sentOf, producedOf, urgedOf, urgentOf, urgentSendOf}
 use Rattle.receive.specs.Receive.{placeOf, mayPlace, placeForbids, readOf, takeOf, tornOf, consumedOf}
 use Rattle.hear.specs.Hear.{ruledOf, hearOf, abortedOf, followedOf, acceptedOf, heardRecord}
 use Rattle.finish.specs.Finish.{resetOf, closingOf, shutdownOf, closeOf, abortOf}
-use Rattle.rules.specs.Rules.{Request, send, place, read, shutdown, close, abort, Call, on, hear, manage, Turn, turnOf, requestTurn, hearTurn, placedIn}
+use Rattle.rules.specs.Rules.{Request, send, urgent, place, read, shutdown, close, abort, Call, on, hear, manage, Turn, turnOf, requestTurn, hearTurn, placedIn}
 
 -- the record d is left of c
 abbrev pub Left : Record → Record → Type 0
@@ -48,6 +48,10 @@ module _ (c : Record) where
   outcome r true d h = record { kept = inl h }
   outcome r false d h = record { kept = inl h }
 
+  short : (r : Reply) (m : Message) (d : Record) → d .id ≡ c .id → Keeps c (urgentOutcome r m d)
+  unfolding urgentOutcome toldOf
+  short r m d h = record { kept = inl h }
+
   shut : (t : Bool) (o : Outcome) → Keeps c o → Keeps c (closedIf t o)
   unfolding closedIf
   shut true o h = record { kept = inr refl }
@@ -56,6 +60,10 @@ module _ (c : Record) where
   send-keeps : (n : ℕ) (a : Bool) (k : ℕ) → Keeps c (sendOf n a c k)
   unfolding sendOf sentOf producedOf
   send-keeps n a k = search (by-test, refused, outcome) depth 9
+
+  urgent-keeps : (n : ℕ) (a : Bool) (k : ℕ) → Keeps c (urgentSendOf n a c k)
+  unfolding urgentSendOf urgentOf urgedOf producedOf
+  urgent-keeps n a k = search (by-test, refused, outcome, short) depth 9
 
   place-keeps : (n : ℕ) (a : Bool) (at k : ℕ) → Keeps c (placeOf n a c at k)
   unfolding placeOf
@@ -132,6 +140,7 @@ module _ (n : ℕ) (a : Bool) (c : Record) (e : List ℕ) where
   request-left : (q : Request) → Left c ((requestTurn n a c e q) .after)
   unfolding requestTurn
   request-left (send b) = turn-left _ _ _ (send-keeps c n a (length b))
+  request-left (urgent b) = turn-left _ _ _ (urgent-keeps c n a (length b))
   request-left (place at b) = turn-left _ _ _ (place-keeps c n a at (length b))
   request-left (read out) = turn-left _ _ _ (read-keeps c n a _ (length out))
   request-left shutdown = turn-left _ _ _ (shutdown-keeps c n a)
@@ -152,6 +161,7 @@ module _ (n : ℕ) (a : Bool) (c : Record) (e : List ℕ) where
     request-long : (q : Request) → length ((requestTurn n a c e q) .element) ≡ n
     unfolding requestTurn turnOf
     request-long (send b) = long
+    request-long (urgent b) = long
     request-long (place at b) = place-length n a c e long at b
     request-long (read out) = long
     request-long shutdown = long

@@ -14,8 +14,8 @@ use Rattle.cdc.specs.Cdc.{highByte, lowByte, encodeOf}
 use Rattle.flow.specs.Flow.{roomOf, takenOf, firstOf, stretchesOf}
 use Rattle.gauge.specs.Gauge.{clearedOf}
 use Rattle.element.specs.Element.{part, elementOf, splice, freshElement}
-use Rattle.connection.specs.Connection.{zeroToken, zeroRecord, fitsB, remoteOk, numbersOk, offsetsOk, distancesOk, coherentB, refusalOf, messageOf, toldIn, usedIn, toldOf, outcomeOf, refusedOf}
-use Rattle.transmit.specs.Transmit.{sendForbids, nOf, rtokenOf, placingOf, producedOut, producedOf, tellsOf, sentOf, sendOf}
+use Rattle.connection.specs.Connection.{zeroToken, zeroRecord, fitsB, remoteOk, numbersOk, offsetsOk, distancesOk, placeOk, placesOk, coherentB, refusalOf, messageOf, toldIn, usedIn, toldOf, outcomeOf, refusedOf}
+use Rattle.transmit.specs.Transmit.{sendForbids, nOf, rtokenOf, placingOf, producedOut, producedOf, tellsOf, sentOf, waitsB, sendOf}
 use Rattle.table.specs.Table.{sizesB, slotB, recordAt, openB, activeB, gaugeAt, holdsB, lowest, findFrom, withRecord, withLink, linkSet}
 use Rattle.connection.specs.declared.Opening.{Opening}
 use Rattle.connection.specs.Connection.{openedRecord}
@@ -178,7 +178,7 @@ secondly = opening ++ two ∷ one ∷ []
 
 -- whose each call is, by the groups as the spans begin
 pub owners-are : whose aGroup firstly ≡ the-manager ∷ the-manager ∷ the-manager ∷ connection 1 ∷ connection 2 ∷ []
-unfolding whoseFrom ownerOf inRange movedOf stepOf turnsOf distanceOf goodB gapOf highByte lowByte encodeOf roomOf takenOf firstOf stretchesOf part elementOf splice freshElement zeroRecord fitsB remoteOk numbersOk offsetsOk distancesOk coherentB refusalOf messageOf toldIn usedIn toldOf outcomeOf refusedOf sendForbids nOf rtokenOf placingOf producedOut producedOf tellsOf sentOf sendOf sizesB slotB recordAt openB activeB holdsB lowest findFrom withRecord withLink linkSet turnOf requestTurn refuses putTurn onDoes openedRecord openRefusal openDoes linkDoes
+unfolding whoseFrom ownerOf inRange movedOf stepOf turnsOf distanceOf goodB gapOf highByte lowByte encodeOf roomOf takenOf firstOf stretchesOf part elementOf splice freshElement zeroRecord fitsB remoteOk numbersOk offsetsOk distancesOk placeOk placesOk coherentB refusalOf messageOf toldIn usedIn toldOf outcomeOf refusedOf sendForbids nOf rtokenOf placingOf producedOut producedOf tellsOf sentOf waitsB sendOf sizesB slotB recordAt openB activeB holdsB lowest findFrom withRecord withLink linkSet turnOf requestTurn refuses putTurn onDoes openedRecord openRefusal openDoes linkDoes
 owners-are = refl
 
 pub sends-swapped : AnotherOrder aGroup firstly secondly
@@ -193,11 +193,11 @@ abbrev sends : ℕ → Says
 sends n = sent n (record { key = 0; address = 4; start = 0; len = n } ∷ [])
 
 pub said-first : map (λ (a : Answer). a .says) (answers aGroup firstly) ≡ accepted ∷ accepted ∷ accepted ∷ sends 2 ∷ sends 3 ∷ []
-unfolding answers inRange movedOf stepOf turnsOf distanceOf goodB gapOf highByte lowByte encodeOf roomOf takenOf firstOf stretchesOf part elementOf splice freshElement zeroRecord fitsB remoteOk numbersOk offsetsOk distancesOk coherentB refusalOf messageOf toldIn usedIn toldOf outcomeOf refusedOf sendForbids nOf rtokenOf placingOf producedOut producedOf tellsOf sentOf sendOf sizesB slotB recordAt openB activeB holdsB lowest findFrom withRecord withLink linkSet turnOf requestTurn refuses putTurn onDoes openedRecord openRefusal openDoes linkDoes
+unfolding answers inRange movedOf stepOf turnsOf distanceOf goodB gapOf highByte lowByte encodeOf roomOf takenOf firstOf stretchesOf part elementOf splice freshElement zeroRecord fitsB remoteOk numbersOk offsetsOk distancesOk placeOk placesOk coherentB refusalOf messageOf toldIn usedIn toldOf outcomeOf refusedOf sendForbids nOf rtokenOf placingOf producedOut producedOf tellsOf sentOf waitsB sendOf sizesB slotB recordAt openB activeB holdsB lowest findFrom withRecord withLink linkSet turnOf requestTurn refuses putTurn onDoes openedRecord openRefusal openDoes linkDoes
 said-first = refl
 
 pub said-second : map (λ (a : Answer). a .says) (answers aGroup secondly) ≡ accepted ∷ accepted ∷ accepted ∷ sends 3 ∷ sends 2 ∷ []
-unfolding answers inRange movedOf stepOf turnsOf distanceOf goodB gapOf highByte lowByte encodeOf roomOf takenOf firstOf stretchesOf part elementOf splice freshElement zeroRecord fitsB remoteOk numbersOk offsetsOk distancesOk coherentB refusalOf messageOf toldIn usedIn toldOf outcomeOf refusedOf sendForbids nOf rtokenOf placingOf producedOut producedOf tellsOf sentOf sendOf sizesB slotB recordAt openB activeB holdsB lowest findFrom withRecord withLink linkSet turnOf requestTurn refuses putTurn onDoes openedRecord openRefusal openDoes linkDoes
+unfolding answers inRange movedOf stepOf turnsOf distanceOf goodB gapOf highByte lowByte encodeOf roomOf takenOf firstOf stretchesOf part elementOf splice freshElement zeroRecord fitsB remoteOk numbersOk offsetsOk distancesOk placeOk placesOk coherentB refusalOf messageOf toldIn usedIn toldOf outcomeOf refusedOf sendForbids nOf rtokenOf placingOf producedOut producedOf tellsOf sentOf waitsB sendOf sizesB slotB recordAt openB activeB holdsB lowest findFrom withRecord withLink linkSet turnOf requestTurn refuses putTurn onDoes openedRecord openRefusal openDoes linkDoes
 said-second = refl
 
 -- sentence 3, of these two lists

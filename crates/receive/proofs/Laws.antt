@@ -20,8 +20,8 @@ use Rattle.connection.specs.declared.Record.{Record}
 use Rattle.connection.specs.declared.Reply.the-variants.{Accepted, Read, Torn}
 use Rattle.connection.specs.declared.Outcome.{Outcome}
 use Rattle.connection.specs.Connection.{coherentB, refusalOf, refusedOf, outcomeOf, marksTo}
-use Rattle.connection.proofs.Laws.{Coherent, and-left, and-right, coherent-facts, coherent-from, refusal-none, refused-reply, refused-after, outcome-reply, outcome-after, outcome-id, outcome-p, outcome-c, outcome-coherent, marks-coherent}
-use Rattle.receive.specs.Receive.{placeForbids, mayPlace, placeOf, readForbids, unreadOf, consumedIn, consumedOf, updateOf, tornOf, takeOf, readOf}
+use Rattle.connection.proofs.Laws.{Coherent, and-left, and-right, coherent-facts, coherent-from, place-passed, refusal-none, refused-reply, refused-after, outcome-reply, outcome-after, outcome-id, outcome-p, outcome-c, outcome-coherent, marks-coherent}
+use Rattle.receive.specs.Receive.{placeForbids, mayPlace, placeOf, readForbids, unreadOf, consumedIn, clearedIn, consumedOf, updateOf, tornOf, takeOf, readOf}
 
 -- what may be placed, by the code's tests
 module _ (n : ℕ) (i : Inbound) (at k : ℕ) where
@@ -79,11 +79,11 @@ unread-most n active rec forbids e =
     (coherent-facts n rec (refusal-none n active rec forbids e .0) .cp-good)
 
 -- an accepted read of an intact element, put together
-pub take-parts : (n : ℕ) (rec : Record) (room u k : ℕ) (next : Record) (tells : Bool) (o : Outcome) → u ≡ unreadOf n (rec .inbound)
-    → k ≡ takenOf u room → next ≡ consumedOf n rec k → tells ≡ updateOf n (next .inbound) k → o ≡ outcomeOf (Read k) tells next
+pub take-parts : (n : ℕ) (rec : Record) (room u k : ℕ) (moved : Inbound) (tells : Bool) (next : Record) (o : Outcome) → u ≡ unreadOf n (rec .inbound)
+    → k ≡ takenOf u room → moved ≡ consumedIn n (rec .inbound) k → tells ≡ updateOf n moved k → next ≡ consumedOf n rec k → o ≡ outcomeOf (Read k) tells next
     → o ≡ takeOf n rec room
 unfolding takeOf
-take-parts n rec room u k next tells o hu hk hx ht ho = simp (ho, ht, hx, hk, hu)
+take-parts n rec room u k moved tells next o hu hk hm ht hx ho = simp (ho, hx, ht, hm, hk, hu)
 
 -- what holds of both outcomes of a test holds of the one it picks
 pick : (P : Outcome → Type 0) (b : Bool) (x y : Outcome) → (b ≡ true → P x) → (b ≡ false → P y) → P (cond b x y)
@@ -131,7 +131,7 @@ module _ (n : ℕ) (rec : Record) (k : ℕ) (f : Coherent n rec) (h : k ≤ gapC
       let sum = f .sum in
       step-gap n (i .told) (i .consumer) k (f .t-range) (f .c-range) (f .tc-good) (omega arith)
 
-  consumed-cp :
+  pub consumed-cp :
       (goodB (n - 4) (stepOf n (rec .inbound .consumer) k) (rec .inbound .producer) ≡ true)
       × (gapOf (n - 4) (stepOf n (rec .inbound .consumer) k) (rec .inbound .producer) + k ≡ gapCP n rec)
   consumed-cp =
@@ -145,29 +145,34 @@ module _ (n : ℕ) (rec : Record) (k : ℕ) (f : Coherent n rec) (h : k ≤ gapC
       (rest .0, omega arith)
 
   consumed-facts : Coherent n (consumedOf n rec k)
-  unfolding consumedOf consumedIn
+  unfolding consumedOf consumedIn clearedIn
   consumed-facts =
       let tc = consumed-tc in
       let cp = consumed-cp in
-      let r = step-range n (rec .inbound .consumer) k (f .c-range) in
+      let i = rec .inbound in
+      let r = step-range n (i .consumer) k (f .c-range) in
+      let stands =
+      place-passed n (i .consumer) (stepOf n (i .consumer) k) (i .producer) (i .urgent) (f .c-range) r (f .p-range) (f .cp-good) (cp .0)
+      (f .their-place)
+      in
       search needs
 
 -- how many bytes a read takes
-abbrev taking : ℕ → Record → ℕ → ℕ
+abbrev pub taking : ℕ → Record → ℕ → ℕ
 taking n rec room = takenOf (unreadOf n (rec .inbound)) room
 
 module _ (n : ℕ) (rec : Record) (room : ℕ) where
-  taking-most : (taking n rec room ≤ gapCP n rec) × (taking n rec room ≤ room)
+  pub taking-most : (taking n rec room ≤ gapCP n rec) × (taking n rec room ≤ room)
   unfolding unreadOf
   taking-most = (taken-most (gapCP n rec) room, taken-len (gapCP n rec) room)
 
-  abbrev left : Record
+  abbrev pub left : Record
   left = consumedOf n rec (taking n rec room)
 
-  abbrev tells : Bool
-  tells = updateOf n (left .inbound) (taking n rec room)
+  abbrev pub tells : Bool
+  tells = updateOf n (consumedIn n (rec .inbound) (taking n rec room)) (taking n rec room)
 
-  take-is : takeOf n rec room ≡ outcomeOf (Read (taking n rec room)) tells left
+  pub take-is : takeOf n rec room ≡ outcomeOf (Read (taking n rec room)) tells left
   unfolding takeOf
   take-is = refl
 
@@ -184,7 +189,7 @@ module _ (n : ℕ) (rec : Record) (room : ℕ) where
       rw take-is (outcome-coherent n left (Read (taking n rec room)) tells kept)
 
   take-gap : Coherent n rec → gapCP n (takeOf n rec room .after) + taking n rec room ≡ gapCP n rec
-  unfolding consumedOf consumedIn
+  unfolding consumedOf consumedIn clearedIn
   take-gap f =
       let answer = Read (taking n rec room) in
       let same : gapCP n (outcomeOf answer tells left .after) ≡ gapCP n left = simp (outcome-c answer tells left, outcome-p answer tells left) in

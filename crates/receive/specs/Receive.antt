@@ -12,7 +12,7 @@ use Rattle.connection.specs.declared.Inbound.{Inbound}
 use Rattle.connection.specs.declared.Record.{Record}
 use Rattle.connection.specs.declared.Reply.the-variants.{Accepted, Read, Torn}
 use Rattle.connection.specs.declared.Outcome.{Outcome}
-use Rattle.connection.specs.Connection.{cTo, inboundTo, marksTo, refusalOf, refusedOf, outcomeOf}
+use Rattle.connection.specs.Connection.{reachedB, passedBy, cTo, urgentInTo, inboundTo, marksTo, refusalOf, refusedOf, outcomeOf}
 
 -- 7: place after A sent or D or C heard
 unfoldable pub placeForbids : Marks → Bool
@@ -48,16 +48,21 @@ consumedIn N i n =
     let c = i .consumer in
     cTo i (stepOf N c n)
 
-unfoldable pub consumedOf : ℕ → Record → ℕ → Record
-consumedOf N rec n = inboundTo rec (consumedIn N (rec .inbound) n)
+-- the urgent place is cleared if the new C reaches or passes it (request 2026-04; with n at 0 it does not: the place lies after C)
+unfoldable pub clearedIn : ℕ → Inbound → Inbound
+clearedIn N i = urgentInTo i (passedBy N (i .consumer) (i .producer) (i .urgent))
 
--- a message is made if n is above 0 and: B or R stood in the last message heard, or an update is due. C is the new one here
+unfoldable pub consumedOf : ℕ → Record → ℕ → Record
+consumedOf N rec n = inboundTo rec (clearedIn N (consumedIn N (rec .inbound) n))
+
+-- a message is made if n is above 0 and: B or R stood in the last message heard, or the urgent place is cleared, or an update is due. C is
+-- the new one here, and the place not cleared yet
 unfoldable pub updateOf : ℕ → Inbound → ℕ → Bool
 updateOf N i n =
     let p = i .producer in
     let c = i .consumer in
     let t = i .told in
-    ltb 0 n && ((i .blocked || i .request) || updateDue N t p c)
+    ltb 0 n && ((i .blocked || i .request) || (reachedB N c p (i .urgent) || updateDue N t p c))
 
 -- a damaged eye catcher: the answer is "torn", an abort message is made, the abort mark is set
 unfoldable pub tornOf : Record → Outcome
@@ -67,8 +72,7 @@ tornOf rec = outcomeOf Torn true (marksTo rec (abortSent (rec .marks)))
 unfoldable pub takeOf : ℕ → Record → ℕ → Outcome
 takeOf N rec room =
     let n = takenOf (unreadOf N (rec .inbound)) room in
-    let next = consumedOf N rec n in
-    outcomeOf (Read n) (updateOf N (next .inbound) n) next
+    outcomeOf (Read n) (updateOf N (consumedIn N (rec .inbound) n) n) (consumedOf N rec n)
 
 unfoldable pub readOf : ℕ → Bool → Record → Bool → ℕ → Outcome
 readOf N active rec intact room =

@@ -2,7 +2,7 @@
 ghost use mathlib.Core.Path.{_≡_};
 ghost use Prim.Native.Nat.{_-_, _≤_, _<_};
 ghost use Rattle.receive.specs.Receive.{placeForbids, mayPlace, placeOf};
-ghost use Rattle.receive.specs.Receive.{readForbids, unreadOf, consumedIn, consumedOf, updateOf, tornOf, takeOf, readOf};
+ghost use Rattle.receive.specs.Receive.{readForbids, unreadOf, consumedIn, clearedIn, consumedOf, updateOf, tornOf, takeOf, readOf};
 use closing::Marks;
 use connection::Inbound;
 use connection::Outcome;
@@ -81,23 +81,38 @@ fn consumed_in(n: u32, i: Inbound, k: u32) -> Inbound
     next
 }
 
+// The urgent place is cleared, if C has reached or passed it.
+fn cleared_in(n: u32, i: Inbound) -> Inbound
+    ensures { λ r. ⌜ r ≡ clearedIn n i ⌝ }
+{
+    let c = i.consumer;
+    let p = i.producer;
+    let old = i.urgent;
+    let u = connection::passed_by(n, c, p, old);
+    let mut next = i;
+    next.urgent = u;
+    next
+}
+
 fn consumed(n: u32, rec: Record, k: u32) -> Record
     ensures { λ r. ⌜ r ≡ consumedOf n rec k ⌝ }
 {
-    let i = consumed_in(n, rec.inbound, k);
+    let i = cleared_in(n, consumed_in(n, rec.inbound, k));
     let mut next = rec;
     next.inbound = i;
     next
 }
 
-// Whether a message is made, once k bytes are read and the inbound half is `i`.
+// Whether a message is made, once k bytes are read and the inbound half is `i`, its urgent place not cleared yet.
 fn updates(n: u32, i: Inbound, k: u32) -> bool
     ensures { λ r. ⌜ r ≡ updateOf n i k ⌝ }
 {
     let t = i.told;
     let p = i.producer;
     let c = i.consumer;
-    (0 < k) & ((i.blocked | i.request) | flow::update_due(n, t, p, c))
+    let u = i.urgent;
+    let reached = connection::reached(n, c, p, u);
+    (0 < k) & ((i.blocked | i.request) | (reached | flow::update_due(n, t, p, c)))
 }
 
 // A damaged eye catcher: an abort message is made, and the abort mark is set.
@@ -114,8 +129,8 @@ fn take(n: u32, rec: Record, room: usize) -> Outcome
     ensures { λ r. ⌜ r ≡ takeOf n rec room ⌝ }
 {
     let k = flow::taken(unread(n, rec.inbound), room);
+    let tells = updates(n, consumed_in(n, rec.inbound, k), k);
     let next = consumed(n, rec, k);
-    let tells = updates(n, next.inbound, k);
     connection::outcome_of(Reply::Read(k), tells, next)
 }
 

@@ -2,6 +2,7 @@
 ghost use Prim.Native.Nat.{_≤_};
 use connection::RToken;
 use connection::Record;
+use connection::Urgent;
 use cursor::Cursor;
 use stream::output;
 use table::Links;
@@ -80,6 +81,26 @@ fn remote(o: &mut [u8; 65536], at: usize, rec: Record) -> usize {
     token(o, d, four)
 }
 
+// An urgent place, `-` for none.
+fn urgent(o: &mut [u8; 65536], at: usize, u: Urgent) -> usize {
+    let place = u.place;
+    if u.standing {
+        let a = output::field(o, at, place.offset as u64);
+        let b = output::byte(o, a, b':');
+        output::decimal(o, b, place.wrap as u64)
+    } else {
+        output::text(o, at, b" -")
+    }
+}
+
+// The urgent place of our own sends, and the one in our element.
+fn places(o: &mut [u8; 65536], at: usize, rec: Record) -> usize {
+    let ours = rec.outbound.urgent;
+    let theirs = rec.inbound.urgent;
+    let a = urgent(o, at, ours);
+    urgent(o, a, theirs)
+}
+
 // A slot's line, as `record` has it, but for the first word.
 fn slot(o: &mut [u8; 65536], at: usize, k: u64, rec: Record) -> usize {
     let a = output::text(o, at, b"slot");
@@ -90,7 +111,8 @@ fn slot(o: &mut [u8; 65536], at: usize, k: u64, rec: Record) -> usize {
     let g = output::field(o, f, rec.inbound.last as u64);
     let h = output::field(o, g, marks(rec));
     let i = remote(o, h, rec);
-    output::byte(o, i, b'\n')
+    let j = places(o, i, rec);
+    output::byte(o, j, b'\n')
 }
 
 // The lines of the first `count` records.

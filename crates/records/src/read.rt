@@ -6,6 +6,7 @@ use connection::Identity;
 use connection::RToken;
 use connection::Record;
 use connection::Remote;
+use connection::Urgent;
 use cursor::Cursor;
 use stream::input;
 use stream::input::Scan;
@@ -37,6 +38,26 @@ struct Token {
 pub struct Reached {
     pub scan: Scan,
     pub remote: Remote,
+}
+
+struct Place {
+    scan: Scan,
+    urgent: Urgent,
+}
+
+// The urgent place of our own sends, and the one in our element.
+struct Places {
+    scan: Scan,
+    ours: Urgent,
+    theirs: Urgent,
+}
+
+// The next number, the last one heard, and the marks.
+struct Counts {
+    scan: Scan,
+    next: u16,
+    last: u16,
+    marks: u32,
 }
 
 struct Cursors {
@@ -160,6 +181,79 @@ fn cursors_of(buf: &mut [u8; 65536], from: Scan) -> Cursors
     }
 }
 
+// NEXT HEARD MARKS
+fn counts_of(buf: &mut [u8; 65536], c: Scan) -> Counts
+    ensures { λ r. ⌜ r .scan .left ≤ c .left ⌝ }
+{
+    let next = input::number(buf, c, 65535);
+    let last = input::number(buf, next.scan, 65535);
+    let marks = input::number(buf, last.scan, 511);
+    let scan = marks.scan;
+    Counts {
+        scan: scan,
+        next: next.value as u16,
+        last: last.value as u16,
+        marks: marks.value,
+    }
+}
+
+// OFFSET:WRAP
+fn standing_of(buf: &mut [u8; 65536], c: Scan) -> Place
+    ensures { λ r. ⌜ r .scan .left ≤ c .left ⌝ }
+{
+    let offset = input::bare_number(buf, c, MOST as u64);
+    let colon = input::taken(buf, offset.scan, b':');
+    let wrap = input::bare_number(buf, colon, 65535);
+    let k = Cursor {
+        offset: offset.value as u32,
+        wrap: wrap.value as u16,
+    };
+    let u = Urgent {
+        standing: true,
+        place: k,
+    };
+    let scan = wrap.scan;
+    Place {
+        scan: scan,
+        urgent: u,
+    }
+}
+
+// A space and an urgent place, `-` for none.
+fn place_of(buf: &mut [u8; 65536], c: Scan) -> Place
+    ensures { λ r. ⌜ r .scan .left ≤ c .left ⌝ }
+{
+    let start = input::taken(buf, c, b' ');
+    if start.byte == b'-' {
+        let k = Cursor { offset: 0, wrap: 0 };
+        let none = Urgent {
+            standing: false,
+            place: k,
+        };
+        let after = input::next(buf, start);
+        return Place {
+            scan: after,
+            urgent: none,
+        };
+    }
+    standing_of(buf, start)
+}
+
+fn places_of(buf: &mut [u8; 65536], c: Scan) -> Places
+    ensures { λ r. ⌜ r .scan .left ≤ c .left ⌝ }
+{
+    let sends = place_of(buf, c);
+    let element = place_of(buf, sends.scan);
+    let ours = sends.urgent;
+    let theirs = element.urgent;
+    let scan = element.scan;
+    Places {
+        scan: scan,
+        ours: ours,
+        theirs: theirs,
+    }
+}
+
 // Whether the mark of this weight is in the sum.
 fn mark(marks: u32, weight: u32) -> bool {
     if weight == 0 {
@@ -185,7 +279,10 @@ fn marks_of(marks: u32) -> Marks {
     }
 }
 
-fn record_of(id: Identity, remote: Remote, k: Cursors, next: u16, last: u16, marks: u32) -> Record {
+fn record_of(id: Identity, remote: Remote, k: Cursors, n: Counts, urgent: Places) -> Record {
+    let marks = n.marks;
+    let ours = urgent.ours;
+    let theirs = urgent.theirs;
     let p = k.p;
     let c = k.c;
     let t = k.t;
@@ -197,14 +294,16 @@ fn record_of(id: Identity, remote: Remote, k: Cursors, next: u16, last: u16, mar
     i.producer = p;
     i.consumer = c;
     i.told = t;
-    i.last = last;
+    i.last = n.last;
     i.blocked = mark(marks, 128);
     i.request = mark(marks, 256);
+    i.urgent = theirs;
     let mut o = rec.outbound;
     o.producer = q;
     o.consumer = r;
-    o.next = next;
+    o.next = n.next;
     o.blocked = mark(marks, 64);
+    o.urgent = ours;
     rec.id = id;
     rec.remote = remote;
     rec.inbound = i;
@@ -220,21 +319,13 @@ pub fn record(buf: &mut [u8; 65536], c: Scan) -> Laid
     let slot = input::number(buf, c, 300);
     let h = who_of(buf, slot.scan);
     let k = cursors_of(buf, h.scan);
-    let next = input::number(buf, k.scan, 65535);
-    let last = input::number(buf, next.scan, 65535);
-    let marks = input::number(buf, last.scan, 511);
-    let to = remote(buf, marks.scan, h.size, 255);
+    let n = counts_of(buf, k.scan);
+    let to = remote(buf, n.scan, h.size, 255);
+    let urgent = places_of(buf, to.scan);
     let id = h.id;
     let peer = to.remote;
-    let r = record_of(
-        id,
-        peer,
-        k,
-        next.value as u16,
-        last.value as u16,
-        marks.value,
-    );
-    let scan = to.scan;
+    let r = record_of(id, peer, k, n, urgent);
+    let scan = urgent.scan;
     Laid {
         scan: scan,
         slot: slot.value as usize,

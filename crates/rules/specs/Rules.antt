@@ -1,4 +1,4 @@
--- Document 01's rules for a whole group: what each of the twelve calls answers, and the group that it leaves.
+-- Document 01's rules for a whole group: what each of the thirteen calls answers, and the group that it leaves.
 -- The contracts of the calls cite `Did`, which is `answer` and `next`; the theorems about lists of calls cite these and `Fresh`, and, for
 -- whose a call is and what it sees, `recordOf`, `elementIn`, `linkOf` and `holderOf`.
 -- Assumes nothing.
@@ -33,7 +33,7 @@ use Rattle.connection.specs.declared.Effect.{Effect}
 use Rattle.connection.specs.declared.Effect.the-variants.{Nothing, Stores, Copies}
 use Rattle.connection.specs.declared.Outcome.{Outcome}
 use Rattle.connection.specs.Connection.{zeroRecord, openedRecord, noMessage, remoteOk, coherentB, effectOf}
-use Rattle.transmit.specs.Transmit.{sendOf}
+use Rattle.transmit.specs.Transmit.{sendOf, urgentSendOf}
 use Rattle.receive.specs.Receive.{placeOf, readOf}
 use Rattle.hear.specs.Hear.{hearOf}
 use Rattle.finish.specs.Finish.{shutdownOf, closeOf, abortOf}
@@ -70,6 +70,7 @@ linksOf g = record { active = g .links; gauges = g .gauges }
 -- of a connection, on its slot. A read is lent an out buffer
 pub data Request : Type 0 where
   send : List ℕ → Request
+  urgent : List ℕ → Request
   place : ℕ → List ℕ → Request
   read : List ℕ → Request
   shutdown : Request
@@ -155,6 +156,7 @@ readInto (Copies n) c e out = intoOut e (c .offset) n out
 
 unfoldable pub requestTurn : ℕ → Bool → Record → List ℕ → Request → Turn
 requestTurn n active c e (send b) = turnOf (sendOf n active c (length b)) e []
+requestTurn n active c e (urgent b) = turnOf (urgentSendOf n active c (length b)) e []
 requestTurn n active c e (place at b) =
     let o = placeOf n active c at (length b) in turnOf o (placedIn (effectOf (o .reply)) e at b) []
 requestTurn n active c e (read out) =
@@ -200,6 +202,7 @@ putTurn g k t =
 -- what is lent as an out buffer
 abbrev pub outOf : Request → List ℕ
 outOf (send b) = []
+outOf (urgent b) = []
 outOf (place at b) = []
 outOf (read out) = out
 outOf shutdown = []

@@ -8,8 +8,8 @@ use Rattle.connection.specs.declared.Record.{Record}
 use Rattle.connection.specs.declared.Reply.{Reply}
 use Rattle.connection.specs.declared.Reply.the-variants.{Refused, Accepted, Sent, Read, Torn, Reset, Heard, Sampled}
 use Rattle.connection.specs.declared.Outcome.{Outcome}
-use Rattle.connection.specs.Connection.{coherentB, refusalOf, refusedOf, outcomeOf, closedIf}
-use Rattle.transmit.specs.Transmit.{sendOf, sentOf}
+use Rattle.connection.specs.Connection.{coherentB, refusalOf, refusedOf, outcomeOf, urgentOutcome, closedIf}
+use Rattle.transmit.specs.Transmit.{sendOf, sentOf, urgentOf, urgentSendOf}
 use Rattle.receive.specs.Receive.{placeOf, readOf, takeOf}
 use Rattle.hear.specs.Hear.{ruledOf, hearOf, abortedOf, followedOf, acceptedOf}
 use Rattle.finish.specs.Finish.{resetOf, closingOf, shutdownOf, closeOf, abortOf}
@@ -86,6 +86,10 @@ module _ (n : ℕ) (active : Bool) (c : Record) (ok : coherentB n c ≡ true) wh
   outcome r true d h = record { fair = h }
   outcome r false d h = record { fair = h }
 
+  short : (r : Reply) (m : Message) (d : Record) → Fair r → Answers (urgentOutcome r m d)
+  unfolding urgentOutcome
+  short r m d h = record { fair = h }
+
   shut : (t : Bool) (o : Outcome) → Answers o → Answers (closedIf t o)
   unfolding closedIf
   shut true o h = record { fair = h .fair }
@@ -94,6 +98,10 @@ module _ (n : ℕ) (active : Bool) (c : Record) (ok : coherentB n c ≡ true) wh
   pub send-answers : (k : ℕ) → Answers (sendOf n active c k)
   unfolding sendOf sentOf
   send-answers k = search (by-test, first, outcome) depth 9
+
+  pub urgent-answers : (k : ℕ) → Answers (urgentSendOf n active c k)
+  unfolding urgentSendOf urgentOf
+  urgent-answers k = search (by-test, first, outcome, short) depth 9
 
   pub place-answers : (at k : ℕ) → Answers (placeOf n active c at k)
   unfolding placeOf

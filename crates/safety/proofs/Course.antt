@@ -10,22 +10,21 @@ use lib.ListN.{length}
 use borrow.Author.Tests.{eqb-true}
 use Rattle.cursor.specs.declared.Cursor.{Cursor}
 use Rattle.cursor.specs.Cursor.{sameB, goodB}
-use Rattle.cursor.proofs.Laws.{gap-self, gap-rest}
+use Rattle.cursor.proofs.Laws.{gap-self, gap-rest, gap-front}
 use Rattle.cdc.specs.declared.Message.{Message}
 use Rattle.closing.specs.Closing.{marked, closedSent, marksHeard}
 use Rattle.connection.specs.declared.Record.{Record}
 use Rattle.connection.specs.declared.Reply.{Reply}
 use Rattle.connection.specs.declared.Reply.the-variants.{Accepted, Heard, Refused}
 use Rattle.connection.specs.declared.Outcome.{Outcome}
-use Rattle.connection.specs.Connection.{zeroRecord, refusalOf, refusedOf, outcomeOf, toldOf, toldIn, usedIn, closedIf, marksTo}
+use Rattle.connection.specs.Connection.{zeroRecord, refusalOf, refusedOf, outcomeOf, urgentOutcome, toldOf, toldIn, usedIn, closedIf, marksTo}
 use Rattle.connection.proofs.Laws.{Coherent, coherent-facts, refusal-none, tp-good, and-left, and-right, outcome-reply}
-use Rattle.transmit.specs.Transmit.{sendOf, sentOf, producedOf, producedOut}
-use Rattle.receive.specs.Receive.{unreadOf, placeOf, readOf, takeOf, tornOf, consumedOf, consumedIn}
+use Rattle.transmit.specs.Transmit.{sendOf, sentOf, producedOf, producedOut, urgedOut, urgedOf, urgentOf, urgentSendOf}
+use Rattle.receive.specs.Receive.{unreadOf, placeOf, readOf, takeOf, tornOf, consumedOf, consumedIn, clearedIn}
 use Rattle.hear.specs.Hear.{ruledOf, nextB, producerB, consumerB, hearOf, abortedOf, followedOf, acceptedOf, heardRecord, heardIn, heardOut}
 use Rattle.hear.proofs.Laws.{Produces, Consumes, producer-rules, consumer-rules}
 use Rattle.finish.specs.Finish.{resetOf, closingOf, shutdownOf, closeForbids, closeOf, abortOf}
-use Rattle.rules.specs.Rules.{Request, send, place, read, shutdown, close, abort, Says, accepted, saysOf, turnOf, requestTurn, hearTurn, refusal, heard}
-use Rattle.safety.proofs.Cursors.{gap-front}
+use Rattle.rules.specs.Rules.{Request, send, urgent, place, read, shutdown, close, abort, Says, accepted, saysOf, turnOf, requestTurn, hearTurn, refusal, heard}
 use Rattle.safety.proofs.Answers.{clash}
 use Rattle.closing.specs.declared.State.{State}
 
@@ -73,6 +72,11 @@ module _ (n : ℕ) (c : Record) (Why : Reply → Type 0) (not-refused : (k : ℕ
       record { course = goes w (record { same-id = h .same-id; P-ahead = h .P-ahead; R-ahead = h .R-ahead; P-still = h .P-still }) }
   told r false d w h = record { course = goes w h }
 
+  short : (r : Reply) (m : Message) (d : Record) → (Why r → ⊥) → d .id ≡ c .id → d .inbound .producer ≡ c .inbound .producer
+      → d .outbound .consumer ≡ c .outbound .consumer → Leaves n c Why (urgentOutcome r m d)
+  unfolding urgentOutcome toldOf toldIn usedIn
+  short r m d w i p q = record { course = goes w (stays n c (toldOf d) i p q) }
+
   -- a record in which neither P nor R moved, with or without a message made
   outcome : (r : Reply) (t : Bool) (d : Record) → (Why r → ⊥) → d .id ≡ c .id → d .inbound .producer ≡ c .inbound .producer
       → d .outbound .consumer ≡ c .outbound .consumer → Leaves n c Why (outcomeOf r t d)
@@ -99,12 +103,16 @@ module _ (n : ℕ) (a : Bool) (c : Record) where
     unfolding sendOf sentOf producedOf producedOut
     send-leaves k = search (by-test, refused, outcome, never q, other) depth 9
 
+    urgent-leaves : (k : ℕ) → Leaves n c (Why q) (urgentSendOf n a c k)
+    unfolding urgentSendOf urgentOf urgedOf urgedOut producedOf producedOut
+    urgent-leaves k = search (by-test, refused, outcome, short, never q, other) depth 9
+
     place-leaves : (at k : ℕ) → Leaves n c (Why q) (placeOf n a c at k)
     unfolding placeOf
     place-leaves at k = search (by-test, refused, outcome, never q, other) depth 9
 
     read-leaves : (t : Bool) (k : ℕ) → Leaves n c (Why q) (readOf n a c t k)
-    unfolding readOf takeOf tornOf consumedOf consumedIn marksTo
+    unfolding readOf takeOf tornOf consumedOf consumedIn clearedIn marksTo
     read-leaves t k = search (by-test, refused, outcome, never q, other) depth 9
 
     shutdown-leaves : Leaves n c (Why q) (shutdownOf n a c)
@@ -132,6 +140,7 @@ module _ (n : ℕ) (a : Bool) (c : Record) where
       → Course n c (ClosesSlot c q (requestTurn n a c e q .answer .says)) (requestTurn n a c e q .after)
   unfolding requestTurn turnOf
   request-course e (send b) = send-leaves (send b) (λ r w. let z = w .0 in clash (cc)) (length b) .course
+  request-course e (urgent b) = urgent-leaves (urgent b) (λ r w. let z = w .0 in clash (cc)) (length b) .course
   request-course e (place at b) = place-leaves (place at b) (λ r w. let z = w .0 in clash (cc)) at (length b) .course
   request-course e (read out) = read-leaves (read out) (λ r w. let z = w .0 in clash (cc)) _ (length out) .course
   request-course e shutdown = shutdown-leaves shutdown (λ r w. let z = w .0 in clash (cc)) .course
@@ -154,7 +163,7 @@ same-cursor a b e =
 
 module _ (n : ℕ) (a : Bool) (c : Record) (m : Message) where
   -- the record with what the message says
-  heard-ahead : Coherent n c → Produces n c (m .producer) → Consumes c (m .consumer) → Ahead n c (heardRecord c m)
+  heard-ahead : Coherent n c → Produces n c (m .producer) → Consumes c (m .consumer) → Ahead n c (heardRecord n c m)
   unfolding heardRecord heardIn heardOut marksTo
   heard-ahead f p r =
       record {

@@ -26,20 +26,20 @@ use Rattle.connection.specs.declared.Record.{Record}
 use Rattle.connection.specs.declared.Reply.{Reply}
 use Rattle.connection.specs.declared.Reply.the-variants.{Accepted, Sent, Heard}
 use Rattle.connection.specs.declared.Outcome.{Outcome}
-use Rattle.connection.specs.Connection.{sequenceAfter, fitsB, remoteOk, coherentB, refusalOf, refusedOf, outcomeOf, closedIf, marksTo}
+use Rattle.connection.specs.Connection.{sequenceAfter, fitsB, remoteOk, coherentB, refusalOf, refusedOf, outcomeOf, urgentOutcome, closedIf, marksTo}
 use Rattle.flow.specs.Flow.{windowOf}
 use Rattle.element.specs.Element.{allFree, intactB}
-use Rattle.transmit.specs.Transmit.{sendForbids, sendOf, sentOf}
+use Rattle.transmit.specs.Transmit.{sendForbids, waitsB, nothingSent, sendOf, sentOf, urgentOf, urgentSendOf}
 use Rattle.receive.specs.Receive.{unreadOf, placeForbids, mayPlace, placeOf, readForbids, readOf, takeOf, tornOf}
 use Rattle.hear.specs.Hear.{ruledOf, nextB, producerB, consumerB, abortedOf, acceptedOf, followedOf, hearOf}
 use Rattle.finish.specs.Finish.{resetOf, closingOf, shutdownForbids, shutdownOf, closeForbids, closeOf, abortOf}
-use Rattle.connection.proofs.Laws.{outcome-reply, closed-reply}
+use Rattle.connection.proofs.Laws.{outcome-reply, urgent-reply, closed-reply}
 use Rattle.gauge.specs.declared.Gauge.{Gauge}
 use Rattle.gauge.specs.Gauge.{mostMs, sampledOf}
 use Rattle.table.specs.Table.{sizesB, slotB, openB, activeB, gaugeAt, findFrom, gaugeSet}
 use Rattle.connection.specs.declared.Opening.{Opening}
 use Rattle.table.specs.Table.{linkIn}
-use Rattle.rules.specs.Rules.{Group, Request, send, place, read, shutdown, close, abort, openSlot, freeSlot, linkChange, linkMessage, sample, Call, on, hear, manage, Says, refusal, accepted, sent, wasRead, torn, reset, heard, sampled, saysOf, turnOf, requestTurn, hearTurn, Done, refuses, answer, sizesOk, recordOf, elementIn, linkOf, putTurn, onDoes, holderOf, hearAt, hearMessage, hearDoes, openRefusal, openDoes, freeRefusal, freeDoes, linkDoes, linkAnswer, linkMessageDoes, linksOf, withLinks, healthy, sampleRefusal, sampleDoes, does, badOpening}
+use Rattle.rules.specs.Rules.{Group, Request, send, urgent, place, read, shutdown, close, abort, openSlot, freeSlot, linkChange, linkMessage, sample, Call, on, hear, manage, Says, refusal, accepted, sent, wasRead, torn, reset, heard, sampled, saysOf, turnOf, requestTurn, hearTurn, Done, refuses, answer, sizesOk, recordOf, elementIn, linkOf, putTurn, onDoes, holderOf, hearAt, hearMessage, hearDoes, openRefusal, openDoes, freeRefusal, freeDoes, linkDoes, linkAnswer, linkMessageDoes, linksOf, withLinks, healthy, sampleRefusal, sampleDoes, does, badOpening}
 use Rattle.safety.specs.Refusals.{outside, sizesWrong, slotOutside, slotClosed, incoherent, byteIs, malformedLink, tokenUnheld, connectionDown, linkDown, stateForbids, aborting, notAborting, producerBroken, consumerBroken, byteFree, unplaceable, alreadyOpen, tokenHeld, zeroOrOut, linkOutside, otherNamed, tooLong, Test, _when_, placeTest, tests, firstOf, Exactly, ExactlyWhen}
 use Rattle.safety.proofs.Answers.{clash}
 
@@ -133,6 +133,9 @@ accepts o r p e = record { none-given = ap (λ s. number (saysOf s)) p ∙ e }
 outcome : (r : Reply) (t : Bool) (d : Record) → number (saysOf r) ≡ none → Accepts (outcomeOf r t d)
 outcome r t d e = accepts _ r (outcome-reply r t d) e
 
+short : (r : Reply) (m : Message) (d : Record) → number (saysOf r) ≡ none → Accepts (urgentOutcome r m d)
+short r m d e = accepts _ r (urgent-reply r m d) e
+
 shut : (s : Bool) (r : Reply) (t : Bool) (d : Record) → number (saysOf r) ≡ none → Accepts (closedIf s (outcomeOf r t d))
 shut s r t d e = accepts _ r (closed-reply s (outcomeOf r t d) ∙ outcome-reply r t d) e
 
@@ -140,7 +143,7 @@ either : (t : Bool) (o p : Outcome) → Accepts o → Accepts p → Accepts (con
 either true o p h k = h
 either false o p h k = k
 
-ruleset accepted-all = (outcome, shut, either)
+ruleset accepted-all = (outcome, short, shut, either)
 
 -- what every call on a connection tests first
 module _ (n : ℕ) (active : Bool) (c : Record) where
@@ -225,7 +228,14 @@ module _ (n : ℕ) (a : Bool) (c : Record) where
   send-first : (len : ℕ) (t : Bool) → t ≡ sendForbids (c .marks) → number (saysOf (sendOf n a c len .reply)) ≡ firstOf (from3 t [])
   unfolding sendOf sentOf
   send-first len t e =
-      let o = cond (eqb len 0) (outcomeOf (Sent 0 Nowhere) false c) (sentOf c len) in
+      let o = cond (waitsB c len) (nothingSent c) (sentOf c len) in
+      first-tests n a c t (sendForbids (c .marks)) o [] e (then-accepts o (search accepted-all))
+
+  urgent-first : (len : ℕ) (t : Bool) → t ≡ sendForbids (c .marks)
+      → number (saysOf (urgentSendOf n a c len .reply)) ≡ firstOf (from3 t [])
+  unfolding urgentSendOf urgentOf
+  urgent-first len t e =
+      let o = cond (waitsB c len) (nothingSent c) (urgentOf c len) in
       first-tests n a c t (sendForbids (c .marks)) o [] e (then-accepts o (search accepted-all))
 
   read-first : (intact : Bool) (room : ℕ) (t : Bool) → t ≡ readForbids (c .marks)
@@ -329,6 +339,7 @@ request-first : (g : Group) (k : ℕ) (q : Request)
     ≡ firstOf (3 when incoherent g k ∷ 6 when connectionDown g k ∷ 7 when stateForbids g k q ∷ placeTest g k q)
 unfolding requestTurn turnOf sendForbids placeForbids readForbids shutdownForbids closeForbids
 request-first g k (send b) = send-first (g .N) (linkOf g k) (recordOf g k) (length b) _ (simp or-assoc)
+request-first g k (urgent b) = urgent-first (g .N) (linkOf g k) (recordOf g k) (length b) _ (simp or-assoc)
 request-first g k (place at b) =
     place-first (g .N) (linkOf g k) (recordOf g k) at (length b) _ _ (simp or-assoc) (placeable g k at (length b))
 request-first g k (read out) = read-first (g .N) (linkOf g k) (recordOf g k) (intactB (elementIn g k)) (length out) _ refl

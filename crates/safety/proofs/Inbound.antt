@@ -11,13 +11,13 @@ use Rattle.connection.specs.declared.Record.{Record}
 use Rattle.connection.specs.declared.Reply.{Reply}
 use Rattle.connection.specs.declared.Reply.the-variants.{Heard, Read}
 use Rattle.connection.specs.declared.Outcome.{Outcome}
-use Rattle.connection.specs.Connection.{zeroRecord, refusedOf, outcomeOf, toldOf, toldIn, closedIf, marksTo}
-use Rattle.transmit.specs.Transmit.{sendOf, sentOf, producedOf}
-use Rattle.receive.specs.Receive.{placeOf, readOf, takeOf, tornOf, consumedOf, consumedIn, unreadOf}
+use Rattle.connection.specs.Connection.{zeroRecord, refusedOf, outcomeOf, urgentOutcome, toldOf, toldIn, closedIf, marksTo}
+use Rattle.transmit.specs.Transmit.{sendOf, sentOf, producedOf, urgedOf, urgentOf, urgentSendOf}
+use Rattle.receive.specs.Receive.{placeOf, readOf, takeOf, tornOf, consumedOf, consumedIn, clearedIn, unreadOf}
 use Rattle.hear.specs.Hear.{ruledOf, hearOf, heardRecord, abortedOf, followedOf, acceptedOf, heardIn}
 use Rattle.hear.proofs.Laws.{Produces, aborted-shut, repliedTo, hear-cases, accepted-is}
 use Rattle.finish.specs.Finish.{resetOf, closingOf, shutdownOf, closeOf, abortOf}
-use Rattle.rules.specs.Rules.{Says, saysOf, refusal, accepted, Request, read, turnOf, requestTurn, send, place, shutdown, close, abort, hearTurn, heard, torn, reset, sampled, sent, wasRead, Turn}
+use Rattle.rules.specs.Rules.{Says, saysOf, refusal, accepted, Request, read, turnOf, requestTurn, send, urgent, place, shutdown, close, abort, hearTurn, heard, torn, reset, sampled, sent, wasRead, Turn}
 use Rattle.flow.specs.Flow.{takenOf}
 use Rattle.connection.specs.declared.Inbound.{Inbound}
 use Rattle.closing.specs.declared.State.the-variants.{PeerAbortWait}
@@ -67,13 +67,17 @@ module _ (n : ℕ) (c : Record) (New : Cursor → Type 0) where
   outcome r true d s = record { steps = inr (tells (saysOf r) d s) }
   outcome r false d s = record { steps = inr s }
 
+  short : (r : Reply) (m : Message) (d : Record) → Steps n c New (saysOf r) false d → Goes n c New (urgentOutcome r m d)
+  unfolding urgentOutcome
+  short r m d s = record { steps = inr (tells (saysOf r) d s) }
+
   shut : (t : Bool) (o : Outcome) → Goes n c New o → Goes n c New (closedIf t o)
   unfolding closedIf
   shut true o h = record { steps = inl refl }
   shut false o h = h
 
   -- the record with what a message says
-  heard-steps : (m : Message) → New (m .producer) → Produces n c (m .producer) → Steps n c New (saysOf (repliedTo n c m)) false (heardRecord c m)
+  heard-steps : (m : Message) → New (m .producer) → Produces n c (m .producer) → Steps n c New (saysOf (repliedTo n c m)) false (heardRecord n c m)
   unfolding heardRecord heardIn marksTo
   heard-steps m w p =
       record {
@@ -86,6 +90,10 @@ module _ (n : ℕ) (c : Record) (New : Cursor → Type 0) where
     send-goes : (k : ℕ) → Goes n c New (sendOf n a c k)
     unfolding sendOf sentOf producedOf
     send-goes k = search (by-test, refused, outcome, quiet) depth 9
+
+    urgent-goes : (k : ℕ) → Goes n c New (urgentSendOf n a c k)
+    unfolding urgentSendOf urgentOf urgedOf producedOf
+    urgent-goes k = search (by-test, refused, outcome, short, quiet) depth 9
 
     place-goes : (at k : ℕ) → Goes n c New (placeOf n a c at k)
     unfolding placeOf
@@ -104,7 +112,7 @@ module _ (n : ℕ) (c : Record) (New : Cursor → Type 0) where
     close-goes = search (by-test, refused, outcome, shut, quiet) depth 9
 
     taken : (k : ℕ) → Goes n c New (takeOf n c k)
-    unfolding takeOf consumedOf consumedIn unreadOf
+    unfolding takeOf consumedOf consumedIn clearedIn unreadOf
     taken k =
         let m = takenOf (gapOf (n - 4) (c .inbound .consumer) (c .inbound .producer)) k in
         outcome (Read m) _ _
@@ -123,7 +131,7 @@ module _ (n : ℕ) (c : Record) (New : Cursor → Type 0) where
     heard-goes m w =
         hear-cases n a c m (Goes n c New) refused (record { steps = inl (aborted-shut c) })
         (outcome (Heard 0 PeerAbortWait) false c (quiet _ c refl refl refl))
-        (λ p r. rw (accepted-is n c m) (shut _ _ (outcome (repliedTo n c m) _ (heardRecord c m) (heard-steps m w p))))
+        (λ p r. rw (accepted-is n c m) (shut _ _ (outcome (repliedTo n c m) _ (heardRecord n c m) (heard-steps m w p))))
 
 module _ (n : ℕ) (a : Bool) (c : Record) (e : List ℕ) where
   -- what a turn does to P, C and T, unless it closes the slot
@@ -134,6 +142,7 @@ module _ (n : ℕ) (a : Bool) (c : Record) (e : List ℕ) where
   pub request-steps : (New : Cursor → Type 0) (q : Request) → Turned New (requestTurn n a c e q)
   unfolding requestTurn turnOf
   request-steps New (send b) = send-goes n c New a (length b) .steps
+  request-steps New (urgent b) = urgent-goes n c New a (length b) .steps
   request-steps New (place at b) = place-goes n c New a at (length b) .steps
   request-steps New (read out) = read-goes n c New a _ (length out) .steps
   request-steps New shutdown = shutdown-goes n c New a .steps
@@ -161,12 +170,20 @@ module _ (n : ℕ) (a : Bool) (c : Record) where
   replies : (r : Reply) (t : Bool) (d : Record) → readIn (saysOf r) ≡ 0 → Unread (outcomeOf r t d)
   replies r t d h = record { none-read = ap (λ s. readIn (saysOf s)) (outcome-reply r t d) ∙ h }
 
+  cuts : (r : Reply) (m : Message) (d : Record) → readIn (saysOf r) ≡ 0 → Unread (urgentOutcome r m d)
+  unfolding urgentOutcome
+  cuts r m d h = record { none-read = h }
+
   closes : (t : Bool) (o : Outcome) → Unread o → Unread (closedIf t o)
   closes t o h = record { none-read = ap (λ s. readIn (saysOf s)) (closed-reply t o) ∙ h .none-read }
 
   send-unread : (k : ℕ) → Unread (sendOf n a c k)
   unfolding sendOf sentOf
   send-unread k = search (either, refuses, replies) depth 9
+
+  urgent-unread : (k : ℕ) → Unread (urgentSendOf n a c k)
+  unfolding urgentSendOf urgentOf
+  urgent-unread k = search (either, refuses, replies, cuts) depth 9
 
   place-unread : (at k : ℕ) → Unread (placeOf n a c at k)
   unfolding placeOf
@@ -205,6 +222,7 @@ module _ (n : ℕ) (a : Bool) (c : Record) where
   pub request-reader : (e : List ℕ) (q : Request) → Reader q (requestTurn n a c e q .answer .says)
   unfolding requestTurn turnOf
   request-reader e (send b) = inl (send-unread (length b) .none-read)
+  request-reader e (urgent b) = inl (urgent-unread (length b) .none-read)
   request-reader e (place at b) = inl (place-unread at (length b) .none-read)
   request-reader e (read out) = reader (read out) out refl _
   request-reader e shutdown = inl (shutdown-unread .none-read)

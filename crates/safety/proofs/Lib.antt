@@ -5,9 +5,8 @@
 -- bytes a call touches and sees. `Theorem`, `Progress`, `Dropped`: the claims of specs/Statement.
 -- Of positions: `Places`, `Inbound`, `Journals`, what is said of a slot and its record and element over one turn; `Noted`, `Followed`, over each
 -- call, and all; `HandedOut`, how what is said grows. `Positions`, `Unwritten`: the claims of specs/Positions.
--- `Numbers`: the claim of specs/Numbers. `Gauges`: those of specs/Gauges.
+-- `Numbers`: the claim of specs/Numbers. `Gauges`: those of specs/Gauges. `Urgent`, `UrgentEnds`: those of specs/Urgent.
 pub mod Lists
-pub mod Cursors
 pub mod Effects
 pub mod Acted
 pub mod Memory
@@ -39,3 +38,5 @@ pub mod Positions
 pub mod Unwritten
 pub mod Numbers
 pub mod Gauges
+pub mod Urgent
+pub mod UrgentEnds

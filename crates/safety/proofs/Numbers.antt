@@ -19,14 +19,14 @@ use Rattle.connection.specs.declared.Reply.{Reply}
 use Rattle.connection.specs.declared.Reply.the-variants.{Heard}
 use Rattle.closing.specs.declared.State.the-variants.{PeerAbortWait}
 use Rattle.connection.specs.declared.Outcome.{Outcome}
-use Rattle.connection.specs.Connection.{zeroRecord, openedRecord, refusalOf, refusedOf, outcomeOf, toldOf, toldIn, closedIf, marksTo, sequenceAfter}
-use Rattle.transmit.specs.Transmit.{sendOf, sentOf, producedOf}
-use Rattle.receive.specs.Receive.{placeOf, readOf, takeOf, tornOf, consumedOf, consumedIn}
+use Rattle.connection.specs.Connection.{zeroRecord, openedRecord, refusalOf, refusedOf, outcomeOf, urgentOutcome, toldOf, toldIn, closedIf, marksTo, sequenceAfter}
+use Rattle.transmit.specs.Transmit.{sendOf, sentOf, producedOf, urgedOf, urgentOf, urgentSendOf}
+use Rattle.receive.specs.Receive.{placeOf, readOf, takeOf, tornOf, consumedOf, consumedIn, clearedIn}
 use Rattle.closing.specs.Closing.{doneSent, closedSent, abortSent, marksHeard}
 use Rattle.hear.specs.Hear.{nextB, producerB, consumerB, heardIn, heardRecord, abortedOf, acceptedOf, ruledOf, followedOf, hearOf}
 use Rattle.hear.proofs.Laws.{aborted-shut, accepted-is, accepted-reply, shutBy, repliedTo}
 use Rattle.finish.specs.Finish.{resetOf, closingOf, shutdownOf, closeOf, abortOf}
-use Rattle.rules.specs.Rules.{Group, Request, send, place, read, shutdown, close, abort, openSlot, freeSlot, linkChange, linkMessage, sample, Call, on, hear, manage, Says, refusal, saysOf, Turn, turnOf, requestTurn, hearTurn, Done, does, answer, next, refuses, putTurn, recordOf, elementIn, linkOf, sizesOk, holderOf}
+use Rattle.rules.specs.Rules.{Group, Request, send, urgent, place, read, shutdown, close, abort, openSlot, freeSlot, linkChange, linkMessage, sample, Call, on, hear, manage, Says, refusal, saysOf, Turn, turnOf, requestTurn, hearTurn, Done, does, answer, next, refuses, putTurn, recordOf, elementIn, linkOf, sizesOk, holderOf}
 use Rattle.table.specs.Table.{recordAt}
 use Rattle.order.specs.Statement.{leaves}
 use Rattle.order.proofs.Near.{enough}
@@ -68,6 +68,7 @@ record Leaves (q : Request) (c : Record) (o : Outcome) : Type 0 where
 -- a refusal sends no A
 no-refusal : (q : Request) (k : ℕ) → sendsA q (refusal k) ≡ false
 no-refusal (send b) k = refl
+no-refusal (urgent b) k = refl
 no-refusal (place at b) k = refl
 no-refusal (read out) k = refl
 no-refusal shutdown k = refl
@@ -89,6 +90,11 @@ module _ (q : Request) (c : Record) where
   outcome r true d e f = record { last = inr (e, f) }
   outcome r false d e f = record { last = inr (e, f) }
 
+  short : (r : Reply) (m : Message) (d : Record) → d .inbound .last ≡ c .inbound .last → d .marks .abort ≡ sendsA q (saysOf r) || c .marks .abort
+      → Leaves q c (urgentOutcome r m d)
+  unfolding urgentOutcome toldOf toldIn
+  short r m d e f = record { last = inr (e, f) }
+
   shut : (t : Bool) (o : Outcome) → Leaves q c o → Leaves q c (closedIf t o)
   unfolding closedIf
   shut true o h = record { last = inl refl }
@@ -99,12 +105,16 @@ module _ (n : ℕ) (a : Bool) (c : Record) where
   unfolding sendOf sentOf producedOf
   send-leaves b = search (by-test, refused, outcome) depth 9
 
+  urgent-leaves : (b : List ℕ) → Leaves (urgent b) c (urgentSendOf n a c (length b))
+  unfolding urgentSendOf urgentOf urgedOf producedOf
+  urgent-leaves b = search (by-test, refused, outcome, short) depth 9
+
   place-leaves : (at : ℕ) (b : List ℕ) → Leaves (place at b) c (placeOf n a c at (length b))
   unfolding placeOf
   place-leaves at b = search (by-test, refused, outcome) depth 9
 
   read-leaves : (out : List ℕ) (t : Bool) → Leaves (read out) c (readOf n a c t (length out))
-  unfolding readOf takeOf tornOf consumedOf consumedIn marksTo abortSent
+  unfolding readOf takeOf tornOf consumedOf consumedIn clearedIn marksTo abortSent
   read-leaves out t = search (by-test, refused, outcome) depth 9
 
   shutdown-leaves : Leaves shutdown c (shutdownOf n a c)
@@ -123,6 +133,7 @@ module _ (n : ℕ) (a : Bool) (c : Record) where
       → let t = requestTurn n a c e q in Last (c .inbound .last) (sendsA q (t .answer .says) || c .marks .abort) (t .after)
   unfolding requestTurn turnOf
   request-last e (send b) = send-leaves b .last
+  request-last e (urgent b) = urgent-leaves b .last
   request-last e (place at b) = place-leaves at b .last
   request-last e (read out) = read-leaves out _ .last
   request-last e shutdown = shutdown-leaves .last
@@ -158,7 +169,7 @@ module _ (n : ℕ) (a : Bool) (c : Record) (m : Message) where
   after-A h s = record { numbered = passes (λ i. not (h i) && not (s i)) (inr (refl, refl)) }
 
   heard-last : (t s : Bool) (r : Reply)
-      → Last (m .sequence) (c .marks .abort) (closedIf s (outcomeOf r t (heardRecord c m)) .after)
+      → Last (m .sequence) (c .marks .abort) (closedIf s (outcomeOf r t (heardRecord n c m)) .after)
   unfolding closedIf outcomeOf toldOf toldIn heardRecord heardIn marksTo marksHeard
   heard-last t true r = inl refl
   heard-last true false r = inr (refl, refl)
@@ -174,7 +185,7 @@ module _ (n : ℕ) (a : Bool) (c : Record) (m : Message) where
         numbered =
             takes (λ i. not (refusedB (saysOf (accepted-reply n c m i))) && (not (h i) && not (s i)))
             (is-next z)
-            (rw (accepted-is n c m) (heard-last _ (shutBy c m) (repliedTo n c m)));
+            (rw (accepted-is n c m) (heard-last _ (shutBy n c m) (repliedTo n c m)));
       }
 
   hear-hears : Hears c m (hearOf n a c m)

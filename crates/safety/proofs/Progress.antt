@@ -18,10 +18,10 @@ use Rattle.connection.specs.declared.Outcome.{Outcome}
 use Rattle.connection.specs.Connection.{effectOf, coherentB}
 use Rattle.connection.proofs.Laws.{refusal-0, outcome-reply}
 use Rattle.transmit.specs.Transmit.{sendOf, placingsTotal, allWithin}
-use Rattle.transmit.proofs.Laws.{writes-a-byte, send-takes, send-within}
+use Rattle.transmit.proofs.Laws.{writes-a-byte, send-takes, send-within, urgent-within}
 use Rattle.receive.specs.Receive.{readForbids, unreadOf, takeOf, readOf}
-use Rattle.rules.specs.Rules.{Group, send, read, on, sent, saysOf, placingList, turnOf, requestTurn, readInto, Answer, Done, does, answer, refuses, onDoes, sizesOk, recordOf, elementIn, linkOf}
-use Rattle.safety.specs.Statement.{totalOf, AllWithin, OneByte, PlacingsWithin, OneRead}
+use Rattle.rules.specs.Rules.{Group, Request, send, read, on, sent, saysOf, placingList, turnOf, requestTurn, readInto, Answer, Done, does, answer, refuses, onDoes, outOf, sizesOk, recordOf, elementIn, linkOf}
+use Rattle.safety.specs.Statement.{totalOf, AllWithin, OneByte, plainly, urgently, PlacingsWithin, OneRead}
 use Rattle.safety.proofs.Answers.{clash}
 use Rattle.safety.proofs.OnSlot.{on-was-open, on-answer}
 
@@ -38,9 +38,9 @@ all-within c (Two p q) h = (h .0, (rw (zero-add (p .len)) (h .1), tt))
 
 pub one-byte : OneByte
 unfolding requestTurn turnOf
-one-byte h k b sizes o ok may some room up =
+one-byte h k b sizes o ok may free some room up =
     let c = recordOf h k in
-    let w = writes-a-byte (h .N) (linkOf h k) c (length b) ok up may room some in
+    let w = writes-a-byte (h .N) (linkOf h k) c (length b) ok up may free room some in
     let a = on-answer h k (send b) sizes o in
     record {
       n = w .0;
@@ -64,24 +64,35 @@ sent-is (Heard moved state) n l e = clash (cc)
 sent-is Reset n l e = clash (cc)
 sent-is (Sampled health) n l e = clash (cc)
 
+-- a request that says so on an open slot
+module _ (g : Group) (k n : ℕ) (q : Request) (l : List Placing) (e : answer g (on k q) .says ≡ sent n l) where
+  within : (r : Reply) → requestTurn (g .N) (linkOf g k) (recordOf g k) (elementIn g k) q .answer .says ≡ saysOf r
+      → ((p : Placings) → r ≡ Sent n p → allWithin (recordOf g k) p) → AllWithin (recordOf g k) 0 l
+  unfolding onDoes refuses
+  within r says h = sized (sizesOk g) refl
+    where
+      c : Record
+      c = recordOf g k
+
+      by : sizesOk g ≡ true → AllWithin c 0 l
+      by ok =
+          let o = on-was-open g k q ok (λ j x. clash (cc)) in
+          let s = sent-is r n l (sym (ap (λ (x : Answer). x .says) (on-answer g k q ok o) ∙ says) ∙ e) in
+          subst (AllWithin c 0) (s .2) (all-within c (s .0) (h (s .0) (s .1)))
+
+      unsized : sizesOk g ≡ false → does g (on k q) ≡ refuses g 1 (outOf q)
+      unsized f = rw f
+
+      sized : (t : Bool) → sizesOk g ≡ t → AllWithin c 0 l
+      sized true f = by f
+      sized false f = let x = ap (λ (y : Done). y .answer .says) (unsized f) in clash (cc)
+
 pub placings-within : PlacingsWithin
-unfolding requestTurn turnOf onDoes refuses
-placings-within g k n b l e = sized (sizesOk g) refl
-  where
-    by : sizesOk g ≡ true → AllWithin (recordOf g k) 0 l
-    by ok =
-        let c = recordOf g k in
-        let o = on-was-open g k (send b) ok (λ j r. clash (cc)) in
-        let says = ap (λ (x : Answer). x .says) (on-answer g k (send b) ok o) in
-        let s = sent-is (sendOf (g .N) (linkOf g k) c (length b) .reply) n l (sym says ∙ e) in
-        subst (AllWithin c 0) (s .2) (all-within c (s .0) (send-within (g .N) (linkOf g k) c (length b) n (s .0) (s .1)))
-
-    unsized : sizesOk g ≡ false → does g (on k (send b)) ≡ refuses g 1 []
-    unsized f = rw f
-
-    sized : (t : Bool) → sizesOk g ≡ t → AllWithin (recordOf g k) 0 l
-    sized true f = by f
-    sized false f = let r = ap (λ (x : Done). x .answer .says) (unsized f) in clash (cc)
+unfolding requestTurn turnOf
+placings-within g k n q l (plainly b) e =
+    within g k n q l e _ refl (λ p s. send-within (g .N) (linkOf g k) (recordOf g k) (length b) n p s)
+placings-within g k n q l (urgently b) e =
+    within g k n q l e _ refl (λ p s. urgent-within (g .N) (linkOf g k) (recordOf g k) (length b) n p s)
 
 -- an intact element is read
 reads-smaller : (n : ℕ) (active : Bool) (c : Record) (room : ℕ) → coherentB n c ≡ true → active ≡ true → readForbids (c .marks) ≡ false

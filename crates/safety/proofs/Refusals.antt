@@ -16,14 +16,14 @@ use Rattle.connection.specs.declared.Record.{Record}
 use Rattle.connection.specs.declared.Reply.{Reply}
 use Rattle.connection.specs.declared.Reply.the-variants.{Refused}
 use Rattle.connection.specs.declared.Outcome.{Outcome}
-use Rattle.connection.specs.Connection.{effectOf, zeroRecord, refusedOf, outcomeOf, closedIf}
-use Rattle.connection.proofs.Laws.{outcome-reply, closed-reply}
-use Rattle.transmit.specs.Transmit.{sendOf, sentOf}
+use Rattle.connection.specs.Connection.{effectOf, zeroRecord, refusedOf, outcomeOf, urgentOutcome, closedIf}
+use Rattle.connection.proofs.Laws.{outcome-reply, urgent-reply, closed-reply}
+use Rattle.transmit.specs.Transmit.{sendOf, sentOf, urgentOf, urgentSendOf}
 use Rattle.receive.specs.Receive.{placeOf, readOf, takeOf, tornOf}
 use Rattle.hear.specs.Hear.{ruledOf, hearOf, abortedOf, followedOf, acceptedOf}
 use Rattle.finish.specs.Finish.{resetOf, closingOf, shutdownOf, closeOf, abortOf}
 use Rattle.table.specs.Table.{recordAt, withRecord}
-use Rattle.rules.specs.Rules.{Group, Request, send, place, read, shutdown, close, abort, openSlot, freeSlot, linkChange, linkMessage, sample, Call, on, hear, manage, Says, refusal, accepted, sent, wasRead, torn, reset, heard, sampled, saysOf, turnOf, placedIn, readInto, requestTurn, hearTurn, Done, refuses, recordOf, elementIn, linkOf, putTurn, outOf, onDoes, holderOf, hearAt, hearMessage, hearDoes, openDoes, freeDoes, linkDoes, linkAnswer, linkMessageDoes, sampleDoes, does}
+use Rattle.rules.specs.Rules.{Group, Request, send, urgent, place, read, shutdown, close, abort, openSlot, freeSlot, linkChange, linkMessage, sample, Call, on, hear, manage, Says, refusal, accepted, sent, wasRead, torn, reset, heard, sampled, saysOf, turnOf, placedIn, readInto, requestTurn, hearTurn, Done, refuses, recordOf, elementIn, linkOf, putTurn, outOf, onDoes, holderOf, hearAt, hearMessage, hearDoes, openDoes, freeDoes, linkDoes, linkAnswer, linkMessageDoes, sampleDoes, does}
 use Rattle.safety.specs.Refusals.{lentOut, RefusedKeeps}
 
 -- PUTTING BACK WHAT WAS THERE changes nothing, whatever the table and the memory
@@ -32,13 +32,13 @@ drop-taken zero l = refl
 drop-taken (suc n) [] = refl
 drop-taken (suc n) (x ∷ l) = drop-taken n l
 
-memory-back : (m : List ℕ) (n k : ℕ) → splice m (baseOf n k) (elementOf n k m) ≡ m
+pub memory-back : (m : List ℕ) (n k : ℕ) → splice m (baseOf n k) (elementOf n k m) ≡ m
 unfolding splice elementOf part
 memory-back m n k =
     let a = baseOf n k in
     rw (← drop-drop (length (take n (drop a m))) a m, drop-taken n (drop a m), take-append-drop n (drop a m), take-append-drop a m)
 
-table-back : (t : List Record) (k : ℕ) → withRecord t k (recordAt t k) ≡ t
+pub table-back : (t : List Record) (k : ℕ) → withRecord t k (recordAt t k) ≡ t
 unfolding withRecord recordAt
 table-back t zero = refl
 table-back t (suc i) = set-getD t i zeroRecord
@@ -93,6 +93,9 @@ module _ (g : Group) (j : ℕ) (out : List ℕ) (f h : Reply → List ℕ)
   outcome : (r : Reply) (t : Bool) (d : Record) → refusalB (saysOf r) ≡ false → Refuses g out turned (outcomeOf r t d)
   outcome r t d e = replies _ r (outcome-reply r t d) e
 
+  short : (r : Reply) (m : Message) (d : Record) → refusalB (saysOf r) ≡ false → Refuses g out turned (urgentOutcome r m d)
+  short r m d e = replies _ r (urgent-reply r m d) e
+
   shut : (s : Bool) (r : Reply) (t : Bool) (d : Record) → refusalB (saysOf r) ≡ false
       → Refuses g out turned (closedIf s (outcomeOf r t d))
   shut s r t d e = replies _ r (closed-reply s (outcomeOf r t d) ∙ outcome-reply r t d) e
@@ -100,7 +103,7 @@ module _ (g : Group) (j : ℕ) (out : List ℕ) (f h : Reply → List ℕ)
   settled : (o : Outcome) → Refuses g out turned o → Refuses g out (λ d. d) (turned o)
   settled o p = record { only = p .only }
 
-ruleset walk = (by-test, refuse, outcome, shut)
+ruleset walk = (by-test, refuse, outcome, short, shut)
 
 module _ (g : Group) (j : ℕ) where
   abbrev e : List ℕ
@@ -112,8 +115,9 @@ module _ (g : Group) (j : ℕ) where
   quiet o p = settled g j [] (λ r. e) (λ r. []) (λ k. (refl, refl)) o p
 
   request : (q : Request) → Refuses g (outOf q) (λ d. d) (putTurn g j (requestTurn (g .N) (linkOf g j) (recordOf g j) e q))
-  unfolding requestTurn sendOf sentOf placeOf readOf takeOf tornOf shutdownOf closeOf resetOf closingOf abortOf
+  unfolding requestTurn sendOf sentOf urgentSendOf urgentOf placeOf readOf takeOf tornOf shutdownOf closeOf resetOf closingOf abortOf
   request (send b) = quiet _ (search walk depth 9)
+  request (urgent b) = quiet _ (search walk depth 9)
   request (place at b) = settled g j [] (λ r. placedIn (effectOf r) e at b) (λ r. []) (λ k. (refl, refl)) _ (search walk depth 9)
   request (read out) =
       settled g j out (λ r. e) (λ r. readInto (effectOf r) (recordOf g j .inbound .consumer) e out) (λ k. (refl, refl)) _ (search walk depth 9)

@@ -15,17 +15,17 @@ use Rattle.connection.specs.declared.Reply.{Reply}
 use Rattle.connection.specs.declared.Reply.the-variants.{Refused, Accepted, Sent, Read, Torn, Reset, Heard, Sampled}
 use Rattle.connection.specs.declared.Outcome.{Outcome}
 use Rattle.connection.specs.Connection.{effectOf, coherentB, zeroRecord}
-use Rattle.transmit.specs.Transmit.{sendOf}
-use Rattle.transmit.proofs.Laws.{send-coherent}
+use Rattle.transmit.specs.Transmit.{sendOf, urgentSendOf}
+use Rattle.transmit.proofs.Laws.{send-coherent, urgent-coherent}
 use Rattle.receive.specs.Receive.{placeOf, readOf}
 use Rattle.receive.proofs.Laws.{Placeable, place-coherent, place-accepted, read-coherent}
 use Rattle.hear.specs.Hear.{hearOf}
 use Rattle.hear.proofs.Laws.{hear-coherent}
 use Rattle.finish.specs.Finish.{shutdownOf, closeOf, abortOf}
 use Rattle.finish.proofs.Laws.{shutdown-coherent, close-coherent, abort-coherent}
-use Rattle.rules.specs.Rules.{Request, send, place, read, shutdown, close, abort, refusal, torn, reset, saysOf, Turn, turnOf, requestTurn, hearTurn, placedIn}
+use Rattle.rules.specs.Rules.{Request, send, urgent, place, read, shutdown, close, abort, refusal, torn, reset, saysOf, Turn, turnOf, requestTurn, hearTurn, placedIn}
 use Rattle.safety.specs.Statement.{acceptedB, placedBy}
-use Rattle.safety.proofs.Answers.{Answers, fair-3, fair-torn, send-answers, place-answers, read-answers, hear-answers, shutdown-answers, close-answers, abort-answers}
+use Rattle.safety.proofs.Answers.{Answers, fair-3, fair-torn, send-answers, urgent-answers, place-answers, read-answers, hear-answers, shutdown-answers, close-answers, abort-answers}
 use Rattle.safety.proofs.Lists.{splice-none}
 
 -- the turn of an element of n bytes; `now` is what it must hold after
@@ -84,6 +84,8 @@ module _ (n : ℕ) (a : Bool) (c : Record) (e : List ℕ) (long : length e ≡ n
   pub request : (q : Request) → Kept n (cond (acceptedB (requestTurn n a c e q .answer .says)) (placedBy q e) e) (requestTurn n a c e q)
   unfolding requestTurn turnOf
   request (send b) = still n e (sendOf n a c (length b)) [] eye (send-answers n a c ok (length b)) (inr (send-coherent n a c (length b) ok))
+  request (urgent b) =
+      still n e (urgentSendOf n a c (length b)) [] eye (urgent-answers n a c ok (length b)) (inr (urgent-coherent n a c (length b) ok))
   request (place at b) =
       let o = placeOf n a c at (length b) in
       let f = place-answers n a c ok at (length b) .fair in

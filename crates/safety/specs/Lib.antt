@@ -4,3 +4,4 @@ pub mod Changes
 pub mod Positions
 pub mod Numbers
 pub mod Gauges
+pub mod Urgent

@@ -11,7 +11,7 @@ use Rattle.cdc.specs.declared.Message.{Message}
 use Rattle.cdc.specs.declared.Decoded.{Decoded}
 use Rattle.cdc.specs.declared.Decoded.the-variants.{Good, Malformed}
 use Rattle.cdc.specs.Cdc.{decodeOf}
-use Rattle.rules.specs.Rules.{Group, Request, send, place, read, shutdown, close, abort, openSlot, freeSlot, linkChange, linkMessage, sample, Call, on, hear, manage, Says, refusal, accepted, sent, wasRead, torn, reset, heard, sampled, answer, next, recordOf, holderOf, Fresh}
+use Rattle.rules.specs.Rules.{Group, Request, send, urgent, place, read, shutdown, close, abort, openSlot, freeSlot, linkChange, linkMessage, sample, Call, on, hear, manage, Says, refusal, accepted, sent, wasRead, torn, reset, heard, sampled, answer, next, recordOf, holderOf, Fresh}
 use Rattle.order.specs.Statement.{leaves}
 use Rattle.safety.specs.Statement.{OpenAt, acceptedB}
 
@@ -48,6 +48,7 @@ brokenB (sampled q) = false
 
 abbrev pub sendsA : Request → Says → Bool
 sendsA (send b) says = brokenB says
+sendsA (urgent b) says = brokenB says
 sendsA (place at b) says = brokenB says
 sendsA (read out) says = brokenB says
 sendsA shutdown says = brokenB says

@@ -19,7 +19,7 @@ use Rattle.cdc.specs.Cdc.{encodeOf, decodeOf}
 use Rattle.gauge.specs.Gauge.{clearedOf}
 use Rattle.connection.specs.declared.Remote.{Remote}
 use Rattle.connection.specs.Connection.{zeroToken, zeroRecord, startCursor}
-use Rattle.rules.specs.Rules.{Group, Request, send, place, read, shutdown, close, abort, openSlot, freeSlot, linkChange, linkMessage, sample, Call, on, hear, manage, Says, refusal, accepted, sent, wasRead, torn, reset, heard, sampled, Answer, answer, next, recordOf, elementIn, Fresh}
+use Rattle.rules.specs.Rules.{Group, Request, send, urgent, place, read, shutdown, close, abort, openSlot, freeSlot, linkChange, linkMessage, sample, Call, on, hear, manage, Says, refusal, accepted, sent, wasRead, torn, reset, heard, sampled, Answer, answer, next, recordOf, elementIn, Fresh}
 use Rattle.order.specs.Statement.{leaves, answers, At}
 use Rattle.safety.specs.Statement.{OpenAt, acceptedB, Opens}
 
@@ -76,6 +76,7 @@ nothing = record { at = 0; bytes = [] }
 
 abbrev pub placed : Request → Placed
 placed (send b) = nothing
+placed (urgent b) = nothing
 placed (place at b) = record { at = at; bytes = b }
 placed (read out) = nothing
 placed shutdown = nothing

@@ -17,7 +17,7 @@ use Rattle.connection.specs.Connection.{coherentB}
 use Rattle.transmit.specs.Transmit.{sendForbids, Within}
 use Rattle.receive.specs.Receive.{readForbids, unreadOf}
 use Rattle.table.specs.Table.{slotB, openB}
-use Rattle.rules.specs.Rules.{Group, Request, send, place, read, shutdown, close, abort, openSlot, freeSlot, linkChange, linkMessage, sample, Call, on, hear, manage, Says, refusal, accepted, sent, wasRead, torn, reset, heard, sampled, Answer, answer, next, sizesOk, recordOf, elementIn, linkOf, holderOf, Fresh}
+use Rattle.rules.specs.Rules.{Group, Request, send, urgent, place, read, shutdown, close, abort, openSlot, freeSlot, linkChange, linkMessage, sample, Call, on, hear, manage, Says, refusal, accepted, sent, wasRead, torn, reset, heard, sampled, Answer, answer, next, sizesOk, recordOf, elementIn, linkOf, holderOf, Fresh}
 use Rattle.order.specs.Statement.{leaves, At}
 
 -- whatever calls are made of a fresh group, this holds of the group that they leave
@@ -72,6 +72,7 @@ acceptedB (sampled q) = false
 
 abbrev pub placedBy : Request → List ℕ → List ℕ
 placedBy (send b) e = e
+placedBy (urgent b) e = e
 placedBy (place at b) e = splice e at b
 placedBy (read out) e = e
 placedBy shutdown e = e
@@ -190,7 +191,8 @@ abbrev pub NobodyElses : Type 0
 NobodyElses = Always OwnTouched × OwnSeen
 
 -- THE ONE-BYTE SENTENCE. Given the right S, N and memory, an open, coherent connection that may send, with data offered, free room at
--- the peer and an active link, writes at least one byte. It holds of any group, however it came about.
+-- the peer and an active link, writes at least one byte, except while an urgent place of its own stands (request 2026-04). It holds of any
+-- group, however it came about.
 abbrev pub totalOf : List Placing → ℕ
 totalOf [] = 0
 totalOf (p ∷ l) = p .len + totalOf l
@@ -214,16 +216,21 @@ pub record Writes (c : Record) (offered : ℕ) (a : Answer) : Type 0 where
 abbrev pub OneByte : Type 0
 OneByte =
     (h : Group) (k : ℕ) (b : List ℕ) → sizesOk h ≡ true → OpenAt h k → coherentB (h .N) (recordOf h k) ≡ true
-    → sendForbids (recordOf h k .marks) ≡ false → 0 < length b
+    → sendForbids (recordOf h k .marks) ≡ false → recordOf h k .outbound .urgent .standing ≡ false → 0 < length b
     → 0 < roomOf (recordOf h k .remote .size) (recordOf h k .outbound .consumer) (recordOf h k .outbound .producer)
     → linkOf h k ≡ true
     → Writes (recordOf h k) (length b) (answer h (on k (send b)))
+
+-- the sends: plain, and urgent
+pub data Sends : Request → Type 0 where
+  plainly : (b : List ℕ) → Sends (send b)
+  urgently : (b : List ℕ) → Sends (urgent b)
 
 -- NO ADDRESS PASSES THE TOP. Each placing of a send that is not refused, on any group, has the key of the connection's own link and lies
 -- whole between the start of the peer's data and the element's end, below 2^64: the plain sum of the rules is an address of 64 bits.
 abbrev pub PlacingsWithin : Type 0
 PlacingsWithin =
-    (g : Group) (k n : ℕ) (b : List ℕ) (l : List Placing) → answer g (on k (send b)) .says ≡ sent n l → AllWithin (recordOf g k) 0 l
+    (g : Group) (k n : ℕ) (q : Request) (l : List Placing) → Sends q → answer g (on k q) .says ≡ sent n l → AllWithin (recordOf g k) 0 l
 
 -- ITS TWIN FOR READ. Given the right S, N and memory, an open, coherent connection that may read, its element intact and its link active,
 -- reads the smaller of what is unread and the room in out: those bytes, from C on, are what it leaves in front of out.

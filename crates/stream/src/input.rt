@@ -185,13 +185,12 @@ fn digits(buf: &mut [u8; 65536], c: Scan) -> Figures
     }
 }
 
-// A space and a decimal number up to `most`; 0 where the line does not parse.
-pub fn long_number(buf: &mut [u8; 65536], c: Scan, most: u64) -> LongDecimal
+// A decimal number up to `most`; 0 where the line does not parse.
+pub fn bare_number(buf: &mut [u8; 65536], c: Scan, most: u64) -> LongDecimal
     ensures { λ r. ⌜ (r .scan .left ≤ c .left) × (r .value ≤ most) ⌝ }
 {
-    let start = taken(buf, c, b' ');
-    let some = is_digit(start.byte);
-    let d = digits(buf, start);
+    let some = is_digit(c.byte);
+    let d = digits(buf, c);
     let scan = d.scan;
     let sum = d.sum;
     if some & !sum.past {
@@ -207,6 +206,14 @@ pub fn long_number(buf: &mut [u8; 65536], c: Scan, most: u64) -> LongDecimal
         scan: bad,
         value: 0,
     }
+}
+
+// A space and such a number.
+pub fn long_number(buf: &mut [u8; 65536], c: Scan, most: u64) -> LongDecimal
+    ensures { λ r. ⌜ (r .scan .left ≤ c .left) × (r .value ≤ most) ⌝ }
+{
+    let start = taken(buf, c, b' ');
+    bare_number(buf, start, most)
 }
 
 // The same, of 32 bits.

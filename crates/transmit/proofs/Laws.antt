@@ -2,13 +2,13 @@
 -- far Q moves.
 -- Assumes nothing.
 use mathlib.Core.Path.{_≡_, refl, sym, ap, _∙_, subst}
-use mathlib.Core.Bool.{Bool, true, false, cond}
+use mathlib.Core.Bool.{Bool, true, false, false≢true, _||_, cond}
 use Prim.Native.Nat.{ℕ, _+_, _-_, _*_, _≤_, _<_}
 use native.Mathlib.Nat.{one-mul, add-mul, sub-add-cancel}
 use native.Mathlib.Omega.{arith}
-use lib.Dec.{eqb}
+use lib.Dec.{ltb, eqb}
 use borrow.Author.Needs.{needs}
-use borrow.Author.Tests.{eqb-true, ne-eqb, lt-ltb}
+use borrow.Author.Tests.{eqb-true, eqb-false, ltb-true, ltb-false, ne-eqb, lt-ltb, le-ltb}
 use Rattle.cursor.specs.Cursor.{inRange, goodB, gapOf, stepOf}
 use Rattle.cursor.proofs.Laws.{range-is, good-most, step-range, step-gap}
 use Rattle.flow.specs.declared.Stretch.{Stretch}
@@ -16,6 +16,7 @@ use Rattle.flow.specs.declared.Stretches.{Stretches}
 use Rattle.flow.specs.declared.Stretches.the-variants as Parts
 use Rattle.flow.specs.Flow.{roomOf, takenOf, stretchesOf, stretchesTotal, Placed, allPlaced}
 use Rattle.flow.proofs.Laws.{taken-most, taken-len, taken-some, room-most, room-rest, stretches-total, stretches-placed}
+use Rattle.cdc.specs.declared.Message.{Message}
 use Rattle.connection.specs.declared.RToken.{RToken}
 use Rattle.connection.specs.declared.Placing.{Placing}
 use Rattle.connection.specs.declared.Placings.{Placings}
@@ -24,16 +25,25 @@ use Rattle.connection.specs.declared.Record.{Record}
 use Rattle.connection.specs.declared.Reply.{Reply}
 use Rattle.connection.specs.declared.Reply.the-variants.{Sent}
 use Rattle.connection.specs.declared.Outcome.{Outcome}
-use Rattle.connection.specs.Connection.{mostAddress, fitsB, remoteOk, coherentB, refusalOf, refusedOf, outcomeOf}
-use Rattle.connection.proofs.Laws.{fits-facts, remote-facts, Coherent, coherent-facts, coherent-from, refusal-none, refusal-0, refused-reply, refused-after, outcome-reply, outcome-made, outcome-id, outcome-remote, outcome-q, outcome-r, outcome-coherent}
-use Rattle.transmit.specs.Transmit.{sendForbids, nOf, rtokenOf, elementStart, placingOf, placingsOf, placingsTotal, Within, allWithin, producedOut, producedOf, tellsOf, sentOf, sendOf}
+use Rattle.connection.specs.Connection.{mostAddress, fitsB, remoteOk, coherentB, refusalOf, refusedOf, messageOf, pendingOf, outcomeOf, urgentOutcome}
+use Rattle.connection.proofs.Laws.{fits-facts, remote-facts, Coherent, coherent-facts, coherent-from, place-new, place-further, told-coherent, urgent-reply, urgent-after, refusal-none, refusal-0, refused-reply, refused-after, outcome-reply, outcome-made, outcome-id, outcome-remote, outcome-q, outcome-r, outcome-coherent}
+use Rattle.transmit.specs.Transmit.{sendForbids, nOf, rtokenOf, elementStart, placingOf, placingsOf, placingsTotal, Within, allWithin, producedOut, producedOf, tellsOf, sentReply, sentOf, urgedOut, urgedOf, urgentOf, waitsB, nothingSent, sendOf, urgentSendOf}
 
-pub sent-parts : (rec : Record) (len room n : ℕ) (s : Stretches) (p : Placings) (next : Record) (o : Outcome)
-    → room ≡ roomOf (rec .remote .size) (rec .outbound .consumer) (rec .outbound .producer) → n ≡ takenOf room len
-    → s ≡ stretchesOf (rec .remote .size) (rec .outbound .producer) n → p ≡ placingsOf rec s → next ≡ producedOf rec n len
-    → o ≡ outcomeOf (Sent n p) (tellsOf rec n len) next → o ≡ sentOf rec len
-unfolding sentOf nOf
-sent-parts rec len room n s p next o hr hn hs hp hx ho = simp (ho, hx, hp, hs, hn, hr)
+-- an accepted send, of the code's parts: n, the answer, the record with Q moved, whether it tells
+module _ (rec : Record) (len n : ℕ) (reply : Reply) (next : Record) (o : Outcome) (hn : n ≡ nOf rec len) (hr : reply ≡ sentReply rec n)
+    (hx : next ≡ producedOf rec n len) where
+  pub sent-parts : (tells : Bool) → tells ≡ tellsOf rec n len → o ≡ outcomeOf reply tells next → o ≡ sentOf rec len
+  unfolding sentOf
+  sent-parts tells ht ho = simp (ho, ht, hx, hr, hn)
+
+  pub short-parts : (m p : Message) → n < len → m ≡ messageOf next → p ≡ pendingOf m → o ≡ urgentOutcome reply p next → o ≡ urgentOf rec len
+  unfolding urgentOf
+  short-parts m p l hm hp ho = simp (ho, hp, hm, hx, hr, ← hn, lt-ltb n len l)
+
+  pub whole-parts : (urged : Record) (m : Message) → len ≤ n → urged ≡ urgedOf next → m ≡ messageOf urged → o ≡ urgentOutcome reply m urged
+      → o ≡ urgentOf rec len
+  unfolding urgentOf
+  whole-parts urged m l hu hm ho = simp (ho, hm, hu, hx, hr, ← hn, le-ltb n len l)
 
 -- element k ends where k elements do
 element-end : (n k : ℕ) → 1 ≤ k → (k - 1) * n + n ≡ k * n
@@ -130,9 +140,21 @@ roomIn rec = roomOf (rec .remote .size) (rec .outbound .consumer) (rec .outbound
 abbrev stretchesIn : Record → ℕ → Stretches
 stretchesIn rec n = stretchesOf (rec .remote .size) (rec .outbound .producer) n
 
+-- an urgent send: the record that one taken whole tells, and its outcome; the outcome of one cut short
+abbrev pub wholeRecord : Record → ℕ → Record
+wholeRecord rec len = urgedOf (producedOf rec (nOf rec len) len)
+
+abbrev pub wholeOf : Record → ℕ → Outcome
+wholeOf rec len = urgentOutcome (sentReply rec (nOf rec len)) (messageOf (wholeRecord rec len)) (wholeRecord rec len)
+
+abbrev pub shortOf : Record → ℕ → Outcome
+shortOf rec len =
+    let next = producedOf rec (nOf rec len) len in
+    urgentOutcome (sentReply rec (nOf rec len)) (pendingOf (messageOf next)) next
+
 -- n is at most the room and at most the length, and above 0 where both are
 module _ (rec : Record) (len : ℕ) where
-  n-room : nOf rec len ≤ roomIn rec
+  pub n-room : nOf rec len ≤ roomIn rec
   unfolding nOf
   n-room = taken-most (roomIn rec) len
 
@@ -161,13 +183,13 @@ module _ (rec : Record) (len : ℕ) where
   n-some r l = taken-some (roomIn rec) len r l
 
 -- the same, of what the code has taken
-pub taken-placed : (rec : Record) (len room n : ℕ) (s : Stretches) → remoteOk (rec .remote) ≡ true
-    → inRange (rec .remote .size) (rec .outbound .producer) ≡ true → room ≡ roomIn rec → n ≡ takenOf room len → s ≡ stretchesIn rec n
+pub taken-placed : (rec : Record) (len n : ℕ) → remoteOk (rec .remote) ≡ true → inRange (rec .remote .size) (rec .outbound .producer) ≡ true
+    → n ≡ nOf rec len → allPlaced (rec .remote .size) (stretchesIn rec n)
+taken-placed rec len n e r hn = rw hn (n-placed rec len e r)
+
+pub code-placed : (rec : Record) (n : ℕ) (s : Stretches) → s ≡ stretchesIn rec n → allPlaced (rec .remote .size) (stretchesIn rec n)
     → allPlaced (rec .remote .size) s
-unfolding nOf
-taken-placed rec len room n s e r hr hn hs =
-    let k : n ≡ nOf rec len = simp (hn, hr) in
-    rw (hs, k) (n-placed rec len e r)
+code-placed rec n s e h = rw e h
 
 -- what an unrefused send may suppose of its record
 pub sent-may : (n : ℕ) (active : Bool) (rec : Record) (forbids : Bool) → refusalOf n active rec forbids ≡ 0
@@ -193,23 +215,61 @@ module _ (n : ℕ) (rec : Record) (k len : ℕ) (f : Coherent n rec) (h : k ≤ 
   produced-facts =
       let g = produced-gap in
       let q = step-range (rec .remote .size) (rec .outbound .producer) k (f .q-range) in
+      let o = rec .outbound in
+      let stands = place-further (rec .remote .size) (o .consumer) (o .producer) (stepOf (rec .remote .size) (o .producer) k) (o .urgent) (f .own-place) (omega (arith, g .1)) in
       search needs
 
--- the tests of send, walked once: what holds of each outcome that they lead to holds of send's
+  -- and that is the urgent place, where k is above 0
+  urged-facts : 0 < k → Coherent n (urgedOf (producedOf rec k len))
+  unfolding urgedOf urgedOut producedOf producedOut
+  urged-facts some =
+      let p = produced-facts in
+      let g = produced-gap in
+      let q = stepOf (rec .remote .size) (rec .outbound .producer) k in
+      let r = step-range (rec .remote .size) (rec .outbound .producer) k (f .q-range) in
+      let stands =
+      place-new (rec .remote .size) (rec .outbound .consumer) q q
+      (record { range = r; good = g .0; least = omega (arith, g .1); most = omega arith })
+      in
+      search needs
+
+-- the tests of both sends, walked once: what holds of each outcome that they lead to holds of theirs
 module _ (n : ℕ) (active : Bool) (rec : Record) (len : ℕ) (P : Outcome → Type 0) where
   pick : (b : Bool) (x y : Outcome) → (b ≡ true → P x) → (b ≡ false → P y) → P (cond b x y)
   pick true x y f g = f refl
   pick false x y f g = g refl
 
-  pub send-cases : ((k : ℕ) → P (refusedOf k rec)) → (len ≡ 0 → P (outcomeOf (Sent 0 Nowhere) false rec))
-      → (coherentB n rec ≡ true → P (sentOf rec len)) → P (sendOf n active rec len)
-  unfolding sendOf
-  send-cases refused none sent =
+  offered : (x : Outcome) → ((k : ℕ) → P (refusedOf k rec)) → P (nothingSent rec) → (coherentB n rec ≡ true → waitsB rec len ≡ false → P x)
+      → let no = refusalOf n active rec (sendForbids (rec .marks)) in
+      P (cond (eqb no 0) (cond (waitsB rec len) (nothingSent rec) x) (refusedOf no rec))
+  offered x refused none sent =
       let no = refusalOf n active rec (sendForbids (rec .marks)) in
       pick (eqb no 0) _ _
-      (λ e. pick (eqb len 0) _ _ (λ z. none (eqb-true len 0 z))
-      (λ z. sent (refusal-none n active rec (sendForbids (rec .marks)) (eqb-true no 0 e) .0)))
+      (λ e. pick (waitsB rec len) _ _ (λ z. none)
+      (sent (refusal-none n active rec (sendForbids (rec .marks)) (eqb-true no 0 e) .0)))
       (λ e. refused no)
+
+  pub send-cases : ((k : ℕ) → P (refusedOf k rec)) → P (nothingSent rec)
+      → (coherentB n rec ≡ true → waitsB rec len ≡ false → P (sentOf rec len)) → P (sendOf n active rec len)
+  unfolding sendOf
+  send-cases refused none sent = offered (sentOf rec len) refused none sent
+
+  -- an urgent send is cut short, or taken whole
+  pub urgent-cases : ((k : ℕ) → P (refusedOf k rec)) → P (nothingSent rec)
+      → (coherentB n rec ≡ true → nOf rec len < len → P (shortOf rec len))
+      → (coherentB n rec ≡ true → 0 < len → nOf rec len ≡ len → P (wholeOf rec len)) → P (urgentSendOf n active rec len)
+  unfolding urgentSendOf urgentOf waitsB
+  urgent-cases refused none short whole =
+      offered (urgentOf rec len) refused none
+      (λ e w. pick (ltb (nOf rec len) len) _ _ (λ s. short e (ltb-true (nOf rec len) len s)) (λ s. whole e (offers w) (omega (arith, n-len rec len, ltb-false (nOf rec len) len s))))
+    where
+      offers : rec .outbound .urgent .standing || eqb len 0 ≡ false → 0 < len
+      offers w = go (rec .outbound .urgent .standing) (eqb len 0) refl w
+        where
+          go : (s z : Bool) → eqb len 0 ≡ z → s || z ≡ false → 0 < len
+          go true z q h = absurd (false≢true (sym h))
+          go false true q h = absurd (false≢true (sym h))
+          go false false q h = omega (arith, eqb-false len 0 q)
 
 -- making a message keeps the distance R to Q
 outcome-gap : (reply : Reply) (tells : Bool) (rec : Record) → gapRQ (outcomeOf reply tells rec .after) ≡ gapRQ rec
@@ -252,33 +312,52 @@ pub send-coherent : (n : ℕ) (active : Bool) (rec : Record) (len : ℕ) → coh
 send-coherent n active rec len e =
     send-cases n active rec len (λ o. coherentB n (o .after) ≡ true)
     (λ k. rw (refused-after k rec) e)
-    (λ z. outcome-coherent n rec (Sent 0 Nowhere) false e)
-    (sent-coherent rec len n)
+    (outcome-coherent n rec (Sent 0 Nowhere) false e)
+    (λ k w. sent-coherent rec len n k)
+
+-- and so does an urgent send
+pub urgent-coherent : (n : ℕ) (active : Bool) (rec : Record) (len : ℕ) → coherentB n rec ≡ true
+    → coherentB n (urgentSendOf n active rec len .after) ≡ true
+urgent-coherent n active rec len e =
+    urgent-cases n active rec len (λ o. coherentB n (o .after) ≡ true)
+    (λ k. rw (refused-after k rec) e)
+    (outcome-coherent n rec (Sent 0 Nowhere) false e)
+    (λ k l. told _ _ next (produced-facts n rec (nOf rec len) len f (n-room rec len)))
+    (λ k some all. told _ _ (urgedOf next) (urged-facts n rec (nOf rec len) len f (n-room rec len) (omega arith)))
+  where
+    f : Coherent n rec
+    f = coherent-facts n rec e
+
+    next : Record
+    next = producedOf rec (nOf rec len) len
+
+    told : (r : Reply) (m : Message) (d : Record) → Coherent n d → coherentB n (urgentOutcome r m d .after) ≡ true
+    told r m d g = rw (urgent-after r m d) (told-coherent n d (coherent-from n d g))
 
 -- and keeps its identity
 pub send-keeps-id : (n : ℕ) (active : Bool) (rec : Record) (len : ℕ) → sendOf n active rec len .after .id ≡ rec .id
 send-keeps-id n active rec len =
     send-cases n active rec len (λ o. o .after .id ≡ rec .id)
     (λ k. ap (λ (w : Record). w .id) (refused-after k rec))
-    (λ z. outcome-id (Sent 0 Nowhere) false rec)
-    (λ e. sent-id rec len)
+    (outcome-id (Sent 0 Nowhere) false rec)
+    (λ e w. sent-id rec len)
 
 -- where bytes are taken a message is made
-tells-some : (rec : Record) (k len : ℕ) → 0 < k → tellsOf rec k len ≡ true
+pub tells-some : (rec : Record) (k len : ℕ) → 0 < k → tellsOf rec k len ≡ true
 unfolding tellsOf
 tells-some rec k len h = simp (lt-ltb 0 k h)
 
 -- nothing forbids it and bytes are offered
 pub send-accepts : (n : ℕ) (active : Bool) (rec : Record) (len : ℕ) → coherentB n rec ≡ true → active ≡ true
-    → sendForbids (rec .marks) ≡ false → 0 < len → sendOf n active rec len ≡ sentOf rec len
-unfolding sendOf
-send-accepts n active rec len e up may some =
-    simp (refusal-0 n active rec (sendForbids (rec .marks)) e up may, ne-eqb len 0 (λ z. omega arith))
+    → sendForbids (rec .marks) ≡ false → rec .outbound .urgent .standing ≡ false → 0 < len → sendOf n active rec len ≡ sentOf rec len
+unfolding sendOf waitsB
+send-accepts n active rec len e up may free some =
+    simp (refusal-0 n active rec (sendForbids (rec .marks)) e up may, free, ne-eqb len 0 (λ z. omega arith))
 
--- The one-byte sentence: a coherent record that may send, with bytes offered, room at the peer and an active link, takes a byte or
--- more, names a place in the peer's data for each, and tells the peer
+-- The one-byte sentence: a coherent record that may send, with no urgent place of its own, bytes offered, room at the peer and an active
+-- link, takes a byte or more, names a place in the peer's data for each, and tells the peer
 pub writes-a-byte : (n : ℕ) (active : Bool) (rec : Record) (len : ℕ) → coherentB n rec ≡ true → active ≡ true
-    → sendForbids (rec .marks) ≡ false → 0 < roomIn rec → 0 < len
+    → sendForbids (rec .marks) ≡ false → rec .outbound .urgent .standing ≡ false → 0 < roomIn rec → 0 < len
     → (k : ℕ)
     × (p : Placings)
     × (0 < k)
@@ -286,9 +365,9 @@ pub writes-a-byte : (n : ℕ) (active : Bool) (rec : Record) (len : ℕ) → coh
     × (sendOf n active rec len .made ≡ true)
     × (placingsTotal p ≡ k)
     × allWithin rec p
-writes-a-byte n active rec len e up may room some =
+writes-a-byte n active rec len e up may free room some =
     let t = nOf rec len in
-    let a = send-accepts n active rec len e up may some in
+    let a = send-accepts n active rec len e up may free some in
     let h = n-some rec len room some in
     let made = outcome-made (answer rec len) (tellsOf rec t len) (producedOf rec t len) ∙ tells-some rec t len h in (
       t,
@@ -316,8 +395,8 @@ module _ (n : ℕ) (active : Bool) (rec : Record) (len k : ℕ) (p : Placings) (
   pub send-takes : (k ≤ roomIn rec) × (k ≤ len) × (placingsTotal p ≡ k)
   send-takes =
       send-cases n active rec len (λ o. o .reply ≡ Sent k p → (k ≤ roomIn rec) × (k ≤ len) × (placingsTotal p ≡ k)) not-refused
-      (λ z r. let a = none-is r in (omega arith, omega arith, rw (← (a .1)) (a .0)))
-      (λ g r.
+      (λ r. let a = none-is r in (omega arith, omega arith, rw (← (a .1)) (a .0)))
+      (λ g w r.
       let a = some-is r in
       let total =
       placings-total rec (stretchesIn rec (nOf rec len))
@@ -328,13 +407,29 @@ module _ (n : ℕ) (active : Bool) (rec : Record) (len k : ℕ) (p : Placings) (
 
   pub send-within : allWithin rec p
   send-within =
-      send-cases n active rec len (λ o. o .reply ≡ Sent k p → allWithin rec p) not-refused (λ z r. rw (← (none-is r .1)) tt)
-      (λ g r. rw (← (some-is r .1)) (n-within rec len n g))
+      send-cases n active rec len (λ o. o .reply ≡ Sent k p → allWithin rec p) not-refused (λ r. rw (← (none-is r .1)) tt)
+      (λ g w r. rw (← (some-is r .1)) (n-within rec len n g))
       e
 
   pub send-moves : gapRQ (sendOf n active rec len .after) ≡ gapRQ rec + k
   send-moves =
       send-cases n active rec len (λ o. o .reply ≡ Sent k p → gapRQ (o .after) ≡ gapRQ rec + k) (λ j r. not-refused j r)
-      (λ z r. let a = none-is r in omega (arith, outcome-gap (Sent 0 Nowhere) false rec))
-      (λ g r. rw (← (some-is r .0)) (sent-gap rec len n (coherent-facts n rec g)))
+      (λ r. let a = none-is r in omega (arith, outcome-gap (Sent 0 Nowhere) false rec))
+      (λ g w r. rw (← (some-is r .0)) (sent-gap rec len n (coherent-facts n rec g)))
       e
+
+-- the placings of an urgent send lie there too
+pub urgent-within : (n : ℕ) (active : Bool) (rec : Record) (len k : ℕ) (p : Placings) → urgentSendOf n active rec len .reply ≡ Sent k p
+    → allWithin rec p
+urgent-within n active rec len k p =
+    urgent-cases n active rec len (λ o. o .reply ≡ Sent k p → allWithin rec p)
+    (λ j r. let bad : _≡_ {A = ℕ} 0 1 = cc (refused-reply j rec) in absurd (omega arith))
+    (λ r.
+    let s : Sent 0 Nowhere ≡ Sent k p = sym (outcome-reply (Sent 0 Nowhere) false rec) ∙ r in
+    let z : Nowhere ≡ p = cc in
+    rw (← z) tt)
+    (λ g l r. named g (sym (urgent-reply _ _ _) ∙ r))
+    (λ g some all r. named g (sym (urgent-reply _ _ _) ∙ r))
+  where
+    named : coherentB n rec ≡ true → sentReply rec (nOf rec len) ≡ Sent k p → allWithin rec p
+    named g s = let z : placingsOf rec (stretchesIn rec (nOf rec len)) ≡ p = cc in rw (← z) (n-within rec len n g)

@@ -1,4 +1,4 @@
--- Document 01, "Calls of a connection": Send; its placings by document 02, 2026-09.
+-- Document 01, "Calls of a connection": Send; its placings by document 02, 2026-09, and the urgent send by 2026-04.
 -- Assumes nothing.
 use Prim.Native.Nat.{ℕ, _+_, _≤_, _<_}
 use mathlib.Core.Path.{_≡_}
@@ -16,9 +16,10 @@ use Rattle.connection.specs.declared.Placings.{Placings}
 use Rattle.connection.specs.declared.Placings.the-variants.{Nowhere, One, Two}
 use Rattle.connection.specs.declared.Outbound.{Outbound}
 use Rattle.connection.specs.declared.Record.{Record}
+use Rattle.connection.specs.declared.Reply.{Reply}
 use Rattle.connection.specs.declared.Reply.the-variants.{Sent}
 use Rattle.connection.specs.declared.Outcome.{Outcome}
-use Rattle.connection.specs.Connection.{mostAddress, firstByte, qTo, blockedTo, outboundTo, refusalOf, refusedOf, outcomeOf}
+use Rattle.connection.specs.Connection.{mostAddress, firstByte, placeAt, qTo, blockedTo, urgentOutTo, outboundTo, refusalOf, refusedOf, messageOf, pendingOf, outcomeOf, urgentOutcome}
 
 -- 7: send after D, C or A sent or C heard
 unfoldable pub sendForbids : Marks → Bool
@@ -66,19 +67,48 @@ unfoldable pub tellsOf : Record → ℕ → ℕ → Bool
 tellsOf rec n len = ltb 0 n || (ltb n len && not (rec .outbound .blocked))
 
 -- the answer names n and at most two placings
+abbrev pub sentReply : Record → ℕ → Reply
+sentReply rec n = Sent n (placingsOf rec (stretchesOf (rec .remote .size) (rec .outbound .producer) n))
+
 unfoldable pub sentOf : Record → ℕ → Outcome
 sentOf rec len =
-    let q = rec .outbound .producer in
     let n = nOf rec len in
-    outcomeOf (Sent n (placingsOf rec (stretchesOf (rec .remote .size) q n))) (tellsOf rec n len) (producedOf rec n len)
+    outcomeOf (sentReply rec n) (tellsOf rec n len) (producedOf rec n len)
 
--- nothing offered: n is 0, no message, no change
+-- An urgent send that is taken whole is a send, and Q is the urgent place before its message is made
+unfoldable pub urgedOut : Outbound → Outbound
+urgedOut o = urgentOutTo o (placeAt (o .producer))
+
+unfoldable pub urgedOf : Record → Record
+urgedOf rec = outboundTo rec (urgedOut (rec .outbound))
+
+-- one cut short is a send, but always makes a message, with P and no U
+unfoldable pub urgentOf : Record → ℕ → Outcome
+urgentOf rec len =
+    let n = nOf rec len in
+    let next = producedOf rec n len in
+    let urged = urgedOf next in
+    cond (ltb n len)
+    (urgentOutcome (sentReply rec n) (pendingOf (messageOf next)) next)
+    (urgentOutcome (sentReply rec n) (messageOf urged) urged)
+
+-- while an urgent place of our own stands, and where nothing is offered: n is 0, no message, no change
+unfoldable pub waitsB : Record → ℕ → Bool
+waitsB rec len = rec .outbound .urgent .standing || eqb len 0
+
+abbrev pub nothingSent : Record → Outcome
+nothingSent rec = outcomeOf (Sent 0 Nowhere) false rec
+
 unfoldable pub sendOf : ℕ → Bool → Record → ℕ → Outcome
 sendOf N active rec len =
     let no = refusalOf N active rec (sendForbids (rec .marks)) in
-    cond (eqb no 0)
-    (cond (eqb len 0) (outcomeOf (Sent 0 Nowhere) false rec) (sentOf rec len))
-    (refusedOf no rec)
+    cond (eqb no 0) (cond (waitsB rec len) (nothingSent rec) (sentOf rec len)) (refusedOf no rec)
+
+-- the refusals are send's
+unfoldable pub urgentSendOf : ℕ → Bool → Record → ℕ → Outcome
+urgentSendOf N active rec len =
+    let no = refusalOf N active rec (sendForbids (rec .marks)) in
+    cond (eqb no 0) (cond (waitsB rec len) (nothingSent rec) (urgentOf rec len)) (refusedOf no rec)
 
 -- What is claimed of placings, and no contract cites. How many bytes they name in all
 abbrev pub placingsTotal : Placings → ℕ

@@ -1,11 +1,12 @@
-// Send, as a step of one record (document 01, "Calls of a connection").
+// Send and urgent send, as steps of one record (document 01, "Calls of a connection"; document 02, 2026-04).
 ghost use mathlib.Core.Path.{_≡_};
 ghost use mathlib.Core.Bool.{true};
 ghost use Prim.Native.Nat.{_+_, _≤_, _<_};
 ghost use Rattle.cursor.specs.Cursor.{inRange};
-ghost use Rattle.flow.specs.Flow.{allPlaced};
+ghost use Rattle.flow.specs.Flow.{stretchesOf, allPlaced};
 ghost use Rattle.connection.specs.Connection.{remoteOk};
-ghost use Rattle.transmit.specs.Transmit.{sendForbids, rtokenOf, placingOf, placingsOf, producedOut, producedOf, tellsOf, sentOf, sendOf};
+ghost use Rattle.transmit.specs.Transmit.{sendForbids, rtokenOf, placingOf, placingsOf, nOf, sentReply, producedOut, producedOf};
+ghost use Rattle.transmit.specs.Transmit.{tellsOf, sentOf, urgedOut, urgedOf, urgentOf, waitsB, nothingSent, sendOf, urgentSendOf};
 use closing::Marks;
 use connection::Outbound;
 use connection::Outcome;
@@ -14,6 +15,7 @@ use connection::Placings;
 use connection::RToken;
 use connection::Record;
 use connection::Reply;
+use connection::Urgent;
 use flow::Stretch;
 use flow::Stretches;
 
@@ -93,21 +95,99 @@ fn produced(rec: Record, k: u32, len: usize) -> Record
     next
 }
 
+// How many of len bytes are taken.
+fn taken(rec: Record, len: usize) -> u32
+    ensures { λ r. ⌜ r ≡ nOf rec len ⌝ }
+{
+    let o = rec.outbound;
+    let q = o.producer;
+    let r = o.consumer;
+    let size = rec.remote.size;
+    let room = flow::room(size, r, q);
+    flow::taken(room, len)
+}
+
+// What the answer names.
+fn sent_reply(rec: Record, k: u32) -> Reply
+    requires { ⌜ (remoteOk (rec .remote) ≡ true) × allPlaced (rec .remote .size) (stretchesOf (rec .remote .size) (rec .outbound .producer) k) ⌝ }
+    ensures { λ r. ⌜ r ≡ sentReply rec k ⌝ }
+{
+    let q = rec.outbound.producer;
+    let size = rec.remote.size;
+    let placings = placings_of(rec, flow::stretches_of(size, q, k));
+    Reply::Sent(k, placings)
+}
+
+// Whether a message is made.
+fn tells(rec: Record, k: u32, len: usize) -> bool
+    ensures { λ r. ⌜ r ≡ tellsOf rec k len ⌝ }
+{
+    (0 < k) | (((k as usize) < len) & !rec.outbound.blocked)
+}
+
 // Bytes are offered.
 fn sent(rec: Record, len: usize) -> Outcome
     requires { ⌜ (remoteOk (rec .remote) ≡ true) × (inRange (rec .remote .size) (rec .outbound .producer) ≡ true) ⌝ }
     ensures { λ r. ⌜ r ≡ sentOf rec len ⌝ }
 {
-    let size = rec.remote.size;
-    let o = rec.outbound;
-    let q = o.producer;
-    let r = o.consumer;
-    let room = flow::room(size, r, q);
-    let k = flow::taken(room, len);
-    let placings = placings_of(rec, flow::stretches_of(size, q, k));
-    let tells = (0 < k) | (((k as usize) < len) & !o.blocked);
+    let k = taken(rec, len);
+    let reply = sent_reply(rec, k);
     let next = produced(rec, k, len);
-    connection::outcome_of(Reply::Sent(k, placings), tells, next)
+    connection::outcome_of(reply, tells(rec, k, len), next)
+}
+
+fn urged_out(o: Outbound) -> Outbound
+    ensures { λ r. ⌜ r ≡ urgedOut o ⌝ }
+{
+    let q = o.producer;
+    let here = Urgent {
+        standing: true,
+        place: q,
+    };
+    let mut next = o;
+    next.urgent = here;
+    next
+}
+
+// The record with Q for its urgent place.
+fn urged(rec: Record) -> Record
+    ensures { λ r. ⌜ r ≡ urgedOf rec ⌝ }
+{
+    let o = urged_out(rec.outbound);
+    let mut next = rec;
+    next.outbound = o;
+    next
+}
+
+// Urgent bytes are offered: they are cut short, or taken whole.
+fn urgent(rec: Record, len: usize) -> Outcome
+    requires { ⌜ (remoteOk (rec .remote) ≡ true) × (inRange (rec .remote .size) (rec .outbound .producer) ≡ true) ⌝ }
+    ensures { λ r. ⌜ r ≡ urgentOf rec len ⌝ }
+{
+    let k = taken(rec, len);
+    let answer = sent_reply(rec, k);
+    let next = produced(rec, k, len);
+    if (k as usize) < len {
+        let m = connection::pending(connection::message_of(next));
+        connection::urgent_outcome(answer, m, next)
+    } else {
+        let whole = urged(next);
+        let m = connection::message_of(whole);
+        connection::urgent_outcome(answer, m, whole)
+    }
+}
+
+// Whether nothing is sent: an urgent place of our own stands, or nothing is offered.
+fn waits(rec: Record, len: usize) -> bool
+    ensures { λ r. ⌜ r ≡ waitsB rec len ⌝ }
+{
+    rec.outbound.urgent.standing | (len == 0)
+}
+
+fn nothing_sent(rec: Record) -> Outcome
+    ensures { λ r. ⌜ r ≡ nothingSent rec ⌝ }
+{
+    connection::outcome_of(Reply::Sent(0, Placings::Nowhere), false, rec)
 }
 
 // Send of `len` bytes, in a group whose elements have n bytes, on a link that is active or not.
@@ -118,8 +198,22 @@ pub fn send(n: u32, active: bool, rec: Record, len: usize) -> Outcome
     if no != 0 {
         return connection::refused(no, rec);
     }
-    if len == 0 {
-        return connection::outcome_of(Reply::Sent(0, Placings::Nowhere), false, rec);
+    if waits(rec, len) {
+        return nothing_sent(rec);
     }
     sent(rec, len)
+}
+
+// Urgent send of `len` bytes, likewise.
+pub fn urgent_send(n: u32, active: bool, rec: Record, len: usize) -> Outcome
+    ensures { λ r. ⌜ r ≡ urgentSendOf n active rec len ⌝ }
+{
+    let no = connection::refusal(n, active, rec, forbids(rec.marks));
+    if no != 0 {
+        return connection::refused(no, rec);
+    }
+    if waits(rec, len) {
+        return nothing_sent(rec);
+    }
+    urgent(rec, len)
 }

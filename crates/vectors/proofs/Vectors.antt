@@ -8,10 +8,10 @@ use Rattle.llc.specs.Llc.{classOf, namedOf, kindOf, testReplyOf, noReply, answe
 use Rattle.closing.specs.Closing.{closeStateOf, stateOf, doneSent, closedSent, abortSent, marksHeard}
 use Rattle.flow.specs.Flow.{roomOf, takenOf, firstOf, stretchesOf, windowOf, updateDue}
 use Rattle.element.specs.Element.{part, elementOf, splice, intactB, freshElement, allFree, ringFrom, unread}
-use Rattle.connection.specs.Connection.{zeroRecord, fitsB, remoteOk, numbersOk, offsetsOk, distancesOk, coherentB, refusalOf, messageOf, toldIn, usedIn, toldOf, outcomeOf, refusedOf, closedIf, marksTo}
-use Rattle.transmit.specs.Transmit.{sendForbids, nOf, rtokenOf, placingOf, producedOut, producedOf, tellsOf, sentOf, sendOf}
-use Rattle.receive.specs.Receive.{placeForbids, mayPlace, placeOf, readForbids, unreadOf, consumedIn, consumedOf, updateOf, tornOf, takeOf, readOf}
-use Rattle.hear.specs.Hear.{ruledOf, nextB, abortedOf, producerB, consumerB, heardIn, heardOut, heardRecord, answersB, acceptedOf, followedOf, hearOf}
+use Rattle.connection.specs.Connection.{zeroRecord, fitsB, remoteOk, numbersOk, offsetsOk, distancesOk, placeOk, placesOk, coherentB, reachedB, passedBy, refusalOf, messageOf, pendingOf, toldIn, usedIn, toldOf, outcomeOf, urgentOutcome, refusedOf, closedIf, marksTo}
+use Rattle.transmit.specs.Transmit.{sendForbids, nOf, rtokenOf, placingOf, producedOut, producedOf, tellsOf, sentOf, urgedOut, urgedOf, urgentOf, waitsB, sendOf, urgentSendOf}
+use Rattle.receive.specs.Receive.{placeForbids, mayPlace, placeOf, readForbids, unreadOf, consumedIn, clearedIn, consumedOf, updateOf, tornOf, takeOf, readOf}
+use Rattle.hear.specs.Hear.{ruledOf, nextB, abortedOf, producerB, consumerB, urgesB, urgentIn, heardIn, heardOut, heardRecord, answersB, acceptedOf, followedOf, hearOf}
 use Rattle.finish.specs.Finish.{resetOf, closingOf, shutdownForbids, shutdownOf, closeForbids, closeOf, abortOf}
 use Rattle.table.specs.Table.{sizesB, slotB, recordAt, openB, activeB, holdsB, lowest, findFrom, withRecord, withLink, gaugeAt, withGauge, linkSet}
 use Rattle.connection.specs.Connection.{openedRecord}
@@ -25,11 +25,11 @@ unfolding inRange sameB movedOf stepOf turnsOf distanceOf goodB gapOf
     closeStateOf stateOf doneSent closedSent abortSent marksHeard
     roomOf takenOf firstOf stretchesOf windowOf updateDue
     part elementOf splice intactB freshElement allFree ringFrom unread
-    zeroRecord fitsB remoteOk numbersOk offsetsOk distancesOk coherentB refusalOf
-    messageOf toldIn usedIn toldOf outcomeOf refusedOf closedIf marksTo
-    sendForbids nOf rtokenOf placingOf producedOut producedOf tellsOf sentOf sendOf
-    placeForbids mayPlace placeOf readForbids unreadOf consumedIn consumedOf updateOf tornOf takeOf readOf
-    abortedOf producerB consumerB heardIn heardOut heardRecord answersB acceptedOf followedOf ruledOf nextB hearOf
+    zeroRecord fitsB remoteOk numbersOk offsetsOk distancesOk placeOk placesOk coherentB reachedB passedBy refusalOf
+    messageOf pendingOf toldIn usedIn toldOf outcomeOf urgentOutcome refusedOf closedIf marksTo
+    sendForbids nOf rtokenOf placingOf producedOut producedOf tellsOf sentOf urgedOut urgedOf urgentOf waitsB sendOf urgentSendOf
+    placeForbids mayPlace placeOf readForbids unreadOf consumedIn clearedIn consumedOf updateOf tornOf takeOf readOf
+    abortedOf producerB consumerB urgesB urgentIn heardIn heardOut heardRecord answersB acceptedOf followedOf ruledOf nextB hearOf
     shutdownForbids shutdownOf closeForbids closeOf resetOf closingOf abortOf
     sizesB slotB recordAt openB activeB holdsB lowest findFrom withRecord withLink gaugeAt withGauge linkSet
     turnOf requestTurn hearTurn refuses putTurn onDoes hearAt hearDoes openedRecord openRefusal openDoes freeRefusal freeDoes linkDoes

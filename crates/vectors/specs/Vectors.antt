@@ -27,9 +27,9 @@ use Rattle.connection.specs.declared.Remote.{Remote}
 use Rattle.connection.specs.declared.Placing.{Placing}
 use Rattle.connection.specs.declared.Record.{Record}
 use Rattle.connection.specs.declared.Opening.{Opening}
-use Rattle.connection.specs.Connection.{zeroRecord, zeroToken, noMarks}
+use Rattle.connection.specs.Connection.{zeroRecord, zeroToken, noPlace, placeAt, noMarks}
 use Rattle.table.specs.Table.{gaugeAt}
-use Rattle.rules.specs.Rules.{Group, Request, send, place, read, shutdown, close, abort, openSlot, freeSlot, linkChange, linkMessage, sample, Call, on, hear, manage, Says, refusal, accepted, sent, wasRead, torn, reset, heard, sampled, Answer, answer, next, recordOf}
+use Rattle.rules.specs.Rules.{Group, Request, send, urgent, place, read, shutdown, close, abort, openSlot, freeSlot, linkChange, linkMessage, sample, Call, on, hear, manage, Says, refusal, accepted, sent, wasRead, torn, reset, heard, sampled, Answer, answer, next, recordOf}
 
 -- WHAT A ROW LAYS. An offset and a wrap number
 abbrev pub cur : ℕ → ℕ → Cursor
@@ -40,10 +40,10 @@ start = cur 4 0
 
 -- P, C and T; Q and R. Nothing else was heard, and no message was made
 abbrev pub inwards : Cursor → Cursor → Cursor → Inbound
-inwards p c t = record { producer = p; consumer = c; told = t; last = 0; blocked = false; request = false }
+inwards p c t = record { producer = p; consumer = c; told = t; last = 0; blocked = false; request = false; urgent = noPlace }
 
 abbrev pub outwards : Cursor → Cursor → Outbound
-outwards q r = record { producer = q; consumer = r; next = 1; blocked = false }
+outwards q r = record { producer = q; consumer = r; next = 1; blocked = false; urgent = noPlace }
 
 abbrev pub unmarked : Marks
 unmarked = record { sent = noMarks; heard = noMarks; first = false; abort = false }
@@ -227,27 +227,35 @@ aFull = 0xFE2C_0001_01020304_0000_0002_000003EC_0000_0000_00000004_8000
 abbrev pub bFull : ℕ
 bFull = 0xFE2C_0001_0A0B0C0D_0000_0000_00000004_0000_0002_000003EC_0000
 
--- a connection with every field different and D, C and B on; and one that hears such a message
+-- a connection with every field different, D, C and B on and an urgent place of its own; and one that hears such a message
 abbrev pub wide : Cursor
 wide = cur 0x0123 0x4567
 
 abbrev pub speaker : Record
 speaker =
     laid 0xA1A2A3A4 0x11223344 65540 (inwards wide wide wide)
-    (record { producer = cur 0xABCD 0x89EF; consumer = cur 0xABCD 0x89EF; next = 0x5566; blocked = true })
+    (record { producer = cur 0xABCD 0x89EF; consumer = cur 0xABCC 0x89EF; next = 0x5566; blocked = true; urgent = placeAt (cur 0xABCD 0x89EF) })
     (record { sent = record { done = true; closed = true }; heard = noMarks; first = true; abort = false })
 
 abbrev pub listener : Record
 listener =
     laid 0x11223344 0xA1A2A3A4 65540
-    (record { producer = wide; consumer = wide; told = wide; last = 0x5565; blocked = false; request = false })
+    (record { producer = wide; consumer = wide; told = wide; last = 0x5565; blocked = false; request = false; urgent = noPlace })
     (outwards (cur 0xABCD 0x89EF) (cur 0xAB00 0x89EF)) unmarked
 
 abbrev pub listened : Record
 listened =
     laid 0x11223344 0xA1A2A3A4 65540
-    (record { producer = cur 0x0122 0x4568; consumer = wide; told = wide; last = 0x5566; blocked = true; request = true })
-    (outwards (cur 0xABCD 0x89EF) (cur 0xABC0 0x89EF))
+    (record {
+      producer = cur 0x0122 0x4568;
+      consumer = wide;
+      told = wide;
+      last = 0x5566;
+      blocked = true;
+      request = true;
+      urgent = placeAt (cur 0x0122 0x4568);
+    })
+    (record { producer = cur 0xABCD 0x89EF; consumer = cur 0xABC0 0x89EF; next = 2; blocked = false; urgent = noPlace })
     (record { sent = noMarks; heard = record { done = true; closed = false }; first = false; abort = false })
 
 -- a connection at the start; with another next sequence number; with a full element at the peer, and B told
@@ -257,18 +265,18 @@ opened own peer = laid own peer 8 (inwards start start start) (outwards start st
 abbrev pub nextIs : ℕ → Record
 nextIs s =
     laid tokenA tokenB 8 (inwards start start start)
-    (record { producer = start; consumer = start; next = s; blocked = false }) unmarked
+    (record { producer = start; consumer = start; next = s; blocked = false; urgent = noPlace }) unmarked
 
 abbrev pub stopped : Record
 stopped =
     laid tokenB tokenA 8 (inwards start start start)
-    (record { producer = cur 4 1; consumer = start; next = 1; blocked = true }) unmarked
+    (record { producer = cur 4 1; consumer = start; next = 1; blocked = true; urgent = noPlace }) unmarked
 
 -- a connection that heard this number last
 abbrev pub lastIs : ℕ → Record
 lastIs s =
     laid tokenA tokenB 8
-    (record { producer = start; consumer = start; told = start; last = s; blocked = false; request = false })
+    (record { producer = start; consumer = start; told = start; last = s; blocked = false; request = false; urgent = noPlace })
     (outwards start start) unmarked
 
 -- B's messages to A, with a sequence number and byte 25 as given: 80 D, 40 C, 20 A; and A's to B
@@ -421,12 +429,13 @@ vectors =
     -- B: an equal offset with another wrap number is a full element, and because B was on, the read is told
     ∷ plays (hostB 10000 (cur 1004 1) (cur 1004 1) (cur 1004 1))
     (gives (hears aFull) (heard 9996 Active) none ∷ gives (on 1 (read (bytes 10000))) (wasRead 9996) (told bFull) ∷ [])
-    -- THE MESSAGE. Every field different and every flag of ours on
+    -- THE MESSAGE. Every field different and every flag of ours on but R and F
     ∷ plays (aGroup 1 300 (speaker ∷ []) (freshElement 300))
-    (gives (on 1 abort) accepted (told 0xFE2C_5566_11223344_0000_89EF_0000ABCD_0000_4567_00000123_80E0) ∷ [])
-    -- read, with P, U, F and all that is reserved on: nothing looks at them. R is on and T is C: no message
+    (gives (on 1 abort) accepted (told 0xFE2C_5566_11223344_0000_89EF_0000ABCD_0000_4567_00000123_E0E0) ∷ [])
+    -- read, with P, F and all that is reserved on: nothing looks at them. R is on and T is C, but U moves P: one message
     ∷ plays (aGroup 1 300 (listener ∷ []) (freshElement 300))
-    (gives (hears 0xFE2C_5566_11223344_FFFF_4568_00000122_FFFF_89EF_0000ABC0_FF9F) (heard 295 AppCloseWait1) none
+    (gives (hears 0xFE2C_5566_11223344_FFFF_4568_00000122_FFFF_89EF_0000ABC0_FF9F) (heard 295 AppCloseWait1)
+    (told 0xFE2C_0001_A1A2A3A4_0000_89EF_0000ABCD_0000_4567_00000123_0000)
     ∷ slot 1 listened
     ∷ [])
     -- sequence 65,535 goes on to 0

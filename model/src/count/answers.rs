@@ -161,6 +161,10 @@ fn count_send(
     cells.hit_if(length == 0, "send: nothing offered");
     cells.hit_if(sent.taken > 0 && !left_over, "send: n above 0, all taken");
     cells.hit_if(sent.taken > 0 && left_over, "send: n above 0, left over");
+    if before.urgent_sent.is_some() {
+        // Counted by `urgent`.
+        return;
+    }
     let blocked = sent.taken == 0 && left_over;
     cells.hit_if(
         blocked && !before.blocked,
@@ -239,6 +243,10 @@ fn count_read(
     };
     let by_window = window_rule(&moved, n);
     let reasons = [before.peer_blocked, before.update_requested, by_window];
+    if urgent_place_reached(before, before.consumer, *taken, n) {
+        // Counted by `urgent`; the message is made whatever else asks for one.
+        return;
+    }
     let name = match reasons {
         [true, false, false] => "read: message by B alone",
         [false, true, false] => "read: message by R alone",
@@ -309,7 +317,10 @@ fn count_hear(cells: &mut Cells, bytes: &[u8], heard: &Heard, group: &Group, bef
     count_wrap(cells, "hear: R", old.peer_consumer, message.consumer);
     cells.hit_if(old.peer_consumer != message.consumer, "hear: R moves");
     let answered = heard.message.is_some();
-    let asked = message.update_requested;
+    // With U that moves P the message is made whether R asks or not; `urgent`
+    // counts it.
+    let urgent = message.urgent_present && heard.moved > 0;
+    let asked = message.update_requested && !urgent;
     let closed = marked.closed_sent && marked.closed_heard;
     cells.hit_if(asked && answered, "hear: R flag answered");
     cells.hit_if(asked && !answered, "hear: R flag, T equals C");

@@ -82,6 +82,7 @@ impl Cells {
         super::pool::declare(&mut cells);
         super::gauges::declare(&mut cells);
         super::setup::declare(&mut cells);
+        super::urgent::declare(&mut cells);
         for name in FURTHER {
             cells.can(name.to_string());
         }

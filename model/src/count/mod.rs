@@ -13,6 +13,7 @@ mod pool;
 mod refusals;
 mod setup;
 mod tables;
+mod urgent;
 
 pub use cells::Cells;
 
@@ -128,6 +129,7 @@ fn count_call(cells: &mut Cells, replay: &mut Replay, line: &Line) {
         None => count_answer(cells, line, &answer, &replay.group, &details),
     }
     gauges::count(cells, line, &answer, &details, &replay.group);
+    urgent::count(cells, line, &answer, &details, &replay.group);
 }
 
 fn refusal(answer: &Answer) -> Option<u8> {
@@ -156,6 +158,7 @@ fn word_of(line: &Line) -> &'static str {
         Line::Link { .. } => "link",
         Line::LinkMsg { .. } => "linkmsg",
         Line::Send { .. } => "send",
+        Line::Urgent { .. } => "urgent",
         Line::Place { .. } => "place",
         Line::Read { .. } => "read",
         Line::Hear { .. } => "hear",

@@ -18,6 +18,7 @@ pub(super) fn holding(group: &Group, line: &Line) -> Vec<u8> {
     let link_down = |link: u8| link_in_range(link) && group.link_down(link);
     match line {
         Line::Send { slot, .. }
+        | Line::Urgent { slot, .. }
         | Line::Place { slot, .. }
         | Line::Read { slot, .. }
         | Line::Shutdown { slot }
@@ -35,7 +36,7 @@ pub(super) fn holding(group: &Group, line: &Line) -> Vec<u8> {
                 hold(link_down(c.link), 6);
             }
             let forbidden = match line {
-                Line::Send { .. } => send_forbidden(c),
+                Line::Send { .. } | Line::Urgent { .. } => send_forbidden(c),
                 Line::Place { .. } => place_forbidden(c),
                 Line::Read { .. } => read_forbidden(c),
                 Line::Shutdown { .. } => shutdown_forbidden(c),

@@ -43,6 +43,7 @@ pub(super) fn count_refusal(
         (
             3,
             Line::Send { slot, .. }
+            | Line::Urgent { slot, .. }
             | Line::Place { slot, .. }
             | Line::Read { slot, .. }
             | Line::Shutdown { slot }
@@ -179,6 +180,20 @@ fn count_coherence(cells: &mut Cells, c: &Connection, n: i64) {
     check(written < 0, "R to Q below zero");
     check(written > data_size(n_peer), "R to Q above D'");
     check(c.closed_sent && c.closed_heard, "both C");
+    if let Some(place) = c.urgent_sent {
+        let ahead = distance(c.peer_consumer, place, n_peer);
+        check(place.offset < 4, "own urgent place below 4");
+        check(above(place, n_peer), "own urgent place above N'-1");
+        check(ahead < 1, "own urgent place not after R");
+        check(ahead > written, "own urgent place beyond Q");
+    }
+    if let Some(place) = c.urgent_heard {
+        let ahead = distance(c.consumer, place, n);
+        check(place.offset < 4, "heard urgent place below 4");
+        check(above(place, n), "heard urgent place above N-1");
+        check(ahead < 1, "heard urgent place not after C");
+        check(ahead > consumer_to_producer, "heard urgent place beyond P");
+    }
     check(c.index == 0, "index 0");
     for link in 0..LINKS {
         let past = past_the_top(u32::from(c.index), c.bases[link], c.peer_size);

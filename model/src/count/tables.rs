@@ -3,6 +3,7 @@
 /// The tests of each call, in their order.
 pub(super) const ORDERS: &[(&str, &[u8])] = &[
     ("send", &[1, 2, 3, 6, 7]),
+    ("urgent", &[1, 2, 3, 6, 7]),
     ("place", &[1, 2, 3, 6, 7, 9]),
     ("read", &[1, 2, 3, 6, 7]),
     ("hear", &[1, 4, 5, 3, 6, 16, 8]),
@@ -58,7 +59,7 @@ pub(super) const NOT_TESTED: &[(u8, &str)] = &[
 pub(super) const NOT_AT_ONCE: &[(&[&str], u8, &[u8], &str)] = &[
     (
         &[
-            "send", "place", "read", "shutdown", "close", "abort", "free",
+            "send", "urgent", "place", "read", "shutdown", "close", "abort", "free",
         ],
         2,
         &[3, 6, 7, 9],
@@ -135,6 +136,14 @@ pub(super) const COHERENCE: &[&str] = &[
     "index 0",
     "past the top on the own link",
     "past the top on another link",
+    "own urgent place below 4",
+    "own urgent place above N'-1",
+    "own urgent place not after R",
+    "own urgent place beyond Q",
+    "heard urgent place below 4",
+    "heard urgent place above N-1",
+    "heard urgent place not after C",
+    "heard urgent place beyond P",
     "several clauses",
 ];
 

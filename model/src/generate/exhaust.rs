@@ -1,6 +1,6 @@
 //! What can be gone through one by one: every row of the close marks, every
 //! first byte of a link message, every reserved bit, the soundings of document
-//! 01, the examples of section 4.5.1, scenarios 1 to 4 of section 4.7, the pool,
+//! 01, the examples of section 4.5.1, scenarios 1 to 6 of section 4.7, the pool,
 //! the gauges and the messages of set-up.
 
 use super::{gauges, message_of, offset_of, pool, setup, List};
@@ -23,6 +23,9 @@ pub fn list(seed: u64) -> Vec<u8> {
     scenario_1_and_2(&mut list, &mut random);
     scenario_3(&mut list, &mut random);
     scenario_4(&mut list, &mut random);
+    scenario_5(&mut list, &mut random);
+    scenario_6(&mut list, &mut random);
+    urgent_rules(&mut list, &mut random);
     pool::exhaust(&mut list, &mut random);
     gauges::exhaust(&mut list, &mut random);
     setup::exhaust(&mut list, &mut random);
@@ -122,6 +125,8 @@ fn close_marks_called(list: &mut List, random: &mut Random) {
         let bytes = random.bytes(2);
         list.record(1, c);
         list.send(1, bytes.clone());
+        list.record(1, c);
+        list.urgent(1, bytes.clone());
         list.record(1, c);
         list.place(1, 7, bytes);
         list.record(1, c);
@@ -345,16 +350,32 @@ fn window_examples(list: &mut List, random: &mut Random) {
 /// heard there.
 fn send_across(list: &mut List, from: u32, to: u32, bytes: &[u8]) -> i64 {
     let c = list.replay.group.table[from as usize - 1];
-    let Answer::Sent(sent) = list.send(from, bytes.to_vec()) else {
+    let answer = list.send(from, bytes.to_vec());
+    carry_across(list, &c, to, bytes, &answer)
+}
+
+/// The same with an urgent send.
+fn urgent_across(list: &mut List, from: u32, to: u32, bytes: &[u8]) -> i64 {
+    let c = list.replay.group.table[from as usize - 1];
+    let answer = list.urgent(from, bytes.to_vec());
+    carry_across(list, &c, to, bytes, &answer)
+}
+
+/// Performs what a send answered; a message that its hearing makes goes back.
+fn carry_across(list: &mut List, c: &Connection, to: u32, bytes: &[u8], answer: &Answer) -> i64 {
+    let (Answer::Sent(sent) | Answer::Urgent(sent)) = answer else {
         return 0;
     };
     for placing in &sent.placings {
         let start = placing.start as usize;
         let part = bytes[start..start + placing.length as usize].to_vec();
-        list.place(to, offset_of(&c, placing), part);
+        list.place(to, offset_of(c, placing), part);
     }
     if let Some(message) = sent.message {
-        list.hear(message.to_vec());
+        let answer = list.hear(message.to_vec());
+        if let Some(message) = message_of(&answer) {
+            list.hear(message.to_vec());
+        }
     }
     sent.taken
 }
@@ -414,16 +435,7 @@ fn scenario_3(list: &mut List, random: &mut Random) {
 fn scenario_4(list: &mut List, random: &mut Random) {
     list.comment("scenario 4");
     two_hosts(list);
-    let start = cursor(1004, 1);
-    let mut host_a = list.replay.group.table[0];
-    host_a.producer = start;
-    host_a.peer_consumer = start;
-    let mut host_b = list.replay.group.table[1];
-    host_b.peer_producer = start;
-    host_b.consumer = start;
-    host_b.told = start;
-    list.record(1, host_a);
-    list.record(2, host_b);
+    from_a_to_b(list, cursor(1004, 1), cursor(1004, 1));
     let bytes = random.bytes(20_000);
     let mut at = 0;
     while at < bytes.len() {
@@ -433,6 +445,126 @@ fn scenario_4(list: &mut List, random: &mut Random) {
         }
         at += taken as usize;
         read_back(list, 2, 10_000);
+        list.table();
+    }
+}
+
+/// Lays the hosts so that A writes from a place on and B has read up to another.
+fn from_a_to_b(list: &mut List, written: Cursor, read: Cursor) {
+    let mut host_a = list.replay.group.table[0];
+    host_a.producer = written;
+    host_a.peer_consumer = read;
+    let mut host_b = list.replay.group.table[1];
+    host_b.peer_producer = written;
+    host_b.consumer = read;
+    host_b.told = read;
+    list.record(1, host_a);
+    list.record(2, host_b);
+}
+
+/// 500 urgent bytes and then 1,000 others, the window open.
+fn scenario_5(list: &mut List, random: &mut Random) {
+    list.comment("scenario 5");
+    two_hosts(list);
+    from_a_to_b(list, cursor(1000, 1), cursor(1000, 1));
+    urgent_across(list, 1, 2, &random.bytes(500));
+    let normal = random.bytes(1_000);
+    // Held back until the urgent bytes are consumed.
+    send_across(list, 1, 2, &normal);
+    list.table();
+    read_back(list, 2, 10_000);
+    list.table();
+    send_across(list, 1, 2, &normal);
+    read_back(list, 2, 10_000);
+    list.table();
+}
+
+/// The same with the window closed and the writer blocked.
+fn scenario_6(list: &mut List, random: &mut Random) {
+    list.comment("scenario 6");
+    two_hosts(list);
+    from_a_to_b(list, cursor(1000, 2), cursor(1000, 1));
+    let mut host_a = list.replay.group.table[0];
+    host_a.blocked = true;
+    list.record(1, host_a);
+    let mut host_b = list.replay.group.table[1];
+    host_b.peer_blocked = true;
+    list.record(2, host_b);
+    let urgent = random.bytes(500);
+    let normal = random.bytes(1_000);
+    urgent_across(list, 1, 2, &urgent);
+    list.table();
+    read_back(list, 2, 10_000);
+    urgent_across(list, 1, 2, &urgent);
+    list.table();
+    send_across(list, 1, 2, &normal);
+    read_back(list, 2, 10_000);
+    send_across(list, 1, 2, &normal);
+    read_back(list, 2, 10_000);
+    list.table();
+}
+
+/// U that moves P: T at C or before it, R asking or not, a place standing or not,
+/// the slot closing or not. Then every call that makes a message while our own
+/// place stands.
+fn urgent_rules(list: &mut List, random: &mut Random) {
+    list.comment("urgent places: what is heard, and what is made meanwhile");
+    list.group(1, 12);
+    list.link(1, true);
+    list.poke(0, EYE_CATCHER.to_vec());
+    let own = token(random);
+    for case in 0..16u16 {
+        let is = |bit: u16| case & bit != 0;
+        let mut c = resting(12, own, token(random), cursor(5, 65_535));
+        c.consumer = if is(1) { cursor(6, 65_535) } else { c.told };
+        c.peer_producer = cursor(8, 65_535);
+        c.urgent_heard = is(4).then_some(cursor(7, 65_535));
+        set_marks(&mut c, if is(8) { 2 } else { 0 });
+        list.record(1, c);
+        let message = Message {
+            producer: cursor(10, 65_535),
+            urgent_pending: true,
+            urgent_present: true,
+            update_requested: is(2),
+            closed: is(8),
+            ..message_to(&c)
+        };
+        list.hear(message.write().to_vec());
+        list.table();
+    }
+    for marks in [0, 64, 128, 256, 8, 64 + 8] {
+        let mut c = resting(12, own, token(random), cursor(5, 65_535));
+        c.producer = cursor(7, 65_535);
+        c.urgent_sent = Some(c.producer);
+        c.peer_producer = cursor(8, 65_535);
+        set_marks(&mut c, marks);
+        for call in 0..8 {
+            list.record(1, c);
+            match call {
+                0 => list.send(1, vec![1, 2, 3]),
+                1 => list.urgent(1, vec![1]),
+                2 => list.read(1, 2),
+                3 => list.shutdown(1),
+                4 => list.close(1),
+                5 => list.abort(1),
+                6 => {
+                    let abort = Message {
+                        abort: true,
+                        ..message_to(&c)
+                    };
+                    list.hear(abort.write().to_vec())
+                }
+                _ => {
+                    let asks = Message {
+                        producer: cursor(9, 65_535),
+                        consumer: cursor(6, 65_535),
+                        urgent_present: marks & 8 == 0,
+                        ..message_to(&c)
+                    };
+                    list.hear(asks.write().to_vec())
+                }
+            };
+        }
         list.table();
     }
 }

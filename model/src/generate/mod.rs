@@ -113,6 +113,10 @@ impl List {
         self.add(Line::Send { slot, bytes })
     }
 
+    pub fn urgent(&mut self, slot: u32, bytes: Vec<u8>) -> Answer {
+        self.add(Line::Urgent { slot, bytes })
+    }
+
     pub fn place(&mut self, slot: u32, offset: u32, bytes: Vec<u8>) -> Answer {
         self.add(Line::Place {
             slot,
@@ -197,7 +201,7 @@ pub fn offset_of(c: &Connection, placing: &Placing) -> u32 {
 /// The message that an answer carries, if any.
 pub fn message_of(answer: &Answer) -> Option<Bytes44> {
     match answer {
-        Answer::Sent(sent) => sent.message,
+        Answer::Sent(sent) | Answer::Urgent(sent) => sent.message,
         Answer::Read(ReadAnswer::Read { message, .. }, _) => *message,
         Answer::Read(ReadAnswer::Torn { message }, _) => Some(*message),
         Answer::Heard(heard) => heard.message,

@@ -94,6 +94,10 @@ fn lay_closed_records(random: &mut Random, list: &mut List) {
         record.index = random.draw() as u8;
         record.keys[0] = random.draw() as u32;
         record.bases[3] = random.draw();
+        if random.chance(1, 2) {
+            record.urgent_sent = Some(record.told);
+            record.urgent_heard = Some(record.producer);
+        }
         record.next_sequence = random.draw() as u16;
         record.heard_sequence = random.draw() as u16;
         set_marks(&mut record, random.below(512) as u16);
@@ -119,6 +123,7 @@ enum Kind {
 fn kind(line: &Line, span_start: &Group) -> Kind {
     match line {
         Line::Send { slot, .. }
+        | Line::Urgent { slot, .. }
         | Line::Place { slot, .. }
         | Line::Read { slot, .. }
         | Line::Shutdown { slot }

@@ -358,12 +358,16 @@ impl World {
             _ => self.random.between(1, peer_size.min(900)),
         };
         let bytes = self.random.bytes(length as usize);
-        let line = Line::Send {
-            slot: end.slot,
-            bytes: bytes.clone(),
+        let slot = end.slot;
+        let line = if self.random.chance(1, 9) {
+            let bytes = bytes.clone();
+            Line::Urgent { slot, bytes }
+        } else {
+            let bytes = bytes.clone();
+            Line::Send { slot, bytes }
         };
         let answer = self.call(end, line);
-        if let Answer::Sent(sent) = answer {
+        if let Answer::Sent(sent) | Answer::Urgent(sent) = answer {
             let flights = &mut self.pairs[which].flights[1 - side];
             for placing in &sent.placings {
                 let start = placing.start as usize;
@@ -600,8 +604,11 @@ impl World {
             }
         };
         match self.random.below(20) {
-            0..=2 => {
+            0..=1 => {
                 self.list.send(slot, bytes);
+            }
+            2 => {
+                self.list.urgent(slot, bytes);
             }
             3..=4 => {
                 let offset = self.random.between(0, i64::from(size) + 1) as u32;

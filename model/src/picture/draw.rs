@@ -128,8 +128,24 @@ fn shown(step: &Step, side: usize, shot: &Shot, previous: Option<&Shot>) -> Show
         _ => 0..0,
     };
     let looked = matches!(&step.what, What::Bytes { side: at, .. } if *at == side);
-    let reading = |c: &Connection| (c.open, c.peer_producer, c.consumer, c.told);
-    let writing = |c: &Connection| (c.open, c.producer, c.peer_consumer, c.blocked);
+    let reading = |c: &Connection| {
+        (
+            c.open,
+            c.peer_producer,
+            c.consumer,
+            c.told,
+            c.urgent_heard,
+        )
+    };
+    let writing = |c: &Connection| {
+        (
+            c.open,
+            c.producer,
+            c.peer_consumer,
+            c.blocked,
+            c.urgent_sent,
+        )
+    };
     let (c, before) = (&shot.record, previous.map(|shot| &shot.record));
     let bytes = previous.map(|shot| &shot.element);
     Shown {
@@ -510,11 +526,13 @@ impl Band {
         }
     }
 
-    /// Where the labels of P, C and T stand: to the right of their places, and
+    /// Where the labels of P, C, T and the urgent place stand: to the right of their places, and
     /// deeper where they would meet one that stands further right.
     fn flags(&self, c: &Connection) -> Vec<Flag> {
         let mut flags: Vec<Flag> = Vec::new();
-        for (name, at) in [("P", c.peer_producer), ("C", c.consumer), ("T", c.told)] {
+        let cursors = [("P", c.peer_producer), ("C", c.consumer), ("T", c.told)];
+        let urgent = c.urgent_heard.map(|at| ("urgent", at));
+        for (name, at) in cursors.into_iter().chain(urgent) {
             match flags.iter_mut().find(|flag| flag.at == at) {
                 Some(flag) => flag.names = format!("{} {name}", flag.names),
                 None => flags.push(Flag {
@@ -546,7 +564,7 @@ impl Band {
         flags.iter().map(|flag| flag.level + 1).max().unwrap_or(0) as f64
     }
 
-    /// P, C and T below the band.
+    /// P, C, T and the urgent place below the band.
     fn cursors(&self, svg: &mut Svg, c: &Connection) {
         for flag in self.flags(c) {
             let y = self.bottom() + LABELS * (flag.level + 1) as f64;
@@ -582,10 +600,11 @@ fn strip(svg: &mut Svg, c: &Connection, x: f64, y: f64) {
     let notes = [
         (pen, format!("R {}", pair(c.peer_consumer))),
         (pen, format!("Q {}", pair(c.producer))),
-        match (good(length, size), c.blocked) {
-            (false, _) => (red, "not coherent".to_string()),
-            (true, true) => (red, format!("room {room}, blocked")),
-            (true, false) => (pen, format!("room {room}")),
+        match (good(length, size), c.urgent_sent.is_some(), c.blocked) {
+            (false, _, _) => (red, "not coherent".to_string()),
+            (true, true, _) => (red, format!("room {room}, urgent")),
+            (true, false, true) => (red, format!("room {room}, blocked")),
+            (true, false, false) => (pen, format!("room {room}")),
         },
     ];
     let mut at = x + STRIP + 9.0;

@@ -34,6 +34,10 @@ pub enum Line {
         slot: u32,
         bytes: Vec<u8>,
     },
+    Urgent {
+        slot: u32,
+        bytes: Vec<u8>,
+    },
     Place {
         slot: u32,
         offset: u32,
@@ -156,6 +160,7 @@ pub enum Answer {
     RefusedRead(u8, Vec<u8>),
     Word(&'static str),
     Sent(Sent),
+    Urgent(Sent),
     Read(ReadAnswer, Vec<u8>),
     Heard(Heard),
     Made(&'static str, Bytes44),

@@ -74,6 +74,7 @@ impl Replay {
                 answered(group.link_message(*link, bytes), Answer::Reply)
             }
             Line::Send { slot, bytes } => answered(group.send(*slot, bytes), Answer::Sent),
+            Line::Urgent { slot, bytes } => answered(group.urgent(*slot, bytes), Answer::Urgent),
             Line::Place {
                 slot,
                 offset,

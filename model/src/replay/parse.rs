@@ -111,13 +111,14 @@ const WORDS: &[(&str, &[usize])] = &[
     ("link", &[3]),
     ("linkmsg", &[3]),
     ("send", &[3]),
+    ("urgent", &[3]),
     ("place", &[4]),
     ("read", &[3]),
     ("hear", &[2]),
     ("shutdown", &[2]),
     ("close", &[2]),
     ("abort", &[2]),
-    ("record", &[29]),
+    ("record", &[31]),
     ("poke", &[3]),
     ("table", &[1]),
     ("memory", &[3]),
@@ -173,6 +174,10 @@ impl Replay {
                 bytes: hex(words[2])?,
             },
             b"send" => Line::Send {
+                slot: number32(words[1])?,
+                bytes: hex(words[2])?,
+            },
+            b"urgent" => Line::Urgent {
                 slot: number32(words[1])?,
                 bytes: hex(words[2])?,
             },
@@ -330,6 +335,17 @@ fn parse_opening(words: &[&[u8]]) -> Result<Opening, BadLine> {
     })
 }
 
+/// An urgent place: "`-` for none, or `offset:wrap`".
+fn place(word: &[u8]) -> Result<Option<Cursor>, BadLine> {
+    if word == b"-" {
+        return Ok(None);
+    }
+    let colon = word.iter().position(|&byte| byte == b':');
+    let colon = colon.ok_or(BadLine::Number)?;
+    let (offset, wrap) = (&word[..colon], &word[colon + 1..]);
+    Ok(Some(cursor(number32(offset)?, number16(wrap)?)))
+}
+
 fn parse_record(words: &[&[u8]], records: usize) -> Result<Line, BadLine> {
     let slot = number(words[1], records as u64)? as usize;
     if slot == 0 {
@@ -355,6 +371,8 @@ fn parse_record(words: &[&[u8]], records: usize) -> Result<Line, BadLine> {
         peer_consumer: cursor_at(15)?,
         next_sequence: number16(words[17])?,
         heard_sequence: number16(words[18])?,
+        urgent_sent: place(words[29])?,
+        urgent_heard: place(words[30])?,
         ..Connection::default()
     };
     set_marks(&mut record, number(words[19], MAX_MARKS)? as u16);

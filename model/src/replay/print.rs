@@ -61,6 +61,12 @@ fn push_record(out: &mut Vec<u8>, c: &Connection) {
     ];
     push_words(out, &fields);
     push_words(out, &keys_and_bases(&c.keys, &c.bases));
+    for place in [c.urgent_sent, c.urgent_heard] {
+        match place {
+            Some(place) => push(out, &format!(" {}:{}", place.offset, place.wrap)),
+            None => push(out, " -"),
+        }
+    }
 }
 
 fn push_words(out: &mut Vec<u8>, numbers: &[u64]) {
@@ -236,6 +242,28 @@ fn push_settings(out: &mut Vec<u8>, settings: &Settings) {
     );
 }
 
+/// "LIST is `-`, or `key,address,start,length`, two of them parted by `;`."
+fn push_sent(out: &mut Vec<u8>, word: &str, sent: &Sent) {
+    push(out, &format!("{word} {} placings ", sent.taken));
+    if sent.placings.is_empty() {
+        out.push(b'-');
+    }
+    for (place, placing) in sent.placings.iter().enumerate() {
+        if place > 0 {
+            out.push(b';');
+        }
+        let Placing {
+            key,
+            address,
+            start,
+            length,
+        } = placing;
+        push(out, &format!("{key},{address},{start},{length}"));
+    }
+    push(out, " message ");
+    push_message(out, sent.message.as_ref());
+}
+
 impl Replay {
     /// Writes an answer with its line ends, after the call.
     pub fn print_answer(&self, out: &mut Vec<u8>, answer: &Answer) {
@@ -248,26 +276,8 @@ impl Replay {
                 push_hex(out, buffer);
             }
             Answer::Word(word) => push(out, word),
-            Answer::Sent(sent) => {
-                push(out, &format!("send {} placings ", sent.taken));
-                if sent.placings.is_empty() {
-                    out.push(b'-');
-                }
-                for (place, placing) in sent.placings.iter().enumerate() {
-                    if place > 0 {
-                        out.push(b';');
-                    }
-                    push(
-                        out,
-                        &format!(
-                            "{},{},{},{}",
-                            placing.key, placing.address, placing.start, placing.length
-                        ),
-                    );
-                }
-                push(out, " message ");
-                push_message(out, sent.message.as_ref());
-            }
+            Answer::Sent(sent) => push_sent(out, "send", sent),
+            Answer::Urgent(sent) => push_sent(out, "urgent", sent),
             Answer::Read(ReadAnswer::Read { taken, message }, buffer) => {
                 push(out, &format!("read {taken} out "));
                 push_hex(out, buffer);
@@ -354,6 +364,10 @@ pub fn print_line(out: &mut Vec<u8>, line: &Line) {
         }
         Line::Send { slot, bytes } => {
             push(out, &format!("send {slot} "));
+            push_hex(out, bytes);
+        }
+        Line::Urgent { slot, bytes } => {
+            push(out, &format!("urgent {slot} "));
             push_hex(out, bytes);
         }
         Line::Place {

@@ -15,9 +15,16 @@ offsets-ok-requires c κs = search needs
 distances-ok-requires : tie.Need-distances-ok-requires
 distances-ok-requires c κs = search needs
 
+places-ok-requires : tie.Need-places-ok-requires
+places-ok-requires c κs = search needs
+
 returns : tie.Need-returns
 unfolding coherentB
-returns c = λ i. c .before .before .numbers-ok .ensures i && (c .before .offsets-ok .ensures i && c .distances-ok .ensures i)
+returns c =
+    let b = c .before .before in
+    λ i.
+    b .before .numbers-ok .ensures i
+    && (b .offsets-ok .ensures i && (c .before .distances-ok .ensures i && c .places-ok .ensures i))
 
 pub coherent-spec : {M : Type 1} → statement M
-coherent-spec = tie.close (tie.spec numbers-ok-requires offsets-ok-requires distances-ok-requires returns)
+coherent-spec = tie.close (tie.spec numbers-ok-requires offsets-ok-requires distances-ok-requires places-ok-requires returns)

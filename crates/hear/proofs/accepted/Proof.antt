@@ -1,15 +1,11 @@
--- `hear::accepted` meets its contract.
--- Assumes nothing.
+-- `hear::accepted` meets its contract. Assumes nothing.
 use borrow.Author.Needs.{needs}
 use Rattle.hear.proofs.Parts.{accepted-parts}
 use Rattle.hear.proofs.accepted.Statement.{statement}
 use Rattle.hear.proofs.accepted.Tie as tie
 
-data-size-requires : tie.Need-data-size-requires
-data-size-requires c κs = search needs
-
-gap-requires : tie.Need-gap-requires
-gap-requires c κs = search needs
+moved-by-requires : tie.Need-moved-by-requires
+moved-by-requires c κs = search needs
 
 heard-requires : tie.Need-heard-requires
 heard-requires c κs = search needs
@@ -30,11 +26,9 @@ returns : tie.Need-returns
 returns c =
     let o = c .before .before in
     let h = o .before .before .before .before in
-    let d = h .before .before in
-    let a = d .before .before .before .args in
-    accepted-parts (a .n) (a .rec) (a .m) _ _ _ _ _ _ _
-    (d .data-size .ensures)
-    (h .before .gap .ensures .0)
+    let a = h .before .before .args in
+    accepted-parts (a .n) (a .rec) (a .m) _ _ _ _ _ _
+    (h .before .moved-by .ensures)
     (h .heard .ensures)
     (o .before .before .state-of .ensures)
     (o .before .answers .ensures)
@@ -45,8 +39,7 @@ pub accepted-spec : {M : Type 1} → statement M
 accepted-spec =
     tie.close
     (tie.spec
-    data-size-requires
-    gap-requires
+    moved-by-requires
     heard-requires
     state-of-requires
     answers-requires

@@ -1,13 +1,15 @@
--- `hear::heard_in` meets its contract.
--- Assumes nothing.
-use mathlib.Core.Path.{refl}
+-- `hear::heard_in` meets its contract. Assumes nothing.
+use borrow.Author.Needs.{needs}
 use Rattle.hear.specs.Hear.{heardIn}
 use Rattle.hear.proofs.heard_in.Statement.{statement}
 use Rattle.hear.proofs.heard_in.Tie as tie
 
+urgent-in-requires : tie.Need-urgent-in-requires
+urgent-in-requires c κs = search needs
+
 returns : tie.Need-returns
 unfolding heardIn
-returns c = refl
+returns c = simp (c .urgent-in .ensures)
 
 pub heard-in-spec : {M : Type 1} → statement M
-heard-in-spec = tie.close (tie.spec returns)
+heard-in-spec = tie.close (tie.spec urgent-in-requires returns)

@@ -10,22 +10,26 @@ unread-requires c κs = search needs
 taken-requires : tie.Need-taken-requires
 taken-requires c κs = search needs
 
-consumed-requires : tie.Need-consumed-requires
-consumed-requires c κs = search needs
+consumed-in-requires : tie.Need-consumed-in-requires
+consumed-in-requires c κs = search needs
 
 updates-requires : tie.Need-updates-requires
 updates-requires c κs = search needs
+
+consumed-requires : tie.Need-consumed-requires
+consumed-requires c κs = search needs
 
 outcome-of-requires : tie.Need-outcome-of-requires
 outcome-of-requires c κs = search needs
 
 returns : tie.Need-returns
 returns c =
-    let u = c .before in
-    let x = u .before in
-    let k = x .before in
-    take-parts _ _ _ _ _ _ _ _ (k .before .unread .ensures) (k .taken .ensures .0) (x .consumed .ensures) (u .updates .ensures)
-    (c .outcome-of .ensures)
+    let x = c .before in
+    let u = x .before in
+    let m = u .before in
+    let k = m .before in
+    take-parts _ _ _ _ _ _ _ _ _ (k .before .unread .ensures) (k .taken .ensures .0) (m .consumed-in .ensures) (u .updates .ensures)
+    (x .consumed .ensures) (c .outcome-of .ensures)
 
 pub take-spec : {M : Type 1} → statement M
 take-spec =
@@ -33,7 +37,8 @@ take-spec =
     (tie.spec
     unread-requires
     taken-requires
-    consumed-requires
+    consumed-in-requires
     updates-requires
+    consumed-requires
     outcome-of-requires
     returns)

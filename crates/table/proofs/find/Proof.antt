@@ -186,7 +186,7 @@ module _ {M : Type 1} (𝓤 : URA M) (H : Heap 𝓤) (A : Atoms 𝓤) (W : Given
           (λ less. skips ! $ exec ! C Λ En (after 3 mir′.turn-1) (anyQ (Turned i)) $
           assigns ! (bin ! (load ! (from ! (stop !)) (look ! 12 refl)) (lit ! tt) (record { fits = place-fits less })) (from ! (stop !)) (store ! 8 refl (tt, record { fits = place-fits less })) $
           assigns ! (bin ! (load ! (from ! (fld ! refl (stop !))) (look-in ! 16 (sub ! 0 refl (whole !)))) (load ! (from ! (stop !)) (look ! 8 refl)) tt) (from ! (stop !)) (init ! 2 refl (tt, tt)) $
-          rewrite ! 2 (λ (p : ℕ). ‵ (fat fullShare tyPtr l₈ 0 (vptr b p))) (sym (place-is 144 o (i .0))) refl $
+          rewrite ! 2 (λ (p : ℕ). ‵ (fat fullShare tyPtr l₈ 0 (vptr b p))) (sym (place-is 168 o (i .0))) refl $
           move ! (21 ∷ 20 ∷ []) $ looks-slice ! tt R (Is R) (shows 𝓤 H A R) (LL.vals T.the-type T′.the-laws) (LL.tells T.the-type T′.the-laws) (LL.copy T.the-type T′.the-copy 𝓤 H A W) ys b o (λ q′.
           elem-out ! R (Is R) (shows 𝓤 H A R) (LL.vals T.the-type T′.the-laws) (LL.tells T.the-type T′.the-laws) q′ ys (i .0) zeroRecord b o (ltb→lt (i .0) n less) (λ g.
           -- [table[i]; what it owns; the others; what shuts; the fractured borrow; _9; …]: _i at 5 + 2 · (9 − i)
@@ -222,7 +222,7 @@ module _ {M : Type 1} (𝓤 : URA M) (H : Heap 𝓤) (A : Atoms 𝓤) (W : Given
           i-fits : (j : ℕ) → j ≤ n → j < 2 ^ 64
           i-fits j l = lt-of-le-of-lt l (gn .0)
 
-          place-fits : Holds (ltb (i .0) n) → i .0 * 144 < 2 ^ 64
+          place-fits : Holds (ltb (i .0) n) → i .0 * 168 < 2 ^ 64
           place-fits less = omega (arith, gn .1, ltb→lt (i .0) n less)
 
           next-fits : Holds (ltb (i .0) n) → i .0 + 1 < 2 ^ 64

@@ -111,7 +111,7 @@ module _ {M : Type 1} (𝓤 : URA M) (H : Heap 𝓤) (A : Atoms 𝓤) (W : Given
       says ! e $ nothing ! $ move ! (1 ∷ 0 ∷ []) $ join ! $ frame ! $ nothing ! $ nothing ! $ fjoin ! $ nothing ! $ fjoin ! $ move ! (1 ∷ 0 ∷ []) $ fjoin ! $ frame ! $ feqI ! (List Val) (vunit ∷ []) (vunit ∷ []) refl $ done !
 
   module _ (C : Calls 𝓤 H) (Λ : Loops 𝓤 H) (fm : FmC 𝓤 H (W .laws) C) (known-f-index : Triple 𝓤 (C #f-index) (C-f-index 𝓤 H A mem run)) where
-    fits-table : (i : ℕ) → Holds (ltb i (length ys-table)) → i * 144 < 2 ^ 64
+    fits-table : (i : ℕ) → Holds (ltb i (length ys-table)) → i * 168 < 2 ^ 64
     fits-table i h = omega (arith, g-table .1, ltb→lt i (length ys-table) h)
 
     walk : ent 𝓤 (onEntry 𝓤 H A call.signature κs qs x at) (WpFn 𝓤 H C Λ code.function (s-table ∷ vint w64 slot ∷ v-c ∷ []) Post)
@@ -135,7 +135,7 @@ module _ {M : Type 1} (𝓤 : URA M) (H : Heap 𝓤) (A : Atoms 𝓤) (W : Given
         first ! $ branches ! (load ! (from ! (stop !)) (look ! 6 refl))
         (λ h. assigns ! (bin ! (load ! (from ! (stop !)) (look ! 10 refl)) (lit ! tt) (record { fits = (fits-table r h) })) (from ! (stop !)) (init ! 4 refl (tt, record { fits = (fits-table r h) })) $
         assigns ! (bin ! (load ! (from ! (fld ! refl (stop !))) (look-in ! 16 (sub ! 0 refl (whole !)))) (load ! (from ! (stop !)) (look ! 4 refl)) tt) (from ! (stop !)) (init ! 2 refl (tt, tt)) $
-        rewrite ! 2 (λ (p : ℕ). ‵ (fat fullShare tyPtr l₈ 0 (vptr b-table p))) (sym (place-is 144 o-table r)) refl $
+        rewrite ! 2 (λ (p : ℕ). ‵ (fat fullShare tyPtr l₈ 0 (vptr b-table p))) (sym (place-is 168 o-table r)) refl $
         move ! (1 ∷ []) $ fsplit ! $ move ! (1 ∷ []) $ fsplit ! $ move ! (0 ∷ 1 ∷ 3 ∷ []) $ opens-slice ! tt RecordT.the-row ys-table b-table o-table $ elem-out ! RecordT.the-row (Is RecordT.the-row) (shows 𝓤 H A RecordT.the-row) (LL.vals RecordT.the-type RecordL.the-laws) (LL.tells RecordT.the-type RecordL.the-laws) fullShare ys-table r zeroRecord b-table o-table (ltb→lt r (length ys-table) h) (λ g.
         assigns ! (of-opd ! (load ! (from ! (stop !)) (look ! 17 refl))) (from ! (hop ! (look ! 7 refl) (stop !))) (store-raw ! 0 refl (LL.lawful RecordT.the-type RecordL.the-laws 𝓤 H A W .typed c _ g-c .0)) $
         move ! (1 ∷ []) $ drop ! $ owned ! RecordT.the-row (Is RecordT.the-row) (LL.makes RecordT.the-type RecordL.the-plain 𝓤 H A) c _ g-c $ move ! (1 ∷ 0 ∷ 2 ∷ []) $ elem-put ! RecordT.the-row fullShare ys-table r c (v-c ∷ []) b-table o-table (ltb→lt r (length ys-table) h) $ closes-slice ! tt RecordT.the-row ys-table (set ys-table r c) (length-set ys-table r c) b-table o-table $

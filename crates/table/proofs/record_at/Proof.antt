@@ -126,7 +126,7 @@ module _ {M : Type 1} (𝓤 : URA M) (H : Heap 𝓤) (A : Atoms 𝓤) (W : Given
       says ! e $ nothing ! $ move ! (1 ∷ 0 ∷ []) $ join ! $ frame ! $ nothing ! $ nothing ! $ fjoin ! $ nothing ! $ fjoin ! $ frame ! $ owned ! RecordT.the-row (Is RecordT.the-row) (LL.makes RecordT.the-type RecordL.the-plain 𝓤 H A) res _ is $ done !
 
   module _ (C : Calls 𝓤 H) (Λ : Loops 𝓤 H) (fm : FmC 𝓤 H (W .laws) C) (known-f-index : Triple 𝓤 (C #f-index) (C-f-index 𝓤 H A mem run)) (known-f-zero-record : Triple 𝓤 (C #f-zero-record) (C-f-zero-record 𝓤 H A mem run)) where
-    fits-table : (i : ℕ) → Holds (ltb i (length ys-table)) → i * 144 < 2 ^ 64
+    fits-table : (i : ℕ) → Holds (ltb i (length ys-table)) → i * 168 < 2 ^ 64
     fits-table i h = omega (arith, g-table .1, ltb→lt i (length ys-table) h)
 
     walk : ent 𝓤 (onEntry 𝓤 H A call.signature κs qs x at) (WpFn 𝓤 H C Λ code.function (s-table ∷ vint w64 slot ∷ []) Post)
@@ -150,7 +150,7 @@ module _ {M : Type 1} (𝓤 : URA M) (H : Heap 𝓤) (A : Atoms 𝓤) (W : Given
         first ! $ branches ! (load ! (from ! (stop !)) (look ! 8 refl))
         (λ h. assigns ! (bin ! (load ! (from ! (stop !)) (look ! 12 refl)) (lit ! tt) (record { fits = (fits-table r h) })) (from ! (stop !)) (init ! 6 refl (tt, record { fits = (fits-table r h) })) $
         assigns ! (bin ! (load ! (from ! (fld ! refl (stop !))) (look-in ! 16 (sub ! 0 refl (whole !)))) (load ! (from ! (stop !)) (look ! 6 refl)) tt) (from ! (stop !)) (init ! 4 refl (tt, tt)) $
-        rewrite ! 4 (λ (p : ℕ). ‵ (fat fullShare tyPtr l₇ 0 (vptr b-table p))) (sym (place-is 144 o-table r)) refl $
+        rewrite ! 4 (λ (p : ℕ). ‵ (fat fullShare tyPtr l₇ 0 (vptr b-table p))) (sym (place-is 168 o-table r)) refl $
         move ! (1 ∷ []) $ fsplit ! $ move ! (1 ∷ []) $ fsplit ! $ move ! (1 ∷ 3 ∷ []) $ looks-slice ! tt RecordT.the-row (Is RecordT.the-row) (shows 𝓤 H A RecordT.the-row) (LL.vals RecordT.the-type RecordL.the-laws) (LL.tells RecordT.the-type RecordL.the-laws) (LL.copy RecordT.the-type RecordL.the-copy 𝓤 H A W) ys-table b-table o-table (λ q′. elem-out ! RecordT.the-row (Is RecordT.the-row) (shows 𝓤 H A RecordT.the-row) (LL.vals RecordT.the-type RecordL.the-laws) (LL.tells RecordT.the-type RecordL.the-laws) q′ ys-table r zeroRecord b-table o-table (ltb→lt r (length ys-table) h) (λ g.
         assigns ! (of-opd ! (load ! (from ! (hop ! (look ! 9 refl) (stop !))) (look-raw ! 0 refl))) (from ! (stop !)) (init ! 7 refl (LL.lawful RecordT.the-type RecordL.the-laws 𝓤 H A W .typed (getD ys-table r zeroRecord) _ g .0)) $
         elem-back ! RecordT.the-row q′ ys-table r zeroRecord (RecordL.lowered (getD ys-table r zeroRecord) ∷ []) b-table o-table (ltb→lt r (length ys-table) h) $ shuts-slice ! tt RecordT.the-row q′ ys-table b-table o-table $ move ! (2 ∷ 1 ∷ []) $ fjoin ! $ move ! (2 ∷ 0 ∷ []) $ fjoin ! $

@@ -1,7 +1,7 @@
 -- `transmit::send` meets its contract. Assumes nothing.
+use borrow.Author.Needs.{needs}
 use mathlib.Core.Path.{sym, _∙_}
 use borrow.Author.Tests.{eq-eqb, ne-eqb}
-use borrow.Author.Needs.{needs}
 use Rattle.transmit.specs.Transmit.{sendOf}
 use Rattle.transmit.proofs.Laws.{sent-may}
 use Rattle.transmit.proofs.send.Statement.{statement}
@@ -23,26 +23,31 @@ returns c =
     let r = b .before in
     simp (← (r .before .forbids .ensures), ← (r .refusal .ensures), ne-eqb _ _ (b .if1 .taken), c .refused .ensures)
 
-outcome-of-requires : tie.Need-outcome-of-requires
-outcome-of-requires c κs = search needs
+waits-requires : tie.Need-waits-requires
+waits-requires c κs = search needs
+
+nothing-sent-requires : tie.Need-nothing-sent-requires
+nothing-sent-requires c κs = search needs
 
 returns-2 : tie.Need-returns-2
 unfolding sendOf
 returns-2 c =
     let t = c .before in
-    let e = t .before in
+    let w = t .before in
+    let e = w .before in
     let r = e .before in
     simp (
       ← (r .before .forbids .ensures),
       ← (r .refusal .ensures),
       eq-eqb _ _ (e .if1 .left),
-      eq-eqb _ _ (t .if2 .taken),
-      c .outcome-of .ensures,
+      ← (w .waits .ensures),
+      t .if2 .taken,
+      c .nothing-sent .ensures,
     )
 
 sent-requires : tie.Need-sent-requires
 sent-requires c κs =
-    let e = c .before in
+    let e = c .before .before in
     let r = e .before in
     let a = r .before .before .args in
     sent-may (a .n) (a .active) (a .rec) _ (sym (r .refusal .ensures) ∙ e .if1 .left)
@@ -51,13 +56,15 @@ returns-3 : tie.Need-returns-3
 unfolding sendOf
 returns-3 c =
     let t = c .before in
-    let e = t .before in
+    let w = t .before in
+    let e = w .before in
     let r = e .before in
     simp (
       ← (r .before .forbids .ensures),
       ← (r .refusal .ensures),
       eq-eqb _ _ (e .if1 .left),
-      ne-eqb _ _ (t .if2 .left),
+      ← (w .waits .ensures),
+      t .if2 .left,
       c .sent .ensures,
     )
 
@@ -69,7 +76,8 @@ send-spec =
     refusal-requires
     refused-requires
     returns
-    outcome-of-requires
+    waits-requires
+    nothing-sent-requires
     returns-2
     sent-requires
     returns-3)

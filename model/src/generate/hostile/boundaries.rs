@@ -191,7 +191,11 @@ impl Bench {
                 let told = self.random.below(2) as u16;
                 self.list.record(2, with_marks(c, 64 * told));
                 let bytes = self.random.bytes(length as usize);
-                self.list.send(2, bytes);
+                if self.random.chance(1, 4) {
+                    self.list.urgent(2, bytes);
+                } else {
+                    self.list.send(2, bytes);
+                }
                 if self.random.chance(1, 3) {
                     // Once more, with B as it now stands.
                     let bytes = self.random.bytes(3);
@@ -432,6 +436,7 @@ impl Bench {
         for _ in 0..150 {
             let slot = self.any_slot(elements);
             let c = self.coherent_record(n);
+            let c = self.with_places(c, n);
             let c = with_marks(c, self.random.below(512) as u16);
             self.list.record(slot as usize, c);
             match self.random.below(8) {

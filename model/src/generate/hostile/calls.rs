@@ -9,6 +9,7 @@ use crate::smcr::*;
 #[derive(Clone, Copy, Debug, PartialEq, Eq)]
 pub(super) enum SlotCall {
     Send,
+    Urgent,
     Place,
     Read,
     Shutdown,
@@ -16,8 +17,9 @@ pub(super) enum SlotCall {
     Abort,
 }
 
-pub(super) const SLOT_CALLS: [SlotCall; 6] = [
+pub(super) const SLOT_CALLS: [SlotCall; 7] = [
     SlotCall::Send,
+    SlotCall::Urgent,
     SlotCall::Place,
     SlotCall::Read,
     SlotCall::Shutdown,
@@ -28,7 +30,7 @@ pub(super) const SLOT_CALLS: [SlotCall; 6] = [
 /// Marks that forbid a call (refusal 7) in a coherent record.
 pub(super) fn forbidding_marks(call: SlotCall) -> &'static [u16] {
     match call {
-        SlotCall::Send => &[1, 2, 32, 8, 1 + 4, 2 + 4, 1 + 8, 3, 16 + 1],
+        SlotCall::Send | SlotCall::Urgent => &[1, 2, 32, 8, 1 + 4, 2 + 4, 1 + 8, 3, 16 + 1],
         SlotCall::Place => &[32, 4, 8, 12, 1 + 4, 2 + 4],
         SlotCall::Read => &[2, 32, 3, 2 + 4, 16 + 2],
         SlotCall::Shutdown => &[1, 2, 32, 3, 1 + 4, 1 + 8, 16 + 1],
@@ -40,7 +42,7 @@ pub(super) fn forbidding_marks(call: SlotCall) -> &'static [u16] {
 /// Marks that allow a call.
 pub(super) fn allowing_marks(call: SlotCall) -> &'static [u16] {
     match call {
-        SlotCall::Send => &[0, 4, 16, 20],
+        SlotCall::Send | SlotCall::Urgent => &[0, 4, 16, 20],
         SlotCall::Place => &[0, 1, 2, 3, 16, 17, 18, 19],
         SlotCall::Read => &[0, 1, 4, 5, 8, 9, 12, 13, 16, 17, 20, 21],
         SlotCall::Shutdown => &[0, 4, 8, 12, 16, 20, 24, 28],
@@ -59,15 +61,17 @@ impl Bench {
         barred: bool,
     ) {
         let line = match call {
-            SlotCall::Send => {
+            SlotCall::Send | SlotCall::Urgent => {
                 let length = match self.random.below(4) {
                     0 => 0,
                     1 => self.random.between(1, 60),
                     _ => self.random.between(1, 8),
                 };
-                Line::Send {
-                    slot,
-                    bytes: self.random.bytes(length as usize),
+                let bytes = self.random.bytes(length as usize);
+                if call == SlotCall::Urgent {
+                    Line::Urgent { slot, bytes }
+                } else {
+                    Line::Send { slot, bytes }
                 }
             }
             SlotCall::Place => {

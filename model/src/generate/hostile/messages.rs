@@ -63,7 +63,7 @@ impl Bench {
                     break marks;
                 }
             };
-            c = with_marks(c, marks);
+            c = with_marks(self.with_places(c, n), marks);
             self.list.record(slot, c);
             let mut bytes = self.fitting_message(&c, n).write().to_vec();
             match round {

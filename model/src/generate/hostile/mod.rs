@@ -12,6 +12,7 @@ mod messages;
 mod pairs;
 mod records;
 mod tables;
+mod urgent;
 
 use super::{gauges, pool, setup, List};
 use crate::random::Random;
@@ -52,6 +53,8 @@ pub fn list(seed: u64, count: Option<usize>) -> Vec<u8> {
         Bench::place_boundaries,
         Bench::send_boundaries,
         Bench::addresses,
+        Bench::urgent_sends,
+        Bench::urgent_heard,
         Bench::read_boundaries,
         Bench::close_boundaries,
         Bench::full_turns,

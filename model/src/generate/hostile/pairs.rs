@@ -32,7 +32,7 @@ impl Bench {
         let mut c = if has(3) {
             self.broken_record(&base, n, has(6))
         } else {
-            base
+            self.with_places(base, n)
         };
         let own_bits = (self.random.below(8) * 64) as u16;
         let close_marks = if has(7) {
@@ -88,7 +88,7 @@ impl Bench {
         let mut c = if has(3) {
             self.broken_record(&base, n, has(6))
         } else {
-            base
+            self.with_places(base, n)
         };
         if !has(3) {
             let marks = *self

@@ -117,6 +117,44 @@ pub(super) fn broken_records(base: &Connection, n: i64) -> Vec<Connection> {
             ..*base
         },
     ];
+    // Urgent places: at R, before it, just beyond Q, at 3 and at N'; likewise at C.
+    let q = base.producer;
+    let n_of_peer = base.n_peer();
+    for place in [
+        base.peer_consumer,
+        step_back(base.peer_consumer, 1, n_of_peer),
+        step(q, 1, n_of_peer),
+        at(q.offset, q.wrap.wrapping_add(2)),
+    ] {
+        let urgent_sent = Some(place);
+        all.push(Connection {
+            urgent_sent,
+            ..*base
+        });
+    }
+    for place in [
+        base.consumer,
+        step_back(base.consumer, 1, n),
+        step(base.peer_producer, 1, n),
+        at(base.consumer.offset, base.consumer.wrap.wrapping_add(2)),
+    ] {
+        let urgent_heard = Some(place);
+        all.push(Connection {
+            urgent_heard,
+            ..*base
+        });
+    }
+    for (offset, place) in [(3, at(3, 1)), (n_peer, at(n_peer, 0)), (0, at(0, 0))] {
+        all.push(Connection {
+            urgent_sent: Some(place),
+            ..writing(at(4, 1), at(4, 0))
+        });
+        let place = at(if offset == n_peer { n32 } else { offset }, place.wrap);
+        all.push(Connection {
+            urgent_heard: Some(place),
+            ..reading(at(4, 1), at(4, 0), at(4, 0))
+        });
+    }
     for link in [0, 5, 255] {
         all.push(Connection { link, ..*base });
     }
@@ -237,6 +275,30 @@ impl Bench {
         }
     }
 
+    /// Urgent places that a coherent record may have, here and there.
+    pub(super) fn with_places(&mut self, mut c: Connection, n: i64) -> Connection {
+        let written = distance(c.peer_consumer, c.producer, c.n_peer());
+        if written > 0 && self.random.chance(1, 3) {
+            let ahead = self.place_ahead(written);
+            c.urgent_sent = Some(step(c.peer_consumer, ahead, c.n_peer()));
+        }
+        let unread = c.unread(n);
+        if unread > 0 && self.random.chance(1, 2) {
+            let ahead = self.place_ahead(unread);
+            c.urgent_heard = Some(step(c.consumer, ahead, n));
+        }
+        c
+    }
+
+    /// How far a place is ahead: 1 to `most`, often an end.
+    pub(super) fn place_ahead(&mut self, most: i64) -> i64 {
+        match self.random.below(3) {
+            0 => 1,
+            1 => most,
+            _ => self.random.between(1, most),
+        }
+    }
+
     /// A closed record that holds anything.
     pub(super) fn junk_record(&mut self, own_token: u32) -> Connection {
         let mut record = self.coherent_record(16);
@@ -261,6 +323,8 @@ impl Bench {
             producer: step(c.peer_producer, ahead, n),
             consumer: step(c.peer_consumer, consumed, c.n_peer()),
             blocked: self.random.chance(1, 3),
+            urgent_pending: self.random.chance(1, 5),
+            urgent_present: self.random.chance(1, 5),
             update_requested: self.random.chance(1, 3),
             ..Message::default()
         }

@@ -13,36 +13,26 @@ who-of-requires c κs = search needs
 cursors-of-requires : tie.Need-cursors-of-requires
 cursors-of-requires c κs = search needs
 
-number-requires-2 : tie.Need-number-requires-2
-number-requires-2 c κs = search needs
-
-number-requires-3 : tie.Need-number-requires-3
-number-requires-3 c κs = search needs
-
-number-requires-4 : tie.Need-number-requires-4
-number-requires-4 c κs = search needs
+counts-of-requires : tie.Need-counts-of-requires
+counts-of-requires c κs = search needs
 
 remote-requires : tie.Need-remote-requires
 remote-requires c κs = search needs
 
-cast-record-of : tie.Need-cast-record-of
-cast-record-of c = search needs
-
-cast-record-of-2 : tie.Need-cast-record-of-2
-cast-record-of-2 c = search needs
+places-of-requires : tie.Need-places-of-requires
+places-of-requires c κs = search needs
 
 record-of-requires : tie.Need-record-of-requires
 record-of-requires c κs = search needs
 
-cast-t23 : tie.Need-cast-t23
-cast-t23 c = search needs
+cast-t19 : tie.Need-cast-t19
+cast-t19 c = search needs
 
 returns : tie.Need-returns
 returns c =
-    let r = c .before .before .before .before .before .before .before in
-    let m = r .before .before in
-    let l = m .before .before in
-    let n = l .before .before in
+    let u = c .before .before .before .before .before in
+    let r = u .before .before in
+    let n = r .before .before in
     let k = n .before .before in
     let h = k .before .before in
     let s = h .before .before in
@@ -51,10 +41,9 @@ returns c =
       s .number .ensures,
       h .who-of .ensures,
       k .cursors-of .ensures,
-      n .number2 .ensures .0,
-      l .number3 .ensures .0,
-      m .number4 .ensures .0,
+      n .counts-of .ensures,
       r .remote .ensures,
+      u .places-of .ensures,
     )
 
 pub record-spec : {M : Type 1} → statement M
@@ -64,12 +53,9 @@ record-spec =
     number-requires
     who-of-requires
     cursors-of-requires
-    number-requires-2
-    number-requires-3
-    number-requires-4
+    counts-of-requires
     remote-requires
-    cast-record-of
-    cast-record-of-2
+    places-of-requires
     record-of-requires
-    cast-t23
+    cast-t19
     returns)

@@ -1,0 +1,12 @@
+-- `connection::pending` meets its contract. Assumes nothing.
+use mathlib.Core.Path.{refl}
+use Rattle.connection.specs.Connection.{pendingOf}
+use Rattle.connection.proofs.pending.Statement.{statement}
+use Rattle.connection.proofs.pending.Tie as tie
+
+returns : tie.Need-returns
+unfolding pendingOf
+returns c = refl
+
+pub pending-spec : {M : Type 1} → statement M
+pending-spec = tie.close (tie.spec returns)

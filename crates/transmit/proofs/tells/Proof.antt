@@ -1,0 +1,12 @@
+-- `transmit::tells` meets its contract. Assumes nothing.
+use mathlib.Core.Path.{refl}
+use Rattle.transmit.specs.Transmit.{tellsOf}
+use Rattle.transmit.proofs.tells.Statement.{statement}
+use Rattle.transmit.proofs.tells.Tie as tie
+
+returns : tie.Need-returns
+unfolding tellsOf
+returns c = refl
+
+pub tells-spec : {M : Type 1} → statement M
+tells-spec = tie.close (tie.spec returns)
