@@ -5,6 +5,8 @@
 set -eu
 cd "$(dirname "$0")/../.."
 copy=$PWD/target/calls
+below="cursor cdc llc closing gauge flow element connection transmit pieces receive hear finish table rules calls management group"
+below="$below gathering"
 rm -rf "$copy/crates"
 mkdir -p "$copy"
 cp -r crates tools "$copy/"
@@ -12,12 +14,16 @@ cp -r bench/calls/group_c "$copy/crates/"
 find "$copy/crates/group_c" -name '*.in' | while read -r f; do mv "$f" "${f%.in}"; done
 rm -rf "$copy"/crates/*/must-fail
 {
-    grep -E '^(cursor|cdc|llc|closing|gauge|flow|element|connection|transmit|receive|hear|finish|table|rules|calls|management|group):' crates.txt
-    echo "group_c: cursor cdc llc closing gauge flow element connection transmit receive hear finish table rules calls management group"
+    for name in $below; do grep "^$name:" crates.txt; done
+    echo "group_c: $below"
 } >"$copy/crates.txt"
-for name in cursor:Cursor closing:Side closing:Marks connection:Identity connection:RToken connection:Remote connection:Inbound \
-    connection:Outbound connection:Record; do
+for name in cursor:Cursor closing:Side closing:Marks connection:Identity connection:RToken connection:Remote connection:Urgent \
+    connection:Inbound connection:Outbound connection:Record; do
     sed -i "s/^pub struct ${name#*:} {/#[repr(C)]\n&/" "$copy/crates/${name%:*}/src/lib.rt"
 done
-(cd "$copy" && tools/walk group_c group_call && rt staticlib group_c) >target/calls.log 2>&1 || { tail -20 target/calls.log; exit 1; }
-RUSTFLAGS="-L native=$copy/target/staticlib" CARGO_TARGET_DIR="$PWD/target/bench" cargo run --quiet --release --manifest-path bench/calls/Cargo.toml
+(cd "$copy" && tools/walk group_c group_call && tools/walk group_c group_gather && rt staticlib group_c) >target/calls.log 2>&1 || {
+    tail -20 target/calls.log
+    exit 1
+}
+export RUSTFLAGS="-L native=$copy/target/staticlib" CARGO_TARGET_DIR="$PWD/target/bench"
+cargo run --quiet --release --manifest-path bench/calls/Cargo.toml

@@ -529,6 +529,23 @@ pub struct Sent {
     pub message: Option<Bytes44>,
 }
 
+/// A piece of a head-and-body send (2026-08): "a part of the head or a part of
+/// the body". The last one is empty and stands at the new Q.
+#[derive(Clone, Debug, PartialEq, Eq)]
+pub struct Piece {
+    pub key: u32,
+    pub address: u64,
+    pub bytes: Vec<u8>,
+}
+
+/// What a head-and-body send answers.
+#[derive(Clone, Debug, PartialEq, Eq)]
+pub struct Gathered {
+    pub taken: i64,
+    pub pieces: Vec<Piece>,
+    pub message: Option<Bytes44>,
+}
+
 /// What read answers; the bytes read stand in the out buffer.
 #[derive(Clone, Debug, PartialEq, Eq)]
 pub enum ReadAnswer {
@@ -610,6 +627,23 @@ impl Group {
             bytes.len() as i64,
             true,
         ))
+    }
+
+    /// **Gather** (2026-08), slot, head and body: "a send that takes both as if
+    /// joined, head first". "Refusals, n, record and message equal those of a
+    /// plain send of the joined bytes."
+    pub fn gather(&mut self, slot: u32, head: &[u8], body: &[u8]) -> Result<Gathered, u8> {
+        let joined = [head, body].concat();
+        let before = slot
+            .checked_sub(1)
+            .and_then(|index| self.table.get(index as usize).copied());
+        let sent = self.send(slot, &joined)?;
+        let from = before.unwrap_or_default();
+        Ok(Gathered {
+            taken: sent.taken,
+            pieces: pieces(&from, head, body, sent.taken as usize),
+            message: sent.message,
+        })
     }
 
     /// **Place**, slot, offset, bytes: what the card does for the peer.
@@ -783,6 +817,36 @@ fn placing(c: &Connection, offset: i64, start: i64, length: i64) -> Placing {
         address: address(c, offset),
         start,
         length,
+    }
+}
+
+/// "Its pieces are handed back one at a time, each with its offset and an empty
+/// one, at the new Q, after the last: the next piece is a part of the head or a
+/// part of the body [...] as long as n, its buffer and the room before the
+/// element's end allow." The record is the one before the send.
+fn pieces(c: &Connection, head: &[u8], body: &[u8], taken: usize) -> Vec<Piece> {
+    let key = c.keys[usize::from(c.link) - 1];
+    let mut at = c.producer;
+    let mut done = 0;
+    let mut pieces = Vec::new();
+    loop {
+        let rest = if done < head.len() {
+            &head[done..]
+        } else {
+            &body[done - head.len()..]
+        };
+        let room = (c.n_peer() - i64::from(at.offset)) as usize;
+        let length = (taken - done).min(rest.len()).min(room);
+        pieces.push(Piece {
+            key,
+            address: address(c, i64::from(at.offset)),
+            bytes: rest[..length].to_vec(),
+        });
+        if length == 0 {
+            return pieces;
+        }
+        done += length;
+        at = step(at, length as i64, c.n_peer());
     }
 }
 

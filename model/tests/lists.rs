@@ -55,6 +55,20 @@ enum Flight {
     Message(Bytes44),
 }
 
+/// What the card writes: offsets and bytes.
+type Writes = Vec<(u32, Vec<u8>)>;
+
+/// How many bytes a send took, what it writes where, and its message.
+fn parts(sent: Sent, bytes: &[u8]) -> (i64, Writes, Option<Bytes44>) {
+    let part = |placing: &Placing| {
+        let start = placing.start as usize;
+        let end = start + placing.length as usize;
+        (placing.address as u32, bytes[start..end].to_vec())
+    };
+    let writes = sent.placings.iter().map(part).collect();
+    (sent.taken, writes, sent.message)
+}
+
 #[test]
 fn what_is_read_is_what_was_sent() {
     for seed in 0..30 {
@@ -74,14 +88,23 @@ fn what_is_read_is_what_was_sent() {
                 0 => {
                     let length = random.between(0, i64::from(size)) as usize;
                     let bytes = random.bytes(length);
-                    let answer = group.send(slot, &bytes).unwrap();
-                    sent[side].extend_from_slice(&bytes[..answer.taken as usize]);
-                    for placing in &answer.placings {
-                        let start = placing.start as usize;
-                        let part = bytes[start..start + placing.length as usize].to_vec();
-                        flights[other].push_back(Flight::Write(placing.address as u32, part));
+                    let (taken, writes, message) = match random.below(4) {
+                        0 => parts(group.urgent(slot, &bytes).unwrap(), &bytes),
+                        1 => {
+                            let at = random.below(length as u64 + 1) as usize;
+                            let (head, body) = bytes.split_at(at);
+                            let gathered = group.gather(slot, head, body).unwrap();
+                            let pieces = gathered.pieces.into_iter();
+                            let writes = pieces.map(|piece| (piece.address as u32, piece.bytes));
+                            (gathered.taken, writes.collect(), gathered.message)
+                        }
+                        _ => parts(group.send(slot, &bytes).unwrap(), &bytes),
+                    };
+                    sent[side].extend_from_slice(&bytes[..taken as usize]);
+                    for (offset, part) in writes {
+                        flights[other].push_back(Flight::Write(offset, part));
                     }
-                    flights[other].extend(answer.message.map(Flight::Message));
+                    flights[other].extend(message.map(Flight::Message));
                 }
                 1 => match flights[side].pop_front() {
                     Some(Flight::Write(offset, bytes)) => {
@@ -105,7 +128,7 @@ fn what_is_read_is_what_was_sent() {
             }
         }
         for side in 0..2 {
-            assert!(read[side].len() > 200, "seed {seed}");
+            assert!(read[side].len() > 100, "seed {seed}");
             assert_eq!(read[side][..], sent[side][..read[side].len()]);
         }
     }

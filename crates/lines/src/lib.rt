@@ -1,4 +1,5 @@
-// A line of the input: a call with its numbers, one of the seven lines that are no calls, a line of the pool or one on setting up.
+// A line of the input: a call with its numbers, a send of a head and a body, one of the seven lines that are no calls, a line of the pool
+// or one on setting up.
 ghost use Prim.Native.Nat.{_-_, _≤_};
 use call_text::CallVerb;
 use connection::Record;
@@ -21,6 +22,8 @@ pub enum Line {
     Group(u32, u32, usize, usize),
     // how many bytes are lent beside the call, and how many of out
     Call(Command, usize, usize),
+    // a slot, and how many bytes of the head and of the body
+    Gather(u32, usize, usize),
     // a slot, and what to lay there
     Record(usize, Record),
     // where, and how many bytes
@@ -47,6 +50,7 @@ const MOST: u32 = 4294967295;
 enum Verb {
     Group,
     Call(CallVerb),
+    Gather,
     Record,
     Poke,
     Table,
@@ -119,6 +123,9 @@ fn call_verb(letters: &[u8; 8], count: usize) -> Verb
     }
     if is(letters, count, b"urgent") {
         return Verb::Call(CallVerb::Urgent);
+    }
+    if is(letters, count, b"gather") {
+        return Verb::Gather;
     }
     if is(letters, count, b"place") {
         return Verb::Call(CallVerb::Place);
@@ -295,6 +302,13 @@ fn call_line(buf: &mut [u8; 65536], given: &mut [u8], c: Scan, verb: CallVerb) -
     ended(buf, p.scan, Line::Call(command, p.count, p.room))
 }
 
+fn gather_line(buf: &mut [u8; 65536], given: &mut [u8], body: &mut [u8], c: Scan) -> Parsed
+    ensures { λ r. ⌜ r .scan .left ≤ c .left - 1 ⌝ }
+{
+    let p = gather_text::parse(buf, given, body, c);
+    ended(buf, p.scan, Line::Gather(p.slot, p.head, p.body))
+}
+
 fn pool_line(buf: &mut [u8; 65536], given: &mut [u8], c: Scan, verb: PoolVerb) -> Parsed
     ensures { λ r. ⌜ r .scan .left ≤ c .left - 1 ⌝ }
 {
@@ -311,12 +325,13 @@ fn setup_line(buf: &mut [u8; 65536], given: &mut [u8], c: Scan, verb: SetupVerb)
     ended(buf, p.scan, Line::Setup(line))
 }
 
-fn line_of(buf: &mut [u8; 65536], given: &mut [u8], c: Scan, verb: Verb) -> Parsed
+fn line_of(buf: &mut [u8; 65536], given: &mut [u8], body: &mut [u8], c: Scan, verb: Verb) -> Parsed
     ensures { λ r. ⌜ r .scan .left ≤ c .left - 1 ⌝ }
 {
     match verb {
         Verb::Group => group_line(buf, c),
         Verb::Call(v) => call_line(buf, given, c, v),
+        Verb::Gather => gather_line(buf, given, body, c),
         Verb::Record => record_line(buf, c),
         Verb::Poke => poke_line(buf, given, c),
         Verb::Table => ended(buf, c, Line::Table),
@@ -329,8 +344,8 @@ fn line_of(buf: &mut [u8; 65536], given: &mut [u8], c: Scan, verb: Verb) -> Pars
     }
 }
 
-// The line that begins here, with the start of the next; its bytes go to `given`, from its start on.
-pub fn parse(buf: &mut [u8; 65536], given: &mut [u8], c: Scan) -> Parsed
+// The line that begins here, with the start of the next; its bytes go to `given`, from its start on, and its second bytes to `body`.
+pub fn parse(buf: &mut [u8; 65536], given: &mut [u8], body: &mut [u8], c: Scan) -> Parsed
     ensures { λ r. ⌜ r .scan .left ≤ c .left - 1 ⌝ }
 {
     if (c.byte == b'\n') | (c.byte == b'#') {
@@ -343,5 +358,5 @@ pub fn parse(buf: &mut [u8; 65536], given: &mut [u8], c: Scan) -> Parsed
     let mut letters = [0u8; 8];
     let w = input::word(buf, &mut letters, c);
     let verb = verb_of(&letters, w.count);
-    line_of(buf, given, w.scan, verb)
+    line_of(buf, given, body, w.scan, verb)
 }

@@ -3,7 +3,7 @@
 use mathlib.Core.Path.{_≡_, refl, _∙_}
 use mathlib.Core.Logic.{_⊎_, inl, inr}
 use mathlib.Core.Bool.{Bool, true, false, false≢true, _&&_, _||_, cond}
-use mathlib.Core.List.{List, []}
+use mathlib.Core.List.{List, [], _++_}
 use Prim.Native.Nat.{ℕ, _+_, _≤_}
 use native.Mathlib.Omega.{arith}
 use lib.Dec.{leb, eqb}
@@ -25,7 +25,7 @@ use Rattle.transmit.specs.Transmit.{sendOf, sentOf, producedOf, urgedOf, urgent
 use Rattle.receive.specs.Receive.{placeOf, mayPlace, placeForbids, readOf, takeOf, tornOf, consumedOf}
 use Rattle.hear.specs.Hear.{ruledOf, hearOf, abortedOf, followedOf, acceptedOf, heardRecord}
 use Rattle.finish.specs.Finish.{resetOf, closingOf, shutdownOf, closeOf, abortOf}
-use Rattle.rules.specs.Rules.{Request, send, urgent, place, read, shutdown, close, abort, Call, on, hear, manage, Turn, turnOf, requestTurn, hearTurn, placedIn}
+use Rattle.rules.specs.Rules.{Request, send, gather, urgent, place, read, shutdown, close, abort, Call, on, hear, manage, Turn, turnOf, requestTurn, hearTurn, placedIn}
 
 -- the record d is left of c
 abbrev pub Left : Record → Record → Type 0
@@ -141,6 +141,7 @@ module _ (n : ℕ) (a : Bool) (c : Record) (e : List ℕ) where
   unfolding requestTurn
   request-left (send b) = turn-left _ _ _ (send-keeps c n a (length b))
   request-left (urgent b) = turn-left _ _ _ (urgent-keeps c n a (length b))
+  request-left (gather h b) = turn-left _ _ _ (send-keeps c n a (length (h ++ b)))
   request-left (place at b) = turn-left _ _ _ (place-keeps c n a at (length b))
   request-left (read out) = turn-left _ _ _ (read-keeps c n a _ (length out))
   request-left shutdown = turn-left _ _ _ (shutdown-keeps c n a)
@@ -162,6 +163,7 @@ module _ (n : ℕ) (a : Bool) (c : Record) (e : List ℕ) where
     unfolding requestTurn turnOf
     request-long (send b) = long
     request-long (urgent b) = long
+    request-long (gather h b) = long
     request-long (place at b) = place-length n a c e long at b
     request-long (read out) = long
     request-long shutdown = long

@@ -19,7 +19,7 @@ use Rattle.transmit.specs.Transmit.{sendForbids, nOf, rtokenOf, placingOf, prod
 use Rattle.table.specs.Table.{sizesB, slotB, recordAt, openB, activeB, gaugeAt, holdsB, lowest, findFrom, withRecord, withLink, linkSet}
 use Rattle.connection.specs.declared.Opening.{Opening}
 use Rattle.connection.specs.Connection.{openedRecord}
-use Rattle.rules.specs.Rules.{Group, send, openSlot, linkChange, Call, on, manage, Says, accepted, sent, Answer, turnOf, requestTurn, refuses, putTurn, onDoes, openRefusal, openDoes, linkDoes, next, Fresh}
+use Rattle.rules.specs.Rules.{Group, send, gather, openSlot, linkChange, Call, on, manage, Says, accepted, sent, Answer, turnOf, requestTurn, refuses, putTurn, onDoes, openRefusal, openDoes, linkDoes, next, Fresh}
 use Rattle.order.specs.Statement.{answers, leaves, At, Whose, the-manager, connection, ownerOf, whoseFrom, whose, AnotherOrder, Made, none-made, one-made, SameOutcome}
 use Rattle.order.proofs.Theorem.{sentence3}
 

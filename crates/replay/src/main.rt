@@ -2,11 +2,9 @@
 // what is printed is fixed by the replay format; what a call answers is the group's alone. Lines are parsed by `lines`, answers printed by
 // `answers`, both over the streams of `stream`; a record's numbers are read and printed by `records`, a gauge's by `gauge_text`.
 //
-// Five buffers are lent throughout: `mem` the receive memory, `given` the bytes of a line, `out` the out buffer of a read, `buf` the
-// input and `o` the output.
-ghost use mathlib.Core.Path.{_≡_};
+// Six buffers are lent throughout: `mem` the receive memory, `given` the bytes of a line, `body` the second bytes of a line, `out` the out
+// buffer of a read, `buf` the input and `o` the output.
 ghost use Prim.Native.Nat.{_≤_};
-ghost use Rattle.group.specs.Group.{OutKept};
 use connection::Record;
 use gauge::Gauge;
 use group::Command;
@@ -16,7 +14,6 @@ use records::print;
 use setup_text::SetupLine;
 use stream::input;
 use stream::output;
-use table::Answered;
 use table::Links;
 
 // The group as the last call left it, its memory aside, of which it has the first `len` bytes; of the table it has the first `count` rows.
@@ -55,41 +52,6 @@ fn copy(to: &mut [u8], from: &[u8]) {
         to[i] = from[i];
         i += 1;
     }
-}
-
-// A table, and what a call on it answered.
-struct Made {
-    table: [Record; records::ROWS],
-    answer: Answered,
-}
-
-fn beside(table: [Record; records::ROWS], answer: Answered) -> Made
-    ensures { λ r. ⌜ r .answer ≡ answer ⌝ }
-{
-    Made {
-        table: table,
-        answer: answer,
-    }
-}
-
-// Makes the call on the first `count` rows, which are lent. The proof is a walk, as that of every caller of `make`.
-fn on_rows(
-    table: [Record; records::ROWS],
-    count: usize,
-    s: u32,
-    n: u32,
-    mem: &mut [u8],
-    links: Links,
-    command: Command,
-    bytes: &[u8],
-    out: &mut [u8],
-) -> Made
-    ensures { λ r. ⌜ OutKept command (now (out .entry)) (now (out .exit)) ⌝ }
-{
-    let k = records::rows(count);
-    let mut rows = table;
-    let answer = group::make(s, n, mem, &mut rows[..k], links, command, bytes, out);
-    beside(rows, answer)
 }
 
 // A fresh group: every slot all zeros, every link down, every gauge cleared. The pool and the
@@ -169,7 +131,7 @@ fn call(
     let table = w.table;
     let links = w.links;
     fill(out, 165);
-    let a = on_rows(table, w.count, w.s, w.n, mem, links, command, bytes, out);
+    let a = rows::on_rows(table, w.count, w.s, w.n, mem, links, command, bytes, out);
     let said = a.answer;
     let after = a.table;
     let left = said.links;
@@ -203,6 +165,47 @@ fn lent(
         w,
         command,
     )
+}
+
+// Sends a head and a body, and prints its answer.
+fn gather<'a>(
+    mem: &[u8],
+    head: &'a [u8],
+    body: &'a [u8],
+    o: &mut [u8; 65536],
+    w: World,
+    slot: u32,
+) -> World {
+    let table = w.table;
+    let links = w.links;
+    let a = gather_text::on_rows(table, w.count, w.s, w.n, mem, links, slot, head, body);
+    let said = a.gathered;
+    let after = a.table;
+    let answer = said.answer;
+    let left = answer.links;
+    let at = gather_text::answer(o, w.at, said, head, body);
+    let mut next = w;
+    next.table = after;
+    next.links = left;
+    next.at = at;
+    next
+}
+
+// The same, with what it is lent: LEN bytes of memory, the head and the body.
+fn gather_line<'a>(
+    mem: &[u8],
+    given: &'a [u8],
+    body: &'a [u8],
+    o: &mut [u8; 65536],
+    w: World,
+    slot: u32,
+    h: usize,
+    b: usize,
+) -> World {
+    let len = least(w.len, mem.len());
+    let k = least(h, given.len());
+    let l = least(b, body.len());
+    gather(&mem[0..len], &given[0..k], &body[0..l], o, w, slot)
 }
 
 // Lays a record into a slot from 1 to COUNT.
@@ -329,9 +332,10 @@ fn aside(mem: &mut [u8], given: &[u8], o: &mut [u8; 65536], w: World, line: Line
     }
 }
 
-fn act(
+fn act<'a>(
     mem: &mut [u8],
-    given: &[u8],
+    given: &'a [u8],
+    body: &'a [u8],
     out: &mut [u8],
     o: &mut [u8; 65536],
     w: World,
@@ -339,6 +343,7 @@ fn act(
 ) -> World {
     match line {
         Line::Call(command, count, room) => lent(mem, given, out, o, w, command, count, room),
+        Line::Gather(slot, h, b) => gather_line(mem, given, body, o, w, slot, h, b),
         Line::Setup(l) => setup_line(given, out, o, w, l),
         _ => aside(mem, given, o, w, line),
     }
@@ -347,6 +352,7 @@ fn act(
 fn run(
     mem: &mut [u8],
     given: &mut [u8],
+    body: &mut [u8],
     out: &mut [u8],
     buf: &mut [u8; 65536],
     o: &mut [u8; 65536],
@@ -354,10 +360,10 @@ fn run(
     let mut w = first();
     let mut scan = input::begin(buf);
     while 0 < scan.left {
-        let p = lines::parse(buf, given, scan);
+        let p = lines::parse(buf, given, body, scan);
         let line = p.line;
         scan = p.scan;
-        w = act(mem, given, out, o, w, line);
+        w = act(mem, given, body, out, o, w, line);
     }
     output::flush(o, w.at);
 }
@@ -366,18 +372,20 @@ fn run(
 fn start(
     mem: &mut [u8; 1048704],
     given: &mut [u8; 70000],
+    body: &mut [u8; 70000],
     out: &mut [u8; 65600],
     buf: &mut [u8; 65536],
     o: &mut [u8; 65536],
 ) {
-    run(mem, given, out, buf, o);
+    run(mem, given, body, out, buf, o);
 }
 
 fn main() {
     let mut mem = [0u8; 1048704];
     let mut given = [0u8; 70000];
+    let mut body = [0u8; 70000];
     let mut out = [0u8; 65600];
     let mut buf = [0u8; 65536];
     let mut o = [0u8; 65536];
-    start(&mut mem, &mut given, &mut out, &mut buf, &mut o);
+    start(&mut mem, &mut given, &mut body, &mut out, &mut buf, &mut o);
 }

@@ -1,3 +1,4 @@
 -- `Memory`: the element of a slot in the memory. `Settled`: what a call on one record promises, from what its refusals and its step gave.
 pub mod Memory
 pub mod Settled
+pub mod Joined

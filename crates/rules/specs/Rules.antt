@@ -1,11 +1,11 @@
--- Document 01's rules for a whole group: what each of the thirteen calls answers, and the group that it leaves.
+-- Document 01's rules for a whole group: what each call answers, and the group that it leaves.
 -- The contracts of the calls cite `Did`, which is `answer` and `next`; the theorems about lists of calls cite these and `Fresh`, and, for
 -- whose a call is and what it sees, `recordOf`, `elementIn`, `linkOf` and `holderOf`.
 -- Assumes nothing.
 use Prim.Native.Nat.{ℕ}
 use mathlib.Core.Path.{_≡_}
 use mathlib.Core.Bool.{Bool, true, false, _&&_, _||_, not, cond}
-use mathlib.Core.List.{List, [], _∷_}
+use mathlib.Core.List.{List, [], _∷_, _++_}
 use lib.Dec.{ltb, leb, eqb}
 use lib.ListN.{length, replicate}
 use Rattle.cursor.specs.declared.Cursor.{Cursor}
@@ -34,6 +34,7 @@ use Rattle.connection.specs.declared.Effect.the-variants.{Nothing, Stores, Copi
 use Rattle.connection.specs.declared.Outcome.{Outcome}
 use Rattle.connection.specs.Connection.{zeroRecord, openedRecord, noMessage, remoteOk, coherentB, effectOf}
 use Rattle.transmit.specs.Transmit.{sendOf, urgentSendOf}
+use Rattle.pieces.specs.Pieces.{Piece, piecesOf}
 use Rattle.receive.specs.Receive.{placeOf, readOf}
 use Rattle.hear.specs.Hear.{hearOf}
 use Rattle.finish.specs.Finish.{shutdownOf, closeOf, abortOf}
@@ -67,10 +68,11 @@ linksOf g = record { active = g .links; gauges = g .gauges }
 
 -- THE CALLS, each with all bytes lent to it.
 
--- of a connection, on its slot. A read is lent an out buffer
+-- of a connection, on its slot. A read is lent an out buffer, a gather (document 02, 2026-08) a head and a body
 pub data Request : Type 0 where
   send : List ℕ → Request
   urgent : List ℕ → Request
+  gather : List ℕ → List ℕ → Request
   place : ℕ → List ℕ → Request
   read : List ℕ → Request
   shutdown : Request
@@ -98,6 +100,7 @@ pub data Says : Type 0 where
   refusal : ℕ → Says
   accepted : Says
   sent : ℕ → List Placing → Says
+  gathered : ℕ → List Piece → Says
   wasRead : ℕ → Says
   torn : Says
   heard : ℕ → State → Says
@@ -154,9 +157,33 @@ readInto Nothing c e out = out
 readInto Stores c e out = out
 readInto (Copies n) c e out = intoOut e (c .offset) n out
 
+-- Gather: refusals, n, record and message are those of a send of the joined bytes, head first; where that names placings, it names pieces
+abbrev pub inPieces : (ℕ → List Piece) → Says → Says
+inPieces pieces (refusal k) = refusal k
+inPieces pieces accepted = accepted
+inPieces pieces (sent n p) = gathered n (pieces n)
+inPieces pieces (gathered n p) = gathered n p
+inPieces pieces (wasRead n) = wasRead n
+inPieces pieces torn = torn
+inPieces pieces (heard moved state) = heard moved state
+inPieces pieces reset = reset
+inPieces pieces (sampled health) = sampled health
+
+abbrev pub answerInPieces : (ℕ → List Piece) → Answer → Answer
+answerInPieces pieces a = record { says = inPieces pieces (a .says); made = a .made; message = a .message; out = a .out }
+
+abbrev pub sendTurn : ℕ → Bool → Record → List ℕ → List ℕ → Turn
+sendTurn n active c e b = turnOf (sendOf n active c (length b)) e []
+
+abbrev pub gatherTurn : ℕ → Bool → Record → List ℕ → List ℕ → List ℕ → Turn
+gatherTurn n active c e head body =
+    let t = sendTurn n active c e (head ++ body) in
+    record { answer = answerInPieces (piecesOf c head body) (t .answer); after = t .after; element = t .element }
+
 unfoldable pub requestTurn : ℕ → Bool → Record → List ℕ → Request → Turn
-requestTurn n active c e (send b) = turnOf (sendOf n active c (length b)) e []
+requestTurn n active c e (send b) = sendTurn n active c e b
 requestTurn n active c e (urgent b) = turnOf (urgentSendOf n active c (length b)) e []
+requestTurn n active c e (gather head body) = gatherTurn n active c e head body
 requestTurn n active c e (place at b) =
     let o = placeOf n active c at (length b) in turnOf o (placedIn (effectOf (o .reply)) e at b) []
 requestTurn n active c e (read out) =
@@ -203,6 +230,7 @@ putTurn g k t =
 abbrev pub outOf : Request → List ℕ
 outOf (send b) = []
 outOf (urgent b) = []
+outOf (gather head body) = []
 outOf (place at b) = []
 outOf (read out) = out
 outOf shutdown = []

@@ -13,7 +13,7 @@ use Rattle.transmit.specs.Transmit.{sendOf, sentOf, urgentOf, urgentSendOf}
 use Rattle.receive.specs.Receive.{placeOf, readOf, takeOf}
 use Rattle.hear.specs.Hear.{ruledOf, hearOf, abortedOf, followedOf, acceptedOf}
 use Rattle.finish.specs.Finish.{resetOf, closingOf, shutdownOf, closeOf, abortOf}
-use Rattle.rules.specs.Rules.{Says, refusal, accepted, sent, wasRead, torn, reset, heard, sampled, saysOf}
+use Rattle.rules.specs.Rules.{Says, refusal, accepted, sent, gathered, wasRead, torn, reset, heard, sampled, saysOf}
 use Rattle.safety.specs.Statement.{acceptedB}
 
 -- from an equation of two constructors
@@ -132,6 +132,7 @@ pub says-accepted : (s : Says) → acceptedB s ≡ true → s ≡ accepted
 says-accepted (refusal k) e = absurd (false≢true e)
 says-accepted accepted e = refl
 says-accepted (sent n p) e = absurd (false≢true e)
+says-accepted (gathered n p) e = absurd (false≢true e)
 says-accepted (wasRead n) e = absurd (false≢true e)
 says-accepted torn e = absurd (false≢true e)
 says-accepted (heard moved state) e = absurd (false≢true e)

@@ -9,7 +9,7 @@ use lib.Dec.{eqb}
 use borrow.Author.Tests.{eqb-true, eqb-false}
 use Rattle.element.specs.Element.{splice, freshElement}
 use Rattle.connection.specs.declared.Opening as Given
-use Rattle.rules.specs.Rules.{Request, send, urgent, place, read, shutdown, close, abort, openSlot, freeSlot, linkChange, linkMessage, sample, Call, on, hear, manage}
+use Rattle.rules.specs.Rules.{Request, send, gather, urgent, place, read, shutdown, close, abort, openSlot, freeSlot, linkChange, linkMessage, sample, Call, on, hear, manage}
 use Rattle.safety.specs.Statement.{placedBy, changedBy}
 use Rattle.safety.proofs.Answers.{clash}
 
@@ -35,6 +35,7 @@ module _ (n k : ℕ) (e : List ℕ) where
       puts : (q : Request) → Puts q
       puts (send b) = inl (refl, λ at b p. clash (cc))
       puts (urgent b) = inl (refl, λ at b p. clash (cc))
+      puts (gather h b) = inl (refl, λ at b p. clash (cc))
       puts (place at b) = inr (at, b, refl, refl)
       puts (read out) = inl (refl, λ at b p. clash (cc))
       puts shutdown = inl (refl, λ at b p. clash (cc))

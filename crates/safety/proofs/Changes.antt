@@ -7,7 +7,7 @@ use native.Mathlib.Omega.{arith}
 use lib.ListN.{length}
 use Rattle.table.specs.declared.Links.{Links}
 use Rattle.table.specs.Table.{recordAt, withRecord, withLink, linkSet}
-use Rattle.rules.specs.Rules.{linksOf, Group, Call, Turn, Done, does, answer, refuses, putTurn, recordOf, sizesOk, on, requestTurn, next, elementIn, linkOf, close, hearTurn, turnOf, saysOf, refusal, heard, Answer, holderOf, sent, Request, hear}
+use Rattle.rules.specs.Rules.{linksOf, Group, Call, Turn, Done, does, answer, refuses, putTurn, recordOf, sizesOk, on, requestTurn, next, elementIn, linkOf, close, hearTurn, turnOf, saysOf, refusal, heard, Answer, holderOf, sent, gathered, Request, hear}
 use Rattle.order.proofs.Slots.{slot-in, record-other, table-long, memory-long, open-in, open-is, open-there, record-same}
 use Rattle.safety.specs.Changes.{OneTurned, OneRecord, SetsLink, LinksByLinkChange, HeardFor, Closes, ClosedBy, Forward, NeverBack, by-close, by-hear, by-abort, by-free, AbortAnswer, AbortHeard, slotOf, Closing}
 use Rattle.safety.proofs.Effects.{Acts, Effect, refuses-it, answers-it, sets-link, samples-it, puts-turn, effect, opens, open-facts, free-facts, asks, hears, frees}

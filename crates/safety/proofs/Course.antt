@@ -3,7 +3,7 @@
 use mathlib.Core.Path.{_≡_, refl, sym, ap, _∙_}
 use mathlib.Core.Logic.{_⊎_, inl, inr}
 use mathlib.Core.Bool.{Bool, true, false, false≢true, _&&_, _||_, not, cond}
-use mathlib.Core.List.{List}
+use mathlib.Core.List.{List, _++_}
 use Prim.Native.Nat.{ℕ, _-_}
 use lib.Dec.{ltb, eqb}
 use lib.ListN.{length}
@@ -24,7 +24,7 @@ use Rattle.receive.specs.Receive.{unreadOf, placeOf, readOf, takeOf, tornOf, co
 use Rattle.hear.specs.Hear.{ruledOf, nextB, producerB, consumerB, hearOf, abortedOf, followedOf, acceptedOf, heardRecord, heardIn, heardOut}
 use Rattle.hear.proofs.Laws.{Produces, Consumes, producer-rules, consumer-rules}
 use Rattle.finish.specs.Finish.{resetOf, closingOf, shutdownOf, closeForbids, closeOf, abortOf}
-use Rattle.rules.specs.Rules.{Request, send, urgent, place, read, shutdown, close, abort, Says, accepted, saysOf, turnOf, requestTurn, hearTurn, refusal, heard}
+use Rattle.rules.specs.Rules.{Request, send, gather, urgent, place, read, shutdown, close, abort, Says, accepted, saysOf, turnOf, requestTurn, hearTurn, refusal, heard}
 use Rattle.safety.proofs.Answers.{clash}
 use Rattle.closing.specs.declared.State.{State}
 
@@ -87,6 +87,11 @@ module _ (n : ℕ) (c : Record) (Why : Reply → Type 0) (not-refused : (k : ℕ
   shut true o w h = record { course = ends (w refl) refl }
   shut false o w h = h refl
 
+-- the same, of a reason that is none
+because : {n : ℕ} {c d : Record} {Why Other : Type 0} → (Other → ⊥) → (Why → ⊥) → Course n c Why d → Course n c Other d
+because none was (goes w h) = goes none h
+because none was (ends w e) = absurd (was w)
+
 -- CALLS ON A SLOT: of these close alone ends it, where C was heard
 abbrev pub ClosesSlot : Record → Request → Says → Type 0
 ClosesSlot c q says = (q ≡ close) × (says ≡ accepted) × (c .marks .heard .closed ≡ true)
@@ -141,6 +146,8 @@ module _ (n : ℕ) (a : Bool) (c : Record) where
   unfolding requestTurn turnOf
   request-course e (send b) = send-leaves (send b) (λ r w. let z = w .0 in clash (cc)) (length b) .course
   request-course e (urgent b) = urgent-leaves (urgent b) (λ r w. let z = w .0 in clash (cc)) (length b) .course
+  request-course e (gather h b) =
+      because (λ w. let z = w .0 in clash (cc)) (λ w. let z = w .0 in clash (cc)) (send-leaves (gather h b) (λ r w. let z = w .0 in clash (cc)) (length (h ++ b)) .course)
   request-course e (place at b) = place-leaves (place at b) (λ r w. let z = w .0 in clash (cc)) at (length b) .course
   request-course e (read out) = read-leaves (read out) (λ r w. let z = w .0 in clash (cc)) _ (length out) .course
   request-course e shutdown = shutdown-leaves shutdown (λ r w. let z = w .0 in clash (cc)) .course

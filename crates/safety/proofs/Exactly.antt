@@ -2,7 +2,7 @@
 use mathlib.Core.Path.{_≡_, refl, sym, ap, _∙_}
 use mathlib.Core.Bool.{Bool, true, false, _&&_, _||_, not, cond, and-true, and-false, and-assoc, or-false, or-assoc}
 use mathlib.Core.Option.{Option, some, none}
-use mathlib.Core.List.{List, [], _∷_}
+use mathlib.Core.List.{List, [], _∷_, _++_}
 use Prim.Native.Nat.{ℕ, zero, suc, _+_, _-_, _*_, _/_, _%_}
 use native.Mathlib.Omega.{arith}
 use lib.Dec.{ltb, leb, eqb}
@@ -39,15 +39,18 @@ use Rattle.gauge.specs.Gauge.{mostMs, sampledOf}
 use Rattle.table.specs.Table.{sizesB, slotB, openB, activeB, gaugeAt, findFrom, gaugeSet}
 use Rattle.connection.specs.declared.Opening.{Opening}
 use Rattle.table.specs.Table.{linkIn}
-use Rattle.rules.specs.Rules.{Group, Request, send, urgent, place, read, shutdown, close, abort, openSlot, freeSlot, linkChange, linkMessage, sample, Call, on, hear, manage, Says, refusal, accepted, sent, wasRead, torn, reset, heard, sampled, saysOf, turnOf, requestTurn, hearTurn, Done, refuses, answer, sizesOk, recordOf, elementIn, linkOf, putTurn, onDoes, holderOf, hearAt, hearMessage, hearDoes, openRefusal, openDoes, freeRefusal, freeDoes, linkDoes, linkAnswer, linkMessageDoes, linksOf, withLinks, healthy, sampleRefusal, sampleDoes, does, badOpening}
+use Rattle.pieces.specs.Pieces.{piecesOf}
+use Rattle.rules.specs.Rules.{Group, Request, send, gather, urgent, place, read, shutdown, close, abort, openSlot, freeSlot, linkChange, linkMessage, sample, Call, on, hear, manage, Says, refusal, accepted, sent, gathered, wasRead, torn, reset, heard, sampled, saysOf, turnOf, requestTurn, hearTurn, Done, refuses, answer, sizesOk, recordOf, elementIn, linkOf, putTurn, onDoes, holderOf, hearAt, hearMessage, hearDoes, openRefusal, openDoes, freeRefusal, freeDoes, linkDoes, linkAnswer, linkMessageDoes, linksOf, withLinks, healthy, sampleRefusal, sampleDoes, does, badOpening}
 use Rattle.safety.specs.Refusals.{outside, sizesWrong, slotOutside, slotClosed, incoherent, byteIs, malformedLink, tokenUnheld, connectionDown, linkDown, stateForbids, aborting, notAborting, producerBroken, consumerBroken, byteFree, unplaceable, alreadyOpen, tokenHeld, zeroOrOut, linkOutside, otherNamed, tooLong, Test, _when_, placeTest, tests, firstOf, Exactly, ExactlyWhen}
 use Rattle.safety.proofs.Answers.{clash}
+use Rattle.safety.proofs.Gathered.{carried}
 
 -- the number of a refusal
 abbrev number : Says → Option ℕ
 number (refusal k) = some k
 number accepted = none
 number (sent n p) = none
+number (gathered n p) = none
 number (wasRead n) = none
 number torn = none
 number (heard moved state) = none
@@ -58,6 +61,7 @@ number-is : (s : Says) (k : ℕ) → number s ≡ some k → s ≡ refusal k
 number-is (refusal j) k e = cc
 number-is accepted k e = cc
 number-is (sent n p) k e = cc
+number-is (gathered n p) k e = cc
 number-is (wasRead n) k e = cc
 number-is torn k e = cc
 number-is (heard moved state) k e = cc
@@ -68,6 +72,7 @@ unnumbered : (s : Says) → ((k : ℕ) → s ≡ refusal k → ⊥) → number s
 unnumbered (refusal k) h = absurd (h k refl)
 unnumbered accepted h = refl
 unnumbered (sent n p) h = refl
+unnumbered (gathered n p) h = refl
 unnumbered (wasRead n) h = refl
 unnumbered torn h = refl
 unnumbered (heard moved state) h = refl
@@ -340,6 +345,11 @@ request-first : (g : Group) (k : ℕ) (q : Request)
 unfolding requestTurn turnOf sendForbids placeForbids readForbids shutdownForbids closeForbids
 request-first g k (send b) = send-first (g .N) (linkOf g k) (recordOf g k) (length b) _ (simp or-assoc)
 request-first g k (urgent b) = urgent-first (g .N) (linkOf g k) (recordOf g k) (length b) _ (simp or-assoc)
+request-first g k (gather h b) =
+    let c = recordOf g k in
+    let first = firstOf (3 when incoherent g k ∷ 6 when connectionDown g k ∷ 7 when stateForbids g k (gather h b) ∷ []) in
+    carried (piecesOf c h b) (λ (s : Says). number s ≡ first) (λ n p q e. e) (saysOf (sendOf (g .N) (linkOf g k) c (length (h ++ b)) .reply))
+    (send-first (g .N) (linkOf g k) c (length (h ++ b)) _ (simp or-assoc))
 request-first g k (place at b) =
     place-first (g .N) (linkOf g k) (recordOf g k) at (length b) _ _ (simp or-assoc) (placeable g k at (length b))
 request-first g k (read out) = read-first (g .N) (linkOf g k) (recordOf g k) (intactB (elementIn g k)) (length out) _ refl

@@ -3,7 +3,7 @@
 use mathlib.Core.Path.{_≡_, refl, sym, ap, _∙_}
 use mathlib.Core.Logic.{_⊎_, inl, inr}
 use mathlib.Core.Bool.{Bool, true, false, cond}
-use mathlib.Core.List.{List}
+use mathlib.Core.List.{List, _++_}
 use Prim.Native.Nat.{ℕ, _-_}
 use Rattle.cursor.specs.Cursor.{gapOf, stepOf}
 use Rattle.cdc.specs.declared.Message.{Message}
@@ -17,7 +17,9 @@ use Rattle.receive.specs.Receive.{placeOf, readOf, takeOf, tornOf, consumedOf, 
 use Rattle.hear.specs.Hear.{ruledOf, hearOf, heardRecord, abortedOf, followedOf, acceptedOf, heardIn}
 use Rattle.hear.proofs.Laws.{Produces, aborted-shut, repliedTo, hear-cases, accepted-is}
 use Rattle.finish.specs.Finish.{resetOf, closingOf, shutdownOf, closeOf, abortOf}
-use Rattle.rules.specs.Rules.{Says, saysOf, refusal, accepted, Request, read, turnOf, requestTurn, send, urgent, place, shutdown, close, abort, hearTurn, heard, torn, reset, sampled, sent, wasRead, Turn}
+use Rattle.connection.specs.declared.Placing.{Placing}
+use Rattle.pieces.specs.Pieces.{Piece, piecesOf}
+use Rattle.rules.specs.Rules.{Says, saysOf, refusal, accepted, Request, read, turnOf, requestTurn, send, gather, urgent, place, shutdown, close, abort, hearTurn, heard, torn, reset, sampled, sent, gathered, wasRead, Turn}
 use Rattle.flow.specs.Flow.{takenOf}
 use Rattle.connection.specs.declared.Inbound.{Inbound}
 use Rattle.closing.specs.declared.State.the-variants.{PeerAbortWait}
@@ -26,6 +28,7 @@ use Rattle.cursor.proofs.Laws.{step-none}
 use lib.ListN.{length}
 use Rattle.connection.proofs.Laws.{outcome-reply, closed-reply}
 use Rattle.cursor.specs.declared.Cursor.{Cursor}
+use Rattle.safety.proofs.Gathered.{carried}
 
 -- `New` says which cursors P may be replaced by
 pub record Steps (n : ℕ) (c : Record) (New : Cursor → Type 0) (says : Says) (made : Bool) (d : Record) : Type 0 where
@@ -138,11 +141,20 @@ module _ (n : ℕ) (a : Bool) (c : Record) (e : List ℕ) where
   abbrev pub Turned : (Cursor → Type 0) → Turn → Type 0
   Turned New t = (t .after ≡ zeroRecord) ⊎ Steps n c New (t .answer .says) (t .answer .made) (t .after)
 
+  as-sent : (New : Cursor → Type 0) (made : Bool) (d : Record) (m : ℕ) (p : List Placing) (q : List Piece)
+      → (d ≡ zeroRecord) ⊎ Steps n c New (sent m p) made d → (d ≡ zeroRecord) ⊎ Steps n c New (gathered m q) made d
+  as-sent New made d m p q (inl z) = inl z
+  as-sent New made d m p q (inr s) = inr (record { C-steps = s .C-steps; T-tells = s .T-tells; P-moves = s .P-moves })
+
   -- no call but hear moves P, so to nothing
   pub request-steps : (New : Cursor → Type 0) (q : Request) → Turned New (requestTurn n a c e q)
   unfolding requestTurn turnOf
   request-steps New (send b) = send-goes n c New a (length b) .steps
   request-steps New (urgent b) = urgent-goes n c New a (length b) .steps
+  request-steps New (gather h b) =
+      let o = sendOf n a c (length (h ++ b)) in
+      carried (piecesOf c h b) (λ (s : Says). (o .after ≡ zeroRecord) ⊎ Steps n c New s (o .made) (o .after)) (as-sent New (o .made) (o .after))
+      (saysOf (o .reply)) (send-goes n c New a (length (h ++ b)) .steps)
   request-steps New (place at b) = place-goes n c New a at (length b) .steps
   request-steps New (read out) = read-goes n c New a _ (length out) .steps
   request-steps New shutdown = shutdown-goes n c New a .steps
@@ -213,6 +225,7 @@ module _ (n : ℕ) (a : Bool) (c : Record) where
   reader q out p (refusal k) = inl refl
   reader q out p accepted = inl refl
   reader q out p (sent k l) = inl refl
+  reader q out p (gathered k l) = inl refl
   reader q out p (wasRead k) = inr (out, p, refl)
   reader q out p torn = inl refl
   reader q out p (heard moved state) = inl refl
@@ -223,6 +236,9 @@ module _ (n : ℕ) (a : Bool) (c : Record) where
   unfolding requestTurn turnOf
   request-reader e (send b) = inl (send-unread (length b) .none-read)
   request-reader e (urgent b) = inl (urgent-unread (length b) .none-read)
+  request-reader e (gather h b) =
+      inl (carried (piecesOf c h b) (λ (s : Says). readIn s ≡ 0) (λ n p q r. r) (saysOf (sendOf n a c (length (h ++ b)) .reply))
+      (send-unread (length (h ++ b)) .none-read))
   request-reader e (place at b) = inl (place-unread at (length b) .none-read)
   request-reader e (read out) = reader (read out) out refl _
   request-reader e shutdown = inl (shutdown-unread .none-read)

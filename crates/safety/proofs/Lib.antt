@@ -14,6 +14,7 @@ pub mod Course
 pub mod Changes
 pub mod Refusals
 pub mod Answers
+pub mod Gathered
 pub mod Invariant
 pub mod Changed
 pub mod Turns
@@ -26,6 +27,7 @@ pub mod Reader
 pub mod Own
 pub mod Theorem
 pub mod Progress
+pub mod Gather
 pub mod Dropped
 pub mod Exactly
 pub mod Places

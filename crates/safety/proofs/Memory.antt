@@ -17,7 +17,7 @@ use Rattle.connection.specs.declared.Reply.the-variants.{Refused, Accepted, Sen
 use Rattle.receive.specs.Receive.{placeOf}
 use Rattle.receive.proofs.Laws.{Placeable, place-accepted}
 use Rattle.connection.specs.Connection.{effectOf}
-use Rattle.rules.specs.Rules.{Group, Request, send, urgent, place, read, shutdown, close, abort, Call, on, accepted, Turn, turnOf, requestTurn, hearTurn, saysOf, placedIn, Done, does, answer, refuses, putTurn, recordOf, elementIn, linkOf, sizesOk}
+use Rattle.rules.specs.Rules.{Group, Request, send, gather, urgent, place, read, shutdown, close, abort, Call, on, accepted, Turn, turnOf, requestTurn, hearTurn, saysOf, placedIn, Done, does, answer, refuses, putTurn, recordOf, elementIn, linkOf, sizesOk}
 use Rattle.order.proofs.Slots.{slot-in, element-long, Sizes, sizes-in}
 use Rattle.safety.specs.Changes.{InElement, MayChange, by-place, by-open, BytesByPlaceAndOpen}
 use Rattle.safety.proofs.Effects.{Acts, asks, hears, opens, frees, Effect, refuses-it, answers-it, sets-link, samples-it, puts-turn, effect}
@@ -38,6 +38,7 @@ module _ (n : ℕ) (a : Bool) (c : Record) (e : List ℕ) where
   unfolding requestTurn turnOf
   puts-in (send b) = inl refl
   puts-in (urgent b) = inl refl
+  puts-in (gather h b) = inl refl
   puts-in (place at b) = go (placeOf n a c at (length b) .reply) (place-accepted n a c at (length b))
     where
       go : (r : Reply) → (r ≡ Accepted → Placeable n (c .inbound) at (length b))

@@ -14,7 +14,7 @@ use borrow.Author.Tests.{eqb-true, eq-eqb, ne-eqb, le-ltb}
 use Rattle.receive.proofs.Laws.{Placeable, place-accepted}
 use Rattle.connection.specs.declared.Opening as Given
 use Rattle.connection.specs.Connection.{effectOf, openedRecord}
-use Rattle.rules.specs.Rules.{accepted, Group, Request, read, on, turnOf, requestTurn, Done, answer, next, refuses, putTurn, recordOf, elementIn, linkOf, send, urgent, place, shutdown, close, abort, Says, saysOf, hearTurn, refusal, Call, Turn, does, openSlot, freeSlot, linkChange, linkMessage, sample, hear, manage, sizesOk, placedIn, Answer}
+use Rattle.rules.specs.Rules.{accepted, Group, Request, read, on, turnOf, requestTurn, Done, answer, next, refuses, putTurn, recordOf, elementIn, linkOf, send, gather, urgent, place, shutdown, close, abort, Says, saysOf, hearTurn, refusal, Call, Turn, does, openSlot, freeSlot, linkChange, linkMessage, sample, hear, manage, sizesOk, placedIn, Answer}
 use Rattle.safety.specs.Statement.{acceptedB, OpenAt, ownOf}
 use Rattle.safety.proofs.Invariant.{Sound, sizes}
 use Rattle.safety.proofs.Effects.{opens, open-facts, Acts, asks, hears, frees, Effect, refuses-it, answers-it, sets-link, samples-it, puts-turn, effect}
@@ -74,6 +74,7 @@ module _ (n : ℕ) (a : Bool) (c : Record) (e : List ℕ) where
   unfolding requestTurn turnOf
   request-stores (send b) = stores-none n c e _
   request-stores (urgent b) = stores-none n c e _
+  request-stores (gather h b) = stores-none n c e _
   request-stores (place at b) = go (placeOf n a c at (length b) .reply) (place-accepted n a c at (length b))
     where
       go : (r : Reply) → (r ≡ Accepted → Placeable n (c .inbound) at (length b))

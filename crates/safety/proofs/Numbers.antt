@@ -26,18 +26,20 @@ use Rattle.closing.specs.Closing.{doneSent, closedSent, abortSent, marksHeard}
 use Rattle.hear.specs.Hear.{nextB, producerB, consumerB, heardIn, heardRecord, abortedOf, acceptedOf, ruledOf, followedOf, hearOf}
 use Rattle.hear.proofs.Laws.{aborted-shut, accepted-is, accepted-reply, shutBy, repliedTo}
 use Rattle.finish.specs.Finish.{resetOf, closingOf, shutdownOf, closeOf, abortOf}
-use Rattle.rules.specs.Rules.{Group, Request, send, urgent, place, read, shutdown, close, abort, openSlot, freeSlot, linkChange, linkMessage, sample, Call, on, hear, manage, Says, refusal, saysOf, Turn, turnOf, requestTurn, hearTurn, Done, does, answer, next, refuses, putTurn, recordOf, elementIn, linkOf, sizesOk, holderOf}
+use Rattle.pieces.specs.Pieces.{piecesOf}
+use Rattle.rules.specs.Rules.{Group, Request, send, gather, urgent, place, read, shutdown, close, abort, openSlot, freeSlot, linkChange, linkMessage, sample, Call, on, hear, manage, Says, refusal, saysOf, Turn, turnOf, requestTurn, hearTurn, Done, does, answer, next, refuses, putTurn, recordOf, elementIn, linkOf, sizesOk, holderOf}
 use Rattle.table.specs.Table.{recordAt}
 use Rattle.order.specs.Statement.{leaves}
 use Rattle.order.proofs.Near.{enough}
 use Rattle.order.proofs.Slots.{slot-in, open-in, open-is, record-same}
 use Rattle.safety.specs.Statement.{OpenAt, acceptedB}
-use Rattle.safety.specs.Numbers.{Taken, nothingYet, refusedB, sendsA, asked, countsB, withNumber, withMessage, takenAfter, takenFrom, firstNumber, countedFrom, InOrder, NumbersInOrder}
+use Rattle.safety.specs.Numbers.{Taken, nothingYet, refusedB, brokenB, sendsA, asked, countsB, withNumber, withMessage, takenAfter, takenFrom, firstNumber, countedFrom, InOrder, NumbersInOrder}
 use Rattle.safety.proofs.Effects.{Acts, asks, hears, opens, frees, Effect, refuses-it, answers-it, sets-link, samples-it, puts-turn, effect}
 use Rattle.safety.proofs.Acted.{acts-slot, acts-in, acts-high}
 use Rattle.safety.proofs.Changes.{one-record}
 use Rattle.safety.proofs.Invariant.{Sound}
 use Rattle.safety.proofs.Sound.{sound-fresh, sound-next}
+use Rattle.safety.proofs.Gathered.{carried}
 
 -- ONE NUMBER MORE
 counted-more : (a n : ℕ) → countedFrom a n ++ ((a + n) % 65536 ∷ []) ≡ countedFrom a (suc n)
@@ -69,6 +71,7 @@ record Leaves (q : Request) (c : Record) (o : Outcome) : Type 0 where
 no-refusal : (q : Request) (k : ℕ) → sendsA q (refusal k) ≡ false
 no-refusal (send b) k = refl
 no-refusal (urgent b) k = refl
+no-refusal (gather h b) k = refl
 no-refusal (place at b) k = refl
 no-refusal (read out) k = refl
 no-refusal shutdown k = refl
@@ -134,6 +137,10 @@ module _ (n : ℕ) (a : Bool) (c : Record) where
   unfolding requestTurn turnOf
   request-last e (send b) = send-leaves b .last
   request-last e (urgent b) = urgent-leaves b .last
+  request-last e (gather h b) =
+      let o = sendOf n a c (length (h ++ b)) in
+      carried (piecesOf c h b) (λ (s : Says). Last (c .inbound .last) (brokenB s || c .marks .abort) (o .after)) (λ n p q l. l)
+      (saysOf (o .reply)) (send-leaves (h ++ b) .last)
   request-last e (place at b) = place-leaves at b .last
   request-last e (read out) = read-leaves out _ .last
   request-last e shutdown = shutdown-leaves .last

@@ -1,7 +1,7 @@
 -- `RefusedKeeps` of specs/Refusals, by one walk of each call's tests. Assumes nothing.
 use mathlib.Core.Path.{_≡_, refl, sym, ap, _∙_}
 use mathlib.Core.Bool.{Bool, true, false, false≢true, cond}
-use mathlib.Core.List.{List, [], _∷_}
+use mathlib.Core.List.{List, [], _∷_, _++_}
 use Prim.Native.Nat.{ℕ, zero, suc}
 use lib.Dec.{eqb}
 use lib.ListN.{length, take, drop, take-append-drop}
@@ -23,8 +23,10 @@ use Rattle.receive.specs.Receive.{placeOf, readOf, takeOf, tornOf}
 use Rattle.hear.specs.Hear.{ruledOf, hearOf, abortedOf, followedOf, acceptedOf}
 use Rattle.finish.specs.Finish.{resetOf, closingOf, shutdownOf, closeOf, abortOf}
 use Rattle.table.specs.Table.{recordAt, withRecord}
-use Rattle.rules.specs.Rules.{Group, Request, send, urgent, place, read, shutdown, close, abort, openSlot, freeSlot, linkChange, linkMessage, sample, Call, on, hear, manage, Says, refusal, accepted, sent, wasRead, torn, reset, heard, sampled, saysOf, turnOf, placedIn, readInto, requestTurn, hearTurn, Done, refuses, recordOf, elementIn, linkOf, putTurn, outOf, onDoes, holderOf, hearAt, hearMessage, hearDoes, openDoes, freeDoes, linkDoes, linkAnswer, linkMessageDoes, sampleDoes, does}
+use Rattle.pieces.specs.Pieces.{piecesOf}
+use Rattle.rules.specs.Rules.{Group, Request, send, gather, urgent, place, read, shutdown, close, abort, openSlot, freeSlot, linkChange, linkMessage, sample, Call, on, hear, manage, Says, refusal, accepted, sent, gathered, wasRead, torn, reset, heard, sampled, saysOf, answerInPieces, turnOf, placedIn, readInto, requestTurn, hearTurn, Done, refuses, recordOf, elementIn, linkOf, putTurn, outOf, onDoes, holderOf, hearAt, hearMessage, hearDoes, openDoes, freeDoes, linkDoes, linkAnswer, linkMessageDoes, sampleDoes, does}
 use Rattle.safety.specs.Refusals.{lentOut, RefusedKeeps}
+use Rattle.safety.proofs.Gathered.{refused-in}
 
 -- PUTTING BACK WHAT WAS THERE changes nothing, whatever the table and the memory
 drop-taken : (n : ℕ) (l : List ℕ) → drop (length (take n l)) l ≡ drop n l
@@ -51,6 +53,7 @@ abbrev refusalB : Says → Bool
 refusalB (refusal k) = true
 refusalB accepted = false
 refusalB (sent n p) = false
+refusalB (gathered n p) = false
 refusalB (wasRead n) = false
 refusalB torn = false
 refusalB (heard moved state) = false
@@ -114,10 +117,23 @@ module _ (g : Group) (j : ℕ) where
       → Refuses g [] (λ d. d) (putTurn g j (turnOf o e []))
   quiet o p = settled g j [] (λ r. e) (λ r. []) (λ k. (refl, refl)) o p
 
+  -- a gather refuses where the send of the joined bytes does, and as that does
+  joined : (h b : List ℕ) → Refuses g [] (λ d. d) (putTurn g j (requestTurn (g .N) (linkOf g j) (recordOf g j) e (send (h ++ b))))
+      → Refuses g [] (λ d. d) (putTurn g j (requestTurn (g .N) (linkOf g j) (recordOf g j) e (gather h b)))
+  unfolding requestTurn putTurn turnOf refuses
+  joined h b s =
+      let f = piecesOf (recordOf g j) h b in
+      record {
+        only =
+            λ k r.
+            ap (λ (d : Done). record { answer = answerInPieces f (d .answer); group = d .group }) (s .only k (refused-in f _ k r));
+      }
+
   request : (q : Request) → Refuses g (outOf q) (λ d. d) (putTurn g j (requestTurn (g .N) (linkOf g j) (recordOf g j) e q))
   unfolding requestTurn sendOf sentOf urgentSendOf urgentOf placeOf readOf takeOf tornOf shutdownOf closeOf resetOf closingOf abortOf
   request (send b) = quiet _ (search walk depth 9)
   request (urgent b) = quiet _ (search walk depth 9)
+  request (gather h b) = joined h b (quiet _ (search walk depth 9))
   request (place at b) = settled g j [] (λ r. placedIn (effectOf r) e at b) (λ r. []) (λ k. (refl, refl)) _ (search walk depth 9)
   request (read out) =
       settled g j out (λ r. e) (λ r. readInto (effectOf r) (recordOf g j .inbound .consumer) e out) (λ k. (refl, refl)) _ (search walk depth 9)

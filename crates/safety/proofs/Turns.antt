@@ -3,7 +3,7 @@
 use mathlib.Core.Path.{_≡_, refl, sym, ap, _∙_}
 use mathlib.Core.Logic.{_⊎_, inl, inr}
 use mathlib.Core.Bool.{Bool, true, false, cond}
-use mathlib.Core.List.{List, []}
+use mathlib.Core.List.{List, [], _++_}
 use Prim.Native.Nat.{ℕ}
 use native.Mathlib.Omega.{arith}
 use lib.ListN.{length}
@@ -23,10 +23,12 @@ use Rattle.hear.specs.Hear.{hearOf}
 use Rattle.hear.proofs.Laws.{hear-coherent}
 use Rattle.finish.specs.Finish.{shutdownOf, closeOf, abortOf}
 use Rattle.finish.proofs.Laws.{shutdown-coherent, close-coherent, abort-coherent}
-use Rattle.rules.specs.Rules.{Request, send, urgent, place, read, shutdown, close, abort, refusal, torn, reset, saysOf, Turn, turnOf, requestTurn, hearTurn, placedIn}
+use Rattle.pieces.specs.Pieces.{piecesOf}
+use Rattle.rules.specs.Rules.{Request, send, gather, urgent, place, read, shutdown, close, abort, refusal, torn, reset, saysOf, inPieces, Turn, turnOf, requestTurn, hearTurn, placedIn}
 use Rattle.safety.specs.Statement.{acceptedB, placedBy}
 use Rattle.safety.proofs.Answers.{Answers, fair-3, fair-torn, send-answers, urgent-answers, place-answers, read-answers, hear-answers, shutdown-answers, close-answers, abort-answers}
 use Rattle.safety.proofs.Lists.{splice-none}
+use Rattle.safety.proofs.Gathered.{refused-in, torn-in}
 
 -- the turn of an element of n bytes; `now` is what it must hold after
 pub record Kept (n : ℕ) (now : List ℕ) (t : Turn) : Type 0 where
@@ -86,6 +88,17 @@ module _ (n : ℕ) (a : Bool) (c : Record) (e : List ℕ) (long : length e ≡ n
   request (send b) = still n e (sendOf n a c (length b)) [] eye (send-answers n a c ok (length b)) (inr (send-coherent n a c (length b) ok))
   request (urgent b) =
       still n e (urgentSendOf n a c (length b)) [] eye (urgent-answers n a c ok (length b)) (inr (urgent-coherent n a c (length b) ok))
+  request (gather h b) =
+      let o = sendOf n a c (length (h ++ b)) in
+      let f = piecesOf c h b in
+      let w = send-answers n a c ok (length (h ++ b)) .fair in
+      record {
+        kept-record = inr (send-coherent n a c (length (h ++ b)) ok);
+        kept-eye = eye;
+        kept-held = sym (same (acceptedB (inPieces f (saysOf (o .reply)))) e);
+        not-3 = λ r. fair-3 (o .reply) w (refused-in f (saysOf (o .reply)) 3 r);
+        not-torn = λ r. fair-torn (o .reply) w (torn-in f (saysOf (o .reply)) r);
+      }
   request (place at b) =
       let o = placeOf n a c at (length b) in
       let f = place-answers n a c ok at (length b) .fair in

@@ -2,7 +2,7 @@
 use mathlib.Core.Path.{_≡_, refl, sym, ap, _∙_}
 use mathlib.Core.Logic.{_⊎_, inl, inr}
 use mathlib.Core.Bool.{Bool, true, false, false≢true, _||_, cond}
-use mathlib.Core.List.{List, [], _∷_}
+use mathlib.Core.List.{List, [], _∷_, _++_}
 use Prim.Native.Nat.{ℕ, zero, suc, _<_}
 use native.Mathlib.Omega.{arith}
 use native.Mathlib.Decide.{ℕ-discrete}
@@ -21,7 +21,7 @@ use Rattle.receive.specs.Receive.{placeOf, readOf, takeOf, tornOf, consumedOf}
 use Rattle.hear.specs.Hear.{hearOf, abortedOf, followedOf, ruledOf, acceptedOf, heardRecord, heardOut}
 use Rattle.finish.specs.Finish.{resetOf, closingOf, shutdownOf, closeOf, abortOf}
 use Rattle.table.specs.Table.{recordAt, openB}
-use Rattle.rules.specs.Rules.{Group, Request, send, urgent, place, read, shutdown, close, abort, Call, on, refusal, sent, Turn, turnOf, requestTurn, hearTurn, Done, does, answer, next, refuses, putTurn, onDoes, outOf, recordOf, elementIn, linkOf, sizesOk}
+use Rattle.rules.specs.Rules.{Group, Request, send, urgent, gather, place, read, shutdown, close, abort, Call, on, refusal, sent, Turn, turnOf, requestTurn, hearTurn, Done, does, answer, next, refuses, putTurn, onDoes, outOf, recordOf, elementIn, linkOf, sizesOk}
 use Rattle.order.proofs.Near.{enough}
 use Rattle.order.specs.Statement.{leaves}
 use Rattle.order.proofs.Slots.{slot-in, open-in, open-is, open-there, record-same}
@@ -157,6 +157,7 @@ module _ (c : Record) where
     unfolding requestTurn turnOf
     request-kept e (send b) = send-keeps (length b) .kept
     request-kept e (urgent b) = urgent-send-keeps (length b) .kept
+    request-kept e (gather head body) = send-keeps (length (head ++ body)) .kept
     request-kept e (place at b) = place-keeps at (length b) .kept
     request-kept e (read out) = read-keeps _ (length out) .kept
     request-kept e shutdown = shutdown-keeps .kept

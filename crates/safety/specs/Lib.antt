@@ -5,3 +5,4 @@ pub mod Positions
 pub mod Numbers
 pub mod Gauges
 pub mod Urgent
+pub mod Gather

@@ -11,7 +11,7 @@ use Rattle.cdc.specs.declared.Message.{Message}
 use Rattle.cdc.specs.declared.Decoded.{Decoded}
 use Rattle.cdc.specs.declared.Decoded.the-variants.{Good, Malformed}
 use Rattle.cdc.specs.Cdc.{decodeOf}
-use Rattle.rules.specs.Rules.{Group, Request, send, urgent, place, read, shutdown, close, abort, openSlot, freeSlot, linkChange, linkMessage, sample, Call, on, hear, manage, Says, refusal, accepted, sent, wasRead, torn, reset, heard, sampled, answer, next, recordOf, holderOf, Fresh}
+use Rattle.rules.specs.Rules.{Group, Request, send, gather, urgent, place, read, shutdown, close, abort, openSlot, freeSlot, linkChange, linkMessage, sample, Call, on, hear, manage, Says, refusal, accepted, sent, gathered, wasRead, torn, reset, heard, sampled, answer, next, recordOf, holderOf, Fresh}
 use Rattle.order.specs.Statement.{leaves}
 use Rattle.safety.specs.Statement.{OpenAt, acceptedB}
 
@@ -29,6 +29,7 @@ abbrev pub refusedB : Says → Bool
 refusedB (refusal k) = true
 refusedB accepted = false
 refusedB (sent n p) = false
+refusedB (gathered n p) = false
 refusedB (wasRead n) = false
 refusedB torn = false
 refusedB (heard moved state) = false
@@ -40,6 +41,7 @@ abbrev pub brokenB : Says → Bool
 brokenB (refusal k) = false
 brokenB accepted = false
 brokenB (sent n p) = false
+brokenB (gathered n p) = false
 brokenB (wasRead n) = false
 brokenB torn = true
 brokenB (heard moved state) = false
@@ -49,6 +51,7 @@ brokenB (sampled q) = false
 abbrev pub sendsA : Request → Says → Bool
 sendsA (send b) says = brokenB says
 sendsA (urgent b) says = brokenB says
+sendsA (gather head body) says = brokenB says
 sendsA (place at b) says = brokenB says
 sendsA (read out) says = brokenB says
 sendsA shutdown says = brokenB says

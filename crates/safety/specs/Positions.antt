@@ -19,7 +19,7 @@ use Rattle.cdc.specs.Cdc.{encodeOf, decodeOf}
 use Rattle.gauge.specs.Gauge.{clearedOf}
 use Rattle.connection.specs.declared.Remote.{Remote}
 use Rattle.connection.specs.Connection.{zeroToken, zeroRecord, startCursor}
-use Rattle.rules.specs.Rules.{Group, Request, send, urgent, place, read, shutdown, close, abort, openSlot, freeSlot, linkChange, linkMessage, sample, Call, on, hear, manage, Says, refusal, accepted, sent, wasRead, torn, reset, heard, sampled, Answer, answer, next, recordOf, elementIn, Fresh}
+use Rattle.rules.specs.Rules.{Group, Request, send, gather, urgent, place, read, shutdown, close, abort, openSlot, freeSlot, linkChange, linkMessage, sample, Call, on, hear, manage, Says, refusal, accepted, sent, gathered, wasRead, torn, reset, heard, sampled, Answer, answer, next, recordOf, elementIn, Fresh}
 use Rattle.order.specs.Statement.{leaves, answers, At}
 use Rattle.safety.specs.Statement.{OpenAt, acceptedB, Opens}
 
@@ -50,6 +50,7 @@ abbrev pub movedIn : Says → ℕ
 movedIn (refusal k) = 0
 movedIn accepted = 0
 movedIn (sent n p) = 0
+movedIn (gathered n p) = 0
 movedIn (wasRead n) = 0
 movedIn torn = 0
 movedIn (heard moved state) = moved
@@ -60,6 +61,7 @@ abbrev pub readIn : Says → ℕ
 readIn (refusal k) = 0
 readIn accepted = 0
 readIn (sent n p) = 0
+readIn (gathered n p) = 0
 readIn (wasRead n) = n
 readIn torn = 0
 readIn (heard moved state) = 0
@@ -77,6 +79,7 @@ nothing = record { at = 0; bytes = [] }
 abbrev pub placed : Request → Placed
 placed (send b) = nothing
 placed (urgent b) = nothing
+placed (gather head body) = nothing
 placed (place at b) = record { at = at; bytes = b }
 placed (read out) = nothing
 placed shutdown = nothing

@@ -25,7 +25,7 @@ use Rattle.connection.specs.declared.Record.{Record}
 use Rattle.connection.specs.declared.Opening.{Opening}
 use Rattle.connection.specs.Connection.{noMessage, coherentB, sequenceAfter}
 use Rattle.table.specs.Table.{activeB, findFrom}
-use Rattle.rules.specs.Rules.{Group, Request, send, urgent, place, read, shutdown, close, abort, openSlot, freeSlot, linkChange, linkMessage, sample, Call, on, hear, manage, refusal, answer, next, outOf, recordOf, linkOf, holderOf}
+use Rattle.rules.specs.Rules.{Group, Request, send, gather, urgent, place, read, shutdown, close, abort, openSlot, freeSlot, linkChange, linkMessage, sample, Call, on, hear, manage, refusal, answer, next, outOf, recordOf, linkOf, holderOf}
 
 -- EACH NUMBER'S CONDITION, as the page's table has it.
 
@@ -76,9 +76,13 @@ linkDown g l = not (activeB (g .links) l)
 
 -- 7: the state forbids: send, urgent or not, after D, C or A sent or C heard; place after A sent or D or C heard; read after C or A sent;
 -- shutdown after D, C or A sent; close after C or A sent; abort after A sent; free outside PeerAbortWait
+abbrev pub sendBarred : Marks → Bool
+sendBarred m = m .sent .done || m .sent .closed || m .abort || m .heard .closed
+
 abbrev pub forbids : Request → Marks → Bool
-forbids (send b) m = m .sent .done || m .sent .closed || m .abort || m .heard .closed
-forbids (urgent b) m = m .sent .done || m .sent .closed || m .abort || m .heard .closed
+forbids (send b) m = sendBarred m
+forbids (urgent b) m = sendBarred m
+forbids (gather head body) m = sendBarred m
 forbids (place at b) m = m .abort || m .heard .done || m .heard .closed
 forbids (read out) m = m .sent .closed || m .abort
 forbids shutdown m = m .sent .done || m .sent .closed || m .abort
@@ -186,6 +190,7 @@ pub data Test : Type 0 where
 abbrev pub placeTest : Group → ℕ → Request → List Test
 placeTest g k (send b) = []
 placeTest g k (urgent b) = []
+placeTest g k (gather head body) = []
 placeTest g k (place at b) = 9 when unplaceable g k at (length b) ∷ []
 placeTest g k (read out) = []
 placeTest g k shutdown = []

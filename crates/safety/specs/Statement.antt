@@ -17,7 +17,7 @@ use Rattle.connection.specs.Connection.{coherentB}
 use Rattle.transmit.specs.Transmit.{sendForbids, Within}
 use Rattle.receive.specs.Receive.{readForbids, unreadOf}
 use Rattle.table.specs.Table.{slotB, openB}
-use Rattle.rules.specs.Rules.{Group, Request, send, urgent, place, read, shutdown, close, abort, openSlot, freeSlot, linkChange, linkMessage, sample, Call, on, hear, manage, Says, refusal, accepted, sent, wasRead, torn, reset, heard, sampled, Answer, answer, next, sizesOk, recordOf, elementIn, linkOf, holderOf, Fresh}
+use Rattle.rules.specs.Rules.{Group, Request, send, gather, urgent, place, read, shutdown, close, abort, openSlot, freeSlot, linkChange, linkMessage, sample, Call, on, hear, manage, Says, refusal, accepted, sent, gathered, wasRead, torn, reset, heard, sampled, Answer, answer, next, sizesOk, recordOf, elementIn, linkOf, holderOf, Fresh}
 use Rattle.order.specs.Statement.{leaves, At}
 
 -- whatever calls are made of a fresh group, this holds of the group that they leave
@@ -64,6 +64,7 @@ abbrev pub acceptedB : Says → Bool
 acceptedB (refusal k) = false
 acceptedB accepted = true
 acceptedB (sent n p) = false
+acceptedB (gathered n p) = false
 acceptedB (wasRead n) = false
 acceptedB torn = false
 acceptedB (heard moved state) = false
@@ -73,6 +74,7 @@ acceptedB (sampled q) = false
 abbrev pub placedBy : Request → List ℕ → List ℕ
 placedBy (send b) e = e
 placedBy (urgent b) e = e
+placedBy (gather head body) e = e
 placedBy (place at b) e = splice e at b
 placedBy (read out) e = e
 placedBy shutdown e = e

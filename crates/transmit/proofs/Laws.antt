@@ -2,20 +2,21 @@
 -- far Q moves.
 -- Assumes nothing.
 use mathlib.Core.Path.{_≡_, refl, sym, ap, _∙_, subst}
-use mathlib.Core.Bool.{Bool, true, false, false≢true, _||_, cond}
+use mathlib.Core.Bool.{Bool, true, false, _&&_, false≢true, _||_, cond}
 use Prim.Native.Nat.{ℕ, _+_, _-_, _*_, _≤_, _<_}
 use native.Mathlib.Nat.{one-mul, add-mul, sub-add-cancel}
 use native.Mathlib.Omega.{arith}
-use lib.Dec.{ltb, eqb}
+use lib.Dec.{T, ltb, eqb}
 use borrow.Author.Needs.{needs}
 use borrow.Author.Tests.{eqb-true, eqb-false, ltb-true, ltb-false, ne-eqb, lt-ltb, le-ltb}
 use Rattle.cursor.specs.Cursor.{inRange, goodB, gapOf, stepOf}
-use Rattle.cursor.proofs.Laws.{range-is, good-most, step-range, step-gap}
+use Rattle.cursor.specs.declared.Cursor.{Cursor}
+use Rattle.cursor.proofs.Laws.{range-is, good-most, step-range, step-none, step-gap}
 use Rattle.flow.specs.declared.Stretch.{Stretch}
 use Rattle.flow.specs.declared.Stretches.{Stretches}
 use Rattle.flow.specs.declared.Stretches.the-variants as Parts
 use Rattle.flow.specs.Flow.{roomOf, takenOf, stretchesOf, stretchesTotal, Placed, allPlaced}
-use Rattle.flow.proofs.Laws.{taken-most, taken-len, taken-some, room-most, room-rest, stretches-total, stretches-placed}
+use Rattle.flow.proofs.Laws.{taken-most, taken-len, taken-some, room-most, room-rest, stretches-none, stretches-total, stretches-placed}
 use Rattle.cdc.specs.declared.Message.{Message}
 use Rattle.connection.specs.declared.RToken.{RToken}
 use Rattle.connection.specs.declared.Placing.{Placing}
@@ -103,6 +104,11 @@ module _ (rec : Record) (e : remoteOk (rec .remote) ≡ true) where
   placings-within (Parts.Two s t) h =
       let before = h .2 in
       (placing-within 0 s (h .0), placing-within (s .len) t (h .1), omega arith)
+
+-- the code's test of a record and an offset, by its two parts
+pub ok-parts : (a ok : Bool) (x y : ℕ) → a ≡ ok → a && ltb x y ≡ true → (ok ≡ true) × (x < y)
+ok-parts true ok x y e h = (sym e, ltb-true x y h)
+ok-parts false ok x y e h = let bad : _≡_ {A = Bool} false true = h in absurd (subst T (sym bad) tt)
 
 -- the code's stretches, by their variant: their offsets are in range, and what it makes of them is what the rule has
 module _ (rec : Record) (s : Stretches) (h : allPlaced (rec .remote .size) s) where
@@ -416,6 +422,40 @@ module _ (n : ℕ) (active : Bool) (rec : Record) (len k : ℕ) (p : Placings) (
       send-cases n active rec len (λ o. o .reply ≡ Sent k p → gapRQ (o .after) ≡ gapRQ rec + k) (λ j r. not-refused j r)
       (λ r. let a = none-is r in omega (arith, outcome-gap (Sent 0 Nowhere) false rec))
       (λ g w r. rw (← (some-is r .0)) (sent-gap rec len n (coherent-facts n rec g)))
+      e
+
+  -- so the record was coherent, p is where k bytes go from Q on, and Q moves by k
+  pub send-was-coherent : coherentB n rec ≡ true
+  unfolding sendOf
+  send-was-coherent =
+      let no = refusalOf n active rec (sendForbids (rec .marks)) in
+      pick n active rec len (λ o. o .reply ≡ Sent k p → coherentB n rec ≡ true) (eqb no 0) _ _
+      (λ z r. refusal-none n active rec (sendForbids (rec .marks)) (eqb-true no 0 z) .0)
+      (λ z r. not-refused no r)
+      e
+
+  pub send-places : p ≡ placingsOf rec (stretchesIn rec k)
+  send-places =
+      send-cases n active rec len (λ o. o .reply ≡ Sent k p → p ≡ placingsOf rec (stretchesIn rec k)) (λ j r. not-refused j r)
+      (λ r.
+      let a = none-is r in
+      sym (a .1)
+      ∙ ap (placingsOf rec) (sym (stretches-none (rec .remote .size) (rec .outbound .producer)))
+      ∙ ap (λ (x : ℕ). placingsOf rec (stretchesIn rec x)) (a .0))
+      (λ g w r. let a = some-is r in sym (a .1) ∙ ap (λ (x : ℕ). placingsOf rec (stretchesIn rec x)) (a .0))
+      e
+
+  pub send-steps : sendOf n active rec len .after .outbound .producer ≡ stepOf (rec .remote .size) (rec .outbound .producer) k
+  unfolding producedOf producedOut
+  send-steps =
+      let Q : ℕ → Cursor = λ x. stepOf (rec .remote .size) (rec .outbound .producer) x in
+      send-cases n active rec len (λ o. o .reply ≡ Sent k p → o .after .outbound .producer ≡ Q k) (λ j r. not-refused j r)
+      (λ r.
+      outcome-q (Sent 0 Nowhere) false rec ∙ sym (step-none (rec .remote .size) (rec .outbound .producer)) ∙ ap Q (none-is r .0))
+      (λ g w r.
+      ap (λ (o : Outcome). o .after .outbound .producer) (sent-is rec len)
+      ∙ outcome-q (answer rec len) (tellsOf rec (nOf rec len) len) (producedOf rec (nOf rec len) len)
+      ∙ ap Q (some-is r .0))
       e
 
 -- the placings of an urgent send lie there too

@@ -19,7 +19,7 @@ use Rattle.connection.specs.declared.Record.{Record}
 use Rattle.connection.specs.declared.Reply.{Reply}
 use Rattle.connection.specs.declared.Reply.the-variants.{Sent}
 use Rattle.connection.specs.declared.Outcome.{Outcome}
-use Rattle.connection.specs.Connection.{mostAddress, firstByte, placeAt, qTo, blockedTo, urgentOutTo, outboundTo, refusalOf, refusedOf, messageOf, pendingOf, outcomeOf, urgentOutcome}
+use Rattle.connection.specs.Connection.{mostAddress, firstByte, remoteOk, placeAt, qTo, blockedTo, urgentOutTo, outboundTo, refusalOf, refusedOf, messageOf, pendingOf, outcomeOf, urgentOutcome}
 
 -- 7: send after D, C or A sent or C heard
 unfoldable pub sendForbids : Marks → Bool
@@ -46,6 +46,13 @@ elementStart rec = firstByte (rec .remote .size) (rec .remote .index) (rtokenOf 
 -- a placing's offset becomes the peer's memory key and an address, base + (index - 1) x N' + offset
 unfoldable pub placingOf : Record → Stretch → Placing
 placingOf rec s = record { key = rtokenOf rec .key; address = elementStart rec + s .offset; start = s .start; len = s .len }
+
+-- the code's, of any record: all zeros where the peer's element, or the offset in it, is out of range
+abbrev pub noPlacing : Placing
+noPlacing = record { key = 0; address = 0; start = 0; len = 0 }
+
+unfoldable pub placingAt : Record → Stretch → Placing
+placingAt rec s = cond (remoteOk (rec .remote) && ltb (s .offset) (rec .remote .size)) (placingOf rec s) noPlacing
 
 abbrev pub placingsOf : Record → Stretches → Placings
 placingsOf rec Parts.Nowhere = Nowhere

@@ -5,8 +5,9 @@ ghost use Prim.Native.Nat.{_+_, _≤_, _<_};
 ghost use Rattle.cursor.specs.Cursor.{inRange};
 ghost use Rattle.flow.specs.Flow.{stretchesOf, allPlaced};
 ghost use Rattle.connection.specs.Connection.{remoteOk};
-ghost use Rattle.transmit.specs.Transmit.{sendForbids, rtokenOf, placingOf, placingsOf, nOf, sentReply, producedOut, producedOf};
-ghost use Rattle.transmit.specs.Transmit.{tellsOf, sentOf, urgedOut, urgedOf, urgentOf, waitsB, nothingSent, sendOf, urgentSendOf};
+ghost use Rattle.transmit.specs.Transmit.{sendForbids, rtokenOf, placingOf, placingAt, placingsOf, nOf, sentReply, producedOut};
+ghost use Rattle.transmit.specs.Transmit.{producedOf, tellsOf, sentOf, urgedOut, urgedOf, urgentOf, waitsB, nothingSent, sendOf};
+ghost use Rattle.transmit.specs.Transmit.{urgentSendOf};
 use closing::Marks;
 use connection::Outbound;
 use connection::Outcome;
@@ -59,6 +60,22 @@ fn placing_of(rec: Record, s: Stretch) -> Placing
         address: address,
         start: s.start,
         len: s.len,
+    }
+}
+
+// The same of any record and any stretch: all zeros where the peer's element, or the offset in it, is out of range.
+pub fn placing_at(rec: Record, s: Stretch) -> Placing
+    ensures { λ r. ⌜ r ≡ placingAt rec s ⌝ }
+{
+    let ok = connection::remote_ok(rec.remote) & (s.offset < rec.remote.size);
+    if ok {
+        return placing_of(rec, s);
+    }
+    Placing {
+        key: 0,
+        address: 0,
+        start: 0,
+        len: 0,
     }
 }
 

@@ -10,6 +10,7 @@ use Rattle.flow.specs.Flow.{roomOf, takenOf, firstOf, stretchesOf, windowOf, up
 use Rattle.element.specs.Element.{part, elementOf, splice, intactB, freshElement, allFree, ringFrom, unread}
 use Rattle.connection.specs.Connection.{zeroRecord, fitsB, remoteOk, numbersOk, offsetsOk, distancesOk, placeOk, placesOk, coherentB, reachedB, passedBy, refusalOf, messageOf, pendingOf, toldIn, usedIn, toldOf, outcomeOf, urgentOutcome, refusedOf, closedIf, marksTo}
 use Rattle.transmit.specs.Transmit.{sendForbids, nOf, rtokenOf, placingOf, producedOut, producedOf, tellsOf, sentOf, urgedOut, urgedOf, urgentOf, waitsB, sendOf, urgentSendOf}
+use Rattle.pieces.specs.Pieces.{bytesOf, pieceOf, piecesFrom}
 use Rattle.receive.specs.Receive.{placeForbids, mayPlace, placeOf, readForbids, unreadOf, consumedIn, clearedIn, consumedOf, updateOf, tornOf, takeOf, readOf}
 use Rattle.hear.specs.Hear.{ruledOf, nextB, abortedOf, producerB, consumerB, urgesB, urgentIn, heardIn, heardOut, heardRecord, answersB, acceptedOf, followedOf, hearOf}
 use Rattle.finish.specs.Finish.{resetOf, closingOf, shutdownForbids, shutdownOf, closeForbids, closeOf, abortOf}
@@ -28,6 +29,7 @@ unfolding inRange sameB movedOf stepOf turnsOf distanceOf goodB gapOf
     zeroRecord fitsB remoteOk numbersOk offsetsOk distancesOk placeOk placesOk coherentB reachedB passedBy refusalOf
     messageOf pendingOf toldIn usedIn toldOf outcomeOf urgentOutcome refusedOf closedIf marksTo
     sendForbids nOf rtokenOf placingOf producedOut producedOf tellsOf sentOf urgedOut urgedOf urgentOf waitsB sendOf urgentSendOf
+    bytesOf pieceOf piecesFrom
     placeForbids mayPlace placeOf readForbids unreadOf consumedIn clearedIn consumedOf updateOf tornOf takeOf readOf
     abortedOf producerB consumerB urgesB urgentIn heardIn heardOut heardRecord answersB acceptedOf followedOf ruledOf nextB hearOf
     shutdownForbids shutdownOf closeForbids closeOf resetOf closingOf abortOf

@@ -28,8 +28,9 @@ use Rattle.connection.specs.declared.Placing.{Placing}
 use Rattle.connection.specs.declared.Record.{Record}
 use Rattle.connection.specs.declared.Opening.{Opening}
 use Rattle.connection.specs.Connection.{zeroRecord, zeroToken, noPlace, placeAt, noMarks}
+use Rattle.pieces.specs.Pieces.{Piece}
 use Rattle.table.specs.Table.{gaugeAt}
-use Rattle.rules.specs.Rules.{Group, Request, send, urgent, place, read, shutdown, close, abort, openSlot, freeSlot, linkChange, linkMessage, sample, Call, on, hear, manage, Says, refusal, accepted, sent, wasRead, torn, reset, heard, sampled, Answer, answer, next, recordOf}
+use Rattle.rules.specs.Rules.{Group, Request, send, gather, urgent, place, read, shutdown, close, abort, openSlot, freeSlot, linkChange, linkMessage, sample, Call, on, hear, manage, Says, refusal, accepted, sent, gathered, wasRead, torn, reset, heard, sampled, Answer, answer, next, recordOf}
 
 -- WHAT A ROW LAYS. An offset and a wrap number
 abbrev pub cur : ℕ → ℕ → Cursor
@@ -100,6 +101,10 @@ placingAt key address start k = record { key = key; address = address; start = s
 abbrev pub placing : ℕ → ℕ → ℕ → Placing
 placing offset start k = placingAt 0 offset start k
 
+-- a piece: its key, address and bytes
+abbrev pub piece : ℕ → ℕ → List ℕ → Piece
+piece key address b = record { key = key; address = address; bytes = b }
+
 -- the k bytes of a number, high byte first
 abbrev pub octets : ℕ → ℕ → List ℕ
 octets zero x = []
@@ -162,6 +167,7 @@ abbrev pub named : Says → Option ℕ
 named (refusal k) = none
 named accepted = none
 named (sent n p) = some n
+named (gathered n p) = some n
 named (wasRead n) = some n
 named torn = none
 named (heard moved state) = none
@@ -384,6 +390,30 @@ vectors =
     ∷ plays (aGroup 1 8 (onEdge 256 0 0 ∷ []) (freshElement 8)) (gives (on 1 (send [])) (refusal 3) none ∷ [])
     ∷ plays (aGroup 1 8 (onEdge 1 0xFFFFFFFF_FFFFFFF9 0 ∷ []) (freshElement 8)) (gives (on 1 (send [])) (refusal 3) none ∷ [])
     ∷ plays (aGroup 1 8 (onEdge 1 0 0xFFFFFFFF_FFFFFFF9 ∷ []) (freshElement 8)) (gives (on 1 (send [])) (refusal 3) none ∷ [])
+    -- IN PIECES (2026-08). The same element: the wrap cuts the head, and n the body; the empty one is at the new Q, B is on. Then nothing
+    -- fits
+    ∷ plays
+    (aGroup 1 8 (laidOn 2 tokenA tokenB far (inwards start start start) (outwards (cur 7 0) (cur 7 0)) unmarked ∷ []) (freshElement 8))
+    (gives (on 1 (gather (0xA1 ∷ 0xA2 ∷ []) (0xB1 ∷ 0xB2 ∷ 0xB3 ∷ 0xB4 ∷ [])))
+    (gathered 4
+    (piece 0xC2 0x123456789ABC0017 (0xA1 ∷ [])
+    ∷ piece 0xC2 0x123456789ABC0014 (0xA2 ∷ [])
+    ∷ piece 0xC2 0x123456789ABC0015 (0xB1 ∷ 0xB2 ∷ [])
+    ∷ piece 0xC2 0x123456789ABC0017 []
+    ∷ []))
+    (told 0xFE2C_0001_01020304_0000_0001_00000007_0000_0000_00000004_8000)
+    ∷ gives (on 1 (gather (0xA1 ∷ []) (0xB1 ∷ []))) (gathered 0 (piece 0xC2 0x123456789ABC0017 [] ∷ [])) none
+    ∷ [])
+    -- both empty; no head; a head alone, up to the element's end, where the empty one wraps too; refused as a send
+    ∷ plays (hostA 8 start start)
+    (gives (on 1 (gather [] [])) (gathered 0 (piece 0 4 [] ∷ [])) none
+    ∷ gives (on 1 (gather [] (0xB1 ∷ 0xB2 ∷ []))) (gathered 2 (piece 0 4 (0xB1 ∷ 0xB2 ∷ []) ∷ piece 0 6 [] ∷ []))
+    (told 0xFE2C_0001_01020304_0000_0000_00000006_0000_0000_00000004_0000)
+    ∷ gives (on 1 (gather (0xA1 ∷ 0xA2 ∷ []) [])) (gathered 2 (piece 0 6 (0xA1 ∷ 0xA2 ∷ []) ∷ piece 0 4 [] ∷ []))
+    (told 0xFE2C_0002_01020304_0000_0001_00000004_0000_0000_00000004_0000)
+    ∷ gives (on 1 shutdown) accepted (told 0xFE2C_0003_01020304_0000_0001_00000004_0000_0000_00000004_0080)
+    ∷ gives (on 1 (gather [] [])) (refusal 7) none
+    ∷ [])
     -- SCENARIO 1. A sends 1,000 bytes: the page's whole example
     ∷ plays (freshGroup 10000)
     (upAndOpen tokenA tokenB 10000 ++ gives (on 1 (send (bytes 1000))) (sent 1000 (placing 4 0 1000 ∷ [])) (some wholeExample) ∷ [])

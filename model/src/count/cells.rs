@@ -83,6 +83,7 @@ impl Cells {
         super::gauges::declare(&mut cells);
         super::setup::declare(&mut cells);
         super::urgent::declare(&mut cells);
+        super::gather::declare(&mut cells);
         for name in FURTHER {
             cells.can(name.to_string());
         }

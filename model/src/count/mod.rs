@@ -7,6 +7,7 @@
 
 mod answers;
 mod cells;
+mod gather;
 mod gauges;
 mod order;
 mod pool;
@@ -130,6 +131,7 @@ fn count_call(cells: &mut Cells, replay: &mut Replay, line: &Line) {
     }
     gauges::count(cells, line, &answer, &details, &replay.group);
     urgent::count(cells, line, &answer, &details, &replay.group);
+    gather::count(cells, line, &answer, &details, &replay.group);
 }
 
 fn refusal(answer: &Answer) -> Option<u8> {
@@ -159,6 +161,7 @@ fn word_of(line: &Line) -> &'static str {
         Line::LinkMsg { .. } => "linkmsg",
         Line::Send { .. } => "send",
         Line::Urgent { .. } => "urgent",
+        Line::Gather { .. } => "gather",
         Line::Place { .. } => "place",
         Line::Read { .. } => "read",
         Line::Hear { .. } => "hear",

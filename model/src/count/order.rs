@@ -19,6 +19,7 @@ pub(super) fn holding(group: &Group, line: &Line) -> Vec<u8> {
     match line {
         Line::Send { slot, .. }
         | Line::Urgent { slot, .. }
+        | Line::Gather { slot, .. }
         | Line::Place { slot, .. }
         | Line::Read { slot, .. }
         | Line::Shutdown { slot }
@@ -36,7 +37,7 @@ pub(super) fn holding(group: &Group, line: &Line) -> Vec<u8> {
                 hold(link_down(c.link), 6);
             }
             let forbidden = match line {
-                Line::Send { .. } | Line::Urgent { .. } => send_forbidden(c),
+                Line::Send { .. } | Line::Urgent { .. } | Line::Gather { .. } => send_forbidden(c),
                 Line::Place { .. } => place_forbidden(c),
                 Line::Read { .. } => read_forbidden(c),
                 Line::Shutdown { .. } => shutdown_forbidden(c),

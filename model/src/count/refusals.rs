@@ -44,6 +44,7 @@ pub(super) fn count_refusal(
             3,
             Line::Send { slot, .. }
             | Line::Urgent { slot, .. }
+            | Line::Gather { slot, .. }
             | Line::Place { slot, .. }
             | Line::Read { slot, .. }
             | Line::Shutdown { slot }

@@ -4,6 +4,7 @@
 pub(super) const ORDERS: &[(&str, &[u8])] = &[
     ("send", &[1, 2, 3, 6, 7]),
     ("urgent", &[1, 2, 3, 6, 7]),
+    ("gather", &[1, 2, 3, 6, 7]),
     ("place", &[1, 2, 3, 6, 7, 9]),
     ("read", &[1, 2, 3, 6, 7]),
     ("hear", &[1, 4, 5, 3, 6, 16, 8]),
@@ -59,7 +60,7 @@ pub(super) const NOT_TESTED: &[(u8, &str)] = &[
 pub(super) const NOT_AT_ONCE: &[(&[&str], u8, &[u8], &str)] = &[
     (
         &[
-            "send", "urgent", "place", "read", "shutdown", "close", "abort", "free",
+            "send", "urgent", "gather", "place", "read", "shutdown", "close", "abort", "free",
         ],
         2,
         &[3, 6, 7, 9],

@@ -19,7 +19,7 @@ const FURTHER: &[&str] = &[
     "send: while the place stands",
     "send: while the place stands, B on",
     "send: nothing offered while the place stands",
-    "message: P and U by send or urgent",
+    "message: P and U by a send",
     "message: P and U by read",
     "message: P and U by hear",
     "message: P and U by shutdown",
@@ -103,7 +103,7 @@ fn count_flags(cells: &mut Cells, line: &Line, message: &Message) {
     match (message.urgent_pending, message.urgent_present) {
         (true, true) => {
             let who = match line {
-                Line::Send { .. } | Line::Urgent { .. } => "send or urgent",
+                Line::Send { .. } | Line::Urgent { .. } | Line::Gather { .. } => "a send",
                 Line::Read { .. } => "read",
                 Line::Hear { .. } => "hear",
                 Line::Shutdown { .. } => "shutdown",

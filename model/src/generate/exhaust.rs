@@ -3,7 +3,7 @@
 //! 01, the examples of section 4.5.1, scenarios 1 to 6 of section 4.7, the pool,
 //! the gauges and the messages of set-up.
 
-use super::{gauges, message_of, offset_of, pool, setup, List};
+use super::{gauges, message_of, offset_of, pool, setup, writes_of, List};
 use crate::random::Random;
 use crate::replay::{set_marks, Answer};
 use crate::smcr::*;
@@ -26,6 +26,7 @@ pub fn list(seed: u64) -> Vec<u8> {
     scenario_5(&mut list, &mut random);
     scenario_6(&mut list, &mut random);
     urgent_rules(&mut list, &mut random);
+    heads_and_bodies(&mut list, &mut random);
     pool::exhaust(&mut list, &mut random);
     gauges::exhaust(&mut list, &mut random);
     setup::exhaust(&mut list, &mut random);
@@ -127,6 +128,8 @@ fn close_marks_called(list: &mut List, random: &mut Random) {
         list.send(1, bytes.clone());
         list.record(1, c);
         list.urgent(1, bytes.clone());
+        list.record(1, c);
+        list.gather(1, bytes.clone(), bytes.clone());
         list.record(1, c);
         list.place(1, 7, bytes);
         list.record(1, c);
@@ -363,21 +366,19 @@ fn urgent_across(list: &mut List, from: u32, to: u32, bytes: &[u8]) -> i64 {
 
 /// Performs what a send answered; a message that its hearing makes goes back.
 fn carry_across(list: &mut List, c: &Connection, to: u32, bytes: &[u8], answer: &Answer) -> i64 {
-    let (Answer::Sent(sent) | Answer::Urgent(sent)) = answer else {
-        return 0;
-    };
-    for placing in &sent.placings {
-        let start = placing.start as usize;
-        let part = bytes[start..start + placing.length as usize].to_vec();
-        list.place(to, offset_of(c, placing), part);
+    for (address, part) in writes_of(answer, bytes) {
+        list.place(to, offset_of(c, address), part);
     }
-    if let Some(message) = sent.message {
+    if let Some(message) = message_of(answer) {
         let answer = list.hear(message.to_vec());
         if let Some(message) = message_of(&answer) {
             list.hear(message.to_vec());
         }
     }
-    sent.taken
+    match answer {
+        Answer::Sent(sent) | Answer::Urgent(sent) => sent.taken,
+        _ => 0,
+    }
 }
 
 /// A read whose message, if it makes one, is heard at the other end.
@@ -567,4 +568,36 @@ fn urgent_rules(list: &mut List, random: &mut Random) {
         }
         list.table();
     }
+}
+
+/// Every split of up to eight bytes into head and body, against every place of Q
+/// and every room in an element of eight bytes; then the same while an urgent
+/// place stands.
+fn heads_and_bodies(list: &mut List, random: &mut Random) {
+    list.comment("a head and a body: every split against every wrap");
+    list.group(1, 8);
+    list.link(1, true);
+    let own = token(random);
+    for offset in 4..8 {
+        for written in 0..=4 {
+            let mut c = resting(8, own, 6, cursor(offset, 65_535));
+            c.index = 2;
+            c.keys[0] = 5;
+            c.bases[0] = 100;
+            c.producer = step(c.peer_consumer, written, 8);
+            for head in 0..=4 {
+                for body in 0..=4 {
+                    list.record(1, c);
+                    list.gather(1, random.bytes(head), random.bytes(body));
+                }
+            }
+            if written > 0 {
+                c.urgent_sent = Some(c.producer);
+                list.record(1, c);
+                list.gather(1, random.bytes(2), random.bytes(1));
+                list.gather(1, Vec::new(), Vec::new());
+            }
+        }
+    }
+    list.table();
 }

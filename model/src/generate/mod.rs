@@ -117,6 +117,10 @@ impl List {
         self.add(Line::Urgent { slot, bytes })
     }
 
+    pub fn gather(&mut self, slot: u32, head: Vec<u8>, body: Vec<u8>) -> Answer {
+        self.add(Line::Gather { slot, head, body })
+    }
+
     pub fn place(&mut self, slot: u32, offset: u32, bytes: Vec<u8>) -> Answer {
         self.add(Line::Place {
             slot,
@@ -193,15 +197,38 @@ impl List {
     }
 }
 
-/// The offset in the peer's element at which a placing of a connection begins.
-pub fn offset_of(c: &Connection, placing: &Placing) -> u32 {
-    placing.address.wrapping_sub(address(c, 0)) as u32
+/// The offset in the peer's element of an address that a connection writes to.
+pub fn offset_of(c: &Connection, at: u64) -> u32 {
+    at.wrapping_sub(address(c, 0)) as u32
+}
+
+/// What the answer to a send lets the card write: addresses and bytes.
+pub fn writes_of(answer: &Answer, offered: &[u8]) -> Vec<(u64, Vec<u8>)> {
+    match answer {
+        Answer::Sent(sent) | Answer::Urgent(sent) => sent
+            .placings
+            .iter()
+            .map(|placing| {
+                let start = placing.start as usize;
+                let end = start + placing.length as usize;
+                (placing.address, offered[start..end].to_vec())
+            })
+            .collect(),
+        Answer::Gathered(gathered) => gathered
+            .pieces
+            .iter()
+            .filter(|piece| !piece.bytes.is_empty())
+            .map(|piece| (piece.address, piece.bytes.clone()))
+            .collect(),
+        _ => Vec::new(),
+    }
 }
 
 /// The message that an answer carries, if any.
 pub fn message_of(answer: &Answer) -> Option<Bytes44> {
     match answer {
         Answer::Sent(sent) | Answer::Urgent(sent) => sent.message,
+        Answer::Gathered(gathered) => gathered.message,
         Answer::Read(ReadAnswer::Read { message, .. }, _) => *message,
         Answer::Read(ReadAnswer::Torn { message }, _) => Some(*message),
         Answer::Heard(heard) => heard.message,

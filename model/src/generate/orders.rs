@@ -124,6 +124,7 @@ fn kind(line: &Line, span_start: &Group) -> Kind {
     match line {
         Line::Send { slot, .. }
         | Line::Urgent { slot, .. }
+        | Line::Gather { slot, .. }
         | Line::Place { slot, .. }
         | Line::Read { slot, .. }
         | Line::Shutdown { slot }

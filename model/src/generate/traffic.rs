@@ -5,7 +5,7 @@
 
 use std::collections::VecDeque;
 
-use super::{gauges, message_of, pool, setup, List};
+use super::{gauges, message_of, pool, setup, writes_of, List};
 use crate::random::Random;
 use crate::replay::{Answer, Line, Replay};
 use crate::smcr::*;
@@ -359,26 +359,31 @@ impl World {
         };
         let bytes = self.random.bytes(length as usize);
         let slot = end.slot;
-        let line = if self.random.chance(1, 9) {
-            let bytes = bytes.clone();
-            Line::Urgent { slot, bytes }
-        } else {
-            let bytes = bytes.clone();
-            Line::Send { slot, bytes }
+        let line = match self.random.below(9) {
+            0 => Line::Urgent {
+                slot,
+                bytes: bytes.clone(),
+            },
+            1 => {
+                let (head, body) = bytes.split_at(self.random.below(length as u64 + 1) as usize);
+                Line::Gather {
+                    slot,
+                    head: head.to_vec(),
+                    body: body.to_vec(),
+                }
+            }
+            _ => Line::Send {
+                slot,
+                bytes: bytes.clone(),
+            },
         };
         let answer = self.call(end, line);
-        if let Answer::Sent(sent) | Answer::Urgent(sent) = answer {
-            let flights = &mut self.pairs[which].flights[1 - side];
-            for placing in &sent.placings {
-                let start = placing.start as usize;
-                flights.push_back(Flight::Write {
-                    address: placing.address,
-                    bytes: bytes[start..start + placing.length as usize].to_vec(),
-                });
-            }
-            if let Some(message) = sent.message {
-                flights.push_back(Flight::Message(message));
-            }
+        let flights = &mut self.pairs[which].flights[1 - side];
+        for (address, bytes) in writes_of(&answer, &bytes) {
+            flights.push_back(Flight::Write { address, bytes });
+        }
+        if let Some(message) = message_of(&answer) {
+            flights.push_back(Flight::Message(message));
         }
     }
 
@@ -604,8 +609,11 @@ impl World {
             }
         };
         match self.random.below(20) {
-            0..=1 => {
+            0 => {
                 self.list.send(slot, bytes);
+            }
+            1 => {
+                self.list.gather(slot, bytes.clone(), bytes);
             }
             2 => {
                 self.list.urgent(slot, bytes);

@@ -38,6 +38,11 @@ pub enum Line {
         slot: u32,
         bytes: Vec<u8>,
     },
+    Gather {
+        slot: u32,
+        head: Vec<u8>,
+        body: Vec<u8>,
+    },
     Place {
         slot: u32,
         offset: u32,
@@ -161,6 +166,7 @@ pub enum Answer {
     Word(&'static str),
     Sent(Sent),
     Urgent(Sent),
+    Gathered(Gathered),
     Read(ReadAnswer, Vec<u8>),
     Heard(Heard),
     Made(&'static str, Bytes44),

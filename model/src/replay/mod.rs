@@ -75,6 +75,9 @@ impl Replay {
             }
             Line::Send { slot, bytes } => answered(group.send(*slot, bytes), Answer::Sent),
             Line::Urgent { slot, bytes } => answered(group.urgent(*slot, bytes), Answer::Urgent),
+            Line::Gather { slot, head, body } => {
+                answered(group.gather(*slot, head, body), Answer::Gathered)
+            }
             Line::Place {
                 slot,
                 offset,

@@ -112,6 +112,7 @@ const WORDS: &[(&str, &[usize])] = &[
     ("linkmsg", &[3]),
     ("send", &[3]),
     ("urgent", &[3]),
+    ("gather", &[4]),
     ("place", &[4]),
     ("read", &[3]),
     ("hear", &[2]),
@@ -180,6 +181,11 @@ impl Replay {
             b"urgent" => Line::Urgent {
                 slot: number32(words[1])?,
                 bytes: hex(words[2])?,
+            },
+            b"gather" => Line::Gather {
+                slot: number32(words[1])?,
+                head: hex(words[2])?,
+                body: hex(words[3])?,
             },
             b"place" => Line::Place {
                 slot: number32(words[1])?,

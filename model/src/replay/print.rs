@@ -264,6 +264,21 @@ fn push_sent(out: &mut Vec<u8>, word: &str, sent: &Sent) {
     push_message(out, sent.message.as_ref());
 }
 
+/// "LIST has each piece as `key,address,HEX`, parted by `;`, and the empty one,
+/// `key,address,-`, as its last."
+fn push_gathered(out: &mut Vec<u8>, gathered: &Gathered) {
+    push(out, &format!("gather {} pieces ", gathered.taken));
+    for (place, piece) in gathered.pieces.iter().enumerate() {
+        if place > 0 {
+            out.push(b';');
+        }
+        push(out, &format!("{},{},", piece.key, piece.address));
+        push_hex(out, &piece.bytes);
+    }
+    push(out, " message ");
+    push_message(out, gathered.message.as_ref());
+}
+
 impl Replay {
     /// Writes an answer with its line ends, after the call.
     pub fn print_answer(&self, out: &mut Vec<u8>, answer: &Answer) {
@@ -278,6 +293,7 @@ impl Replay {
             Answer::Word(word) => push(out, word),
             Answer::Sent(sent) => push_sent(out, "send", sent),
             Answer::Urgent(sent) => push_sent(out, "urgent", sent),
+            Answer::Gathered(gathered) => push_gathered(out, gathered),
             Answer::Read(ReadAnswer::Read { taken, message }, buffer) => {
                 push(out, &format!("read {taken} out "));
                 push_hex(out, buffer);
@@ -369,6 +385,11 @@ pub fn print_line(out: &mut Vec<u8>, line: &Line) {
         Line::Urgent { slot, bytes } => {
             push(out, &format!("urgent {slot} "));
             push_hex(out, bytes);
+        }
+        Line::Gather { slot, head, body } => {
+            push(out, &format!("gather {slot}"));
+            push_hex_word(out, head);
+            push_hex_word(out, body);
         }
         Line::Place {
             slot,

@@ -6,11 +6,11 @@ use Rattle.replay.proofs.run.Statement.{statement}
 use Rattle.replay.proofs.run.Tie as tie
 
 abbrev Inv-loop : tie.InvT-loop
-Inv-loop mem₀ given₀ out₀ buf₀ o₀ w₀ scan₀ mem given out buf o w scan =
-    (length mem ≡ length mem₀) × ((length given ≡ length given₀) × (length out ≡ length out₀))
+Inv-loop mem₀ given₀ body₀ out₀ buf₀ o₀ w₀ scan₀ mem given body out buf o w scan =
+    (length mem ≡ length mem₀) × ((length given ≡ length given₀) × ((length body ≡ length body₀) × (length out ≡ length out₀)))
 
 abbrev μ-loop : tie.MeasureT-loop
-μ-loop mem₀ given₀ out₀ buf₀ o₀ w₀ scan₀ mem given out buf o w scan = scan .left
+μ-loop mem₀ given₀ body₀ out₀ buf₀ o₀ w₀ scan₀ mem given body out buf o w scan = scan .left
 
 first-requires : tie.Need-first-requires Inv-loop μ-loop
 first-requires c κs = search needs
@@ -35,10 +35,14 @@ loop-again c =
     let out = c .before in
     let mem = out .before .before in
     let act = mem .before in
-    let given = act .before .before .before .before .before .before .before in
-    let inv = given .before .before .before .before .before .before .loop .inv in (
+    let body = act .before .before .before .before .before .before .before .before in
+    let given = body .before .before in
+    let inv = given .before .before .before .before .before .before .before .loop .inv in (
       search (needs, inv .0, act .act, mem .mem .given),
-      (search (needs, inv .1 .0, given .given .given), search (needs, inv .1 .1, act .act, out .out .given)),
+      (
+        search (needs, inv .1 .0, given .given .given),
+        (search (needs, inv .1 .1 .0, body .body .given), search (needs, inv .1 .1 .1, act .act, out .out .given)),
+      ),
     )
 
 flush-requires : tie.Need-flush-requires Inv-loop μ-loop
@@ -52,6 +56,9 @@ same-length-2 c = search needs
 
 same-length-3 : tie.Need-same-length-3 Inv-loop μ-loop
 same-length-3 c = search needs
+
+same-length-4 : tie.Need-same-length-4 Inv-loop μ-loop
+same-length-4 c = search needs
 
 returns : tie.Need-returns Inv-loop μ-loop
 returns c = search needs
@@ -73,4 +80,5 @@ run-spec =
     same-length
     same-length-2
     same-length-3
+    same-length-4
     returns)

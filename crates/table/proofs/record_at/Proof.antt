@@ -1,5 +1,5 @@
 -- `table::record_at` meets its contract: a walk of its MIR, written by `tools/walk table record_at`, not by hand. Assumes nothing.
-use mathlib.Core.Path.{_≡_, refl, sym, ap, subst}
+use mathlib.Core.Path.{_≡_, refl, sym, ap, _∙_, subst}
 use mathlib.Core.Bool.{Bool, true, false, not}
 use Prim.Native.Nat.{ℕ, zero, suc, _<_, _^_, _*_}
 use mathlib.Core.List.{List, [], _∷_}
@@ -19,21 +19,22 @@ use ghost.Atoms.{Atoms, sem}
 use contract.Lifetimes.{Lfts, Shares}
 use contract.Monad.{Fun, fact}
 use contract.Running.{givenOf, tables, tablesOf}
-use types.Kit.{Given, Item, mean, ‵, raw, later, some, runs, atRet, Sq, _⊛_, ⋆, _$_, _∵_, !, qed, by, move, keep, drop, use0, use1, split, join, await, pick, rewrite, fsplit, fjoin, feqI, feqL, suffices, frame, done}
+use types.Kit.{Given, Item, mean, ‵, raw, later, some, runs, atRet, Sq, _⊛_, ⋆, _$_, _∵_, !, qed, by, move, keep, drop, use0, use1, use3, split, join, await, pick, rewrite, fsplit, fjoin, feqI, feqL, suffices, frame, done}
 use types.Part.{agg, whole, sub, look-in}
 use types.Tokens.{lft-new, lft-end, lent-back}
+use types.SemTy.{cells, Arr}
 use types.Share.{arr-parts}
 use types.Run.{look, look-raw, store, store-raw, init, forget, stop, hop, fld, from, load, addr, lit, unit-lit, of-opd, un, bin, and-then, no-more, assigns, land, first, branches, returns, returns-within, enter, alloc1, alloc0, params1, pass1, pass0, free1, free0}
 use sound.WpLaws.{FmC, fmOf, WpFn-mono}
 use denote.RattleType.{RattleType, owns}
-use denote.Memory.{pointee, shares}
+use denote.Memory.{mem as cellOf, pointee, shares}
 use denote.Laws.{Is, shows}
 use denote.Plain.{uint-vals, uint-tells, uint-makes, uint-lawful, bool-vals, bool-tells, bool-makes, bool-lawful}
 use denote.Builtin.{u8, u16, u32, u64, usize, bool, unit}
 use denote.Ref.{RefT}
 use denote.Slice.{sliceTy, sliceVal, MutSlice, ShrSlice, Room, slice-vals, mut-slice-tells, shr-slice-tells, shr-slice-copy, heres, codedHoleys, finally, res-finally}
-use denote.Lend.{lends-shr-slice}
-use denote.Index.{place-is, elem-out, elem-back, elem-put, opens-slice, closes-slice, looks-slice, shuts-slice}
+use denote.Lend.{Held, lends-slice, lends-shr-slice, slice-back}
+use denote.Index.{row, whole-in, whole-out, place-is, elem-out, elem-back, elem-put, opens-slice, closes-slice, looks-slice, shuts-slice}
 use denote.Signature.{plain, shrSliceOf}
 use denote.Steps.{only, owned, peeks, heard, nothing}
 use denote.Struct.Laws as LL

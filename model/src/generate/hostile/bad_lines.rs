@@ -289,7 +289,7 @@ impl Bench {
 
 /// A good line of each kind: words with their largest value and a value that is
 /// good here, HEX, HEX of just so many bytes, or an urgent place.
-const FORMS: [&str; 29] = [
+const FORMS: [&str; 30] = [
     "group 4294967295=2 4294967295=16 1048704=32",
     "group 4294967295=2 4294967295=16 1048704=32 300=2",
     "open 4294967295=2 4294967295=7 4294967295=8 255=1 4294967295=16 4294967295=1 4294967295=0 \
@@ -300,6 +300,7 @@ const FORMS: [&str; 29] = [
     "linkmsg 255=1 HEX",
     "send 4294967295=1 HEX",
     "urgent 4294967295=1 HEX",
+    "gather 4294967295=1 HEX HEX",
     "place 4294967295=1 4294967295=4 HEX",
     "read 4294967295=1 65600=3",
     "hear HEX",

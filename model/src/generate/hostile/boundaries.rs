@@ -191,11 +191,15 @@ impl Bench {
                 let told = self.random.below(2) as u16;
                 self.list.record(2, with_marks(c, 64 * told));
                 let bytes = self.random.bytes(length as usize);
-                if self.random.chance(1, 4) {
-                    self.list.urgent(2, bytes);
-                } else {
-                    self.list.send(2, bytes);
-                }
+                match self.random.below(4) {
+                    0 => self.list.urgent(2, bytes),
+                    1 => {
+                        let at = self.random.below(length as u64 + 1) as usize;
+                        self.list
+                            .gather(2, bytes[..at].to_vec(), bytes[at..].to_vec())
+                    }
+                    _ => self.list.send(2, bytes),
+                };
                 if self.random.chance(1, 3) {
                     // Once more, with B as it now stands.
                     let bytes = self.random.bytes(3);

@@ -10,6 +10,7 @@ use crate::smcr::*;
 pub(super) enum SlotCall {
     Send,
     Urgent,
+    Gather,
     Place,
     Read,
     Shutdown,
@@ -17,9 +18,10 @@ pub(super) enum SlotCall {
     Abort,
 }
 
-pub(super) const SLOT_CALLS: [SlotCall; 7] = [
+pub(super) const SLOT_CALLS: [SlotCall; 8] = [
     SlotCall::Send,
     SlotCall::Urgent,
+    SlotCall::Gather,
     SlotCall::Place,
     SlotCall::Read,
     SlotCall::Shutdown,
@@ -30,7 +32,9 @@ pub(super) const SLOT_CALLS: [SlotCall; 7] = [
 /// Marks that forbid a call (refusal 7) in a coherent record.
 pub(super) fn forbidding_marks(call: SlotCall) -> &'static [u16] {
     match call {
-        SlotCall::Send | SlotCall::Urgent => &[1, 2, 32, 8, 1 + 4, 2 + 4, 1 + 8, 3, 16 + 1],
+        SlotCall::Send | SlotCall::Urgent | SlotCall::Gather => {
+            &[1, 2, 32, 8, 1 + 4, 2 + 4, 1 + 8, 3, 16 + 1]
+        }
         SlotCall::Place => &[32, 4, 8, 12, 1 + 4, 2 + 4],
         SlotCall::Read => &[2, 32, 3, 2 + 4, 16 + 2],
         SlotCall::Shutdown => &[1, 2, 32, 3, 1 + 4, 1 + 8, 16 + 1],
@@ -42,7 +46,7 @@ pub(super) fn forbidding_marks(call: SlotCall) -> &'static [u16] {
 /// Marks that allow a call.
 pub(super) fn allowing_marks(call: SlotCall) -> &'static [u16] {
     match call {
-        SlotCall::Send | SlotCall::Urgent => &[0, 4, 16, 20],
+        SlotCall::Send | SlotCall::Urgent | SlotCall::Gather => &[0, 4, 16, 20],
         SlotCall::Place => &[0, 1, 2, 3, 16, 17, 18, 19],
         SlotCall::Read => &[0, 1, 4, 5, 8, 9, 12, 13, 16, 17, 20, 21],
         SlotCall::Shutdown => &[0, 4, 8, 12, 16, 20, 24, 28],
@@ -61,17 +65,21 @@ impl Bench {
         barred: bool,
     ) {
         let line = match call {
-            SlotCall::Send | SlotCall::Urgent => {
+            SlotCall::Send | SlotCall::Urgent | SlotCall::Gather => {
                 let length = match self.random.below(4) {
                     0 => 0,
                     1 => self.random.between(1, 60),
                     _ => self.random.between(1, 8),
                 };
                 let bytes = self.random.bytes(length as usize);
-                if call == SlotCall::Urgent {
-                    Line::Urgent { slot, bytes }
-                } else {
-                    Line::Send { slot, bytes }
+                match call {
+                    SlotCall::Urgent => Line::Urgent { slot, bytes },
+                    SlotCall::Gather => {
+                        let at = self.random.below(length as u64 + 1) as usize;
+                        let (head, body) = (bytes[..at].to_vec(), bytes[at..].to_vec());
+                        Line::Gather { slot, head, body }
+                    }
+                    _ => Line::Send { slot, bytes },
                 }
             }
             SlotCall::Place => {

@@ -64,7 +64,7 @@ impl Bench {
                     self.list.table();
                 }
                 _ => {
-                    self.list.send(slot, vec![1, 2]);
+                    self.list.gather(slot, vec![1], vec![2]);
                 }
             }
         }

@@ -1,4 +1,4 @@
--- `replay::on_rows` meets its contract: a walk of its MIR, written by `tools/walk replay on_rows`, not by hand. Assumes nothing.
+-- `rows::on_rows` meets its contract: a walk of its MIR, written by `tools/walk rows on_rows`, not by hand. Assumes nothing.
 use mathlib.Core.Path.{_≡_, refl, sym, ap, _∙_, subst}
 use mathlib.Core.Bool.{Bool, true, false, not}
 use Prim.Native.Nat.{ℕ, zero, suc, _<_, _^_, _*_}
@@ -56,32 +56,33 @@ use Rattle.table.proofs.Links.Laws as LinksL
 use Rattle.group.specs.declared.Command.{Command}
 use Rattle.group.proofs.Command as CommandT
 use Rattle.group.proofs.Command.Laws as CommandL
-use Rattle.replay.specs.declared.Made.{Made}
-use Rattle.replay.proofs.Made as MadeT
-use Rattle.replay.proofs.Made.Laws as MadeL
+use Rattle.rows.specs.declared.Made.{Made}
+use Rattle.rows.proofs.Made as MadeT
+use Rattle.rows.proofs.Made.Laws as MadeL
 use Rattle.table.specs.declared.Answered.{Answered}
 use Rattle.table.proofs.Answered as AnsweredT
 use Rattle.table.proofs.Answered.Laws as AnsweredL
-use Rattle.records.proofs.rows as f-rows
-use Rattle.records.proofs.rows.Symbol as f-rows-def
-use Rattle.records.proofs.rows.Symbol.{name as #f-rows}
-use Rattle.records.proofs.rows.Met as f-rows-thm
+use Rattle.rows.proofs.lent as f-lent
+use Rattle.rows.proofs.lent.Symbol as f-lent-def
+use Rattle.rows.proofs.lent.Symbol.{name as #f-lent}
+use Rattle.rows.proofs.lent.Met as f-lent-thm
 use Rattle.group.proofs.make as f-make
 use Rattle.group.proofs.make.Symbol as f-make-def
 use Rattle.group.proofs.make.Symbol.{name as #f-make}
 use Rattle.group.proofs.make.Met as f-make-thm
-use Rattle.replay.proofs.beside as f-beside
-use Rattle.replay.proofs.beside.Symbol as f-beside-def
-use Rattle.replay.proofs.beside.Symbol.{name as #f-beside}
-use Rattle.replay.proofs.beside.Met as f-beside-thm
-use Rattle.replay.proofs.on_rows.Key.{name as #call}
-use Rattle.replay.proofs.on_rows as call
-use Rattle.replay.proofs.on_rows.Statement as stated
-use Rattle.replay.proofs.on_rows.Code as code
-use Prim.Native.Nat.{_≤_}
+use Rattle.rows.proofs.beside as f-beside
+use Rattle.rows.proofs.beside.Symbol as f-beside-def
+use Rattle.rows.proofs.beside.Symbol.{name as #f-beside}
+use Rattle.rows.proofs.beside.Met as f-beside-thm
+use Rattle.rows.proofs.on_rows.Key.{name as #call}
+use Rattle.rows.proofs.on_rows as call
+use Rattle.rows.proofs.on_rows.Statement as stated
+use Rattle.rows.proofs.on_rows.Code as code
+use Prim.Native.Nat.{_≤_, min}
 use Rattle.group.specs.Group.{OutKept, callOf, outLeft}
+use Rattle.rows.specs.Rows.{OnRows}
 use Rattle.rules.specs.Rules.{Did, answerOf, groupOf}
-use Rattle.replay.proofs.Laws.{on-rows-returns}
+use Rattle.rows.proofs.Laws.{on-rows-returns}
 use mathlib.Core.List.{_++_}
 use Prim.Native.Nat.{_≤_}
 use lib.ListN.{take, drop as drop-list, take-append-drop}
@@ -116,11 +117,11 @@ stayed = (stay-dropped (arrayOf (plain (λ _. RecordT.the-row)) 300) yes, (stay-
 
 -- the contracts that the walk cites, and what each asks
 module _ {M : Type 1} (𝓤 : URA M) (H : Heap 𝓤) (A : Atoms 𝓤) (mem : Memory → SProp 𝓤) (run : Routine → Fun 𝓤) where
-  abbrev C-f-rows : Contract 𝓤
-  C-f-rows = tripleOf 𝓤 H A f-rows.signature (f-rows.spec 𝓤 H A mem run)
+  abbrev C-f-lent : Contract 𝓤
+  C-f-lent = tripleOf 𝓤 H A f-lent.signature (f-lent.spec 𝓤 H A mem run)
 
-  abbrev to-f-rows : (x0 : ℕ) (v0 : Val) → C-f-rows .Ghost
-  to-f-rows x0 v0 = ((tt, tt, tt, (x0, tt), (v0 ∷ [], tt)), tt)
+  abbrev to-f-lent : (x0 : ℕ) (v0 : Val) → C-f-lent .Ghost
+  to-f-lent x0 v0 = ((tt, tt, tt, (x0, tt), (v0 ∷ [], tt)), tt)
 
   abbrev C-f-make : Contract 𝓤
   C-f-make = tripleOf 𝓤 H A f-make.signature (f-make.spec 𝓤 H A mem run)
@@ -135,8 +136,8 @@ module _ {M : Type 1} (𝓤 : URA M) (H : Heap 𝓤) (A : Atoms 𝓤) (mem : Mem
   to-f-beside x0 v0 x1 v1 = ((tt, tt, tt, (x0, (x1, tt)), (v0 ∷ [], (v1 ∷ [], tt))), tt)
 
 module _ {M : Type 1} (𝓤 : URA M) (H : Heap 𝓤) (A : Atoms 𝓤) (W : Given 𝓤 H A) (mem : Memory → SProp 𝓤) (run : Routine → Fun 𝓤) where
-  goes-f-rows : (x0 : ℕ) (v0 : Val) (i0 : Is usize x0 (v0 ∷ [])) → ent 𝓤 (emp 𝓤) (C-f-rows 𝓤 H A mem run .pre (to-f-rows 𝓤 H A mem run x0 v0))
-  goes-f-rows x0 v0 i0 =
+  goes-f-lent : (x0 : ℕ) (v0 : Val) (i0 : Is usize x0 (v0 ∷ [])) → ent 𝓤 (emp 𝓤) (C-f-lent 𝓤 H A mem run .pre (to-f-lent 𝓤 H A mem run x0 v0))
+  goes-f-lent x0 v0 i0 =
       qed W ([]) ∵ nothing ! $ owned ! usize (Is usize) (uint-makes 𝓤 H A W w64) x0 _ i0 $ fjoin ! $ nothing ! $ join ! $ frame ! $ done !
 
   goes-f-make : (κ2 : Lft) (q2 : Share) (κ3 : Lft) (q3 : Share) (κ6 : Lft) (q6 : Share) (κ7 : Lft) (q7 : Share) (x0 : ℕ) (v0 : Val) (x1 : ℕ) (v1 : Val) (x2 : RefT (List ℕ)) (v2 : Val) (x3 : RefT (List Record)) (v3 : Val) (x4 : Links) (v4 : Val) (x5 : Command) (v5 : Val) (x6 : RefT (List ℕ)) (v6 : Val) (x7 : RefT (List ℕ)) (v7 : Val) (i0 : Is u32 x0 (v0 ∷ [])) (i1 : Is u32 x1 (v1 ∷ [])) (i4 : Is LinksT.the-row x4 (v4 ∷ [])) (i5 : Is CommandT.the-row x5 (v5 ∷ [])) → ent 𝓤 (mean 𝓤 H A (‵ (flft κ2 q2) ⊛ ‵ (flft κ3 q3) ⊛ ‵ (flft κ6 q6) ⊛ ‵ (flft κ7 q7) ⊛ ‵ (MutSlice (named 0) κ2 u8 .own x2 (v2 ∷ [])) ⊛ ‵ (MutSlice (named 0) κ3 RecordT.the-row .own x3 (v3 ∷ [])) ⊛ ‵ (ShrSlice (named 0) κ6 u8 .own x6 (v6 ∷ [])) ⊛ ‵ (MutSlice (named 0) κ7 u8 .own x7 (v7 ∷ [])) ⊛ ‵ ftrue)) (C-f-make 𝓤 H A mem run .pre (to-f-make 𝓤 H A mem run κ2 q2 κ3 q3 κ6 q6 κ7 q7 x0 v0 x1 v1 x2 v2 x3 v3 x4 v4 x5 v5 x6 v6 x7 v7))
@@ -192,28 +193,28 @@ module _ {M : Type 1} (𝓤 : URA M) (H : Heap 𝓤) (A : Atoms 𝓤) (W : Given
   abbrev Post : Val → SProp 𝓤
   Post = walkOf 𝓤 H A call.ended stayed (call.clauses 𝓤 H A mem run) .post ((κs, qs, tt, x, at), tt)
 
-  exits : (res : Made) (v : Val) (w-mem : List ℕ) (w-out : List ℕ) → length w-mem ≡ length ys-mem → length w-out ≡ length ys-out → OutKept command (ys-out) (w-out) → Is MadeT.the-row res (v ∷ [])
+  exits : (res : Made) (v : Val) (w-mem : List ℕ) (w-out : List ℕ) → length w-mem ≡ length ys-mem → length w-out ≡ length ys-out → OnRows table count s n (ys-mem) links command (ys-bytes) (ys-out) res (w-mem) (w-out) × OutKept command (ys-out) (w-out) → Is MadeT.the-row res (v ∷ [])
       → ent 𝓤 (⋆ 𝓤 H A (‵ (flft κ₀ q₀) ∷ ‵ (flft κ₁ q₁) ∷ ‵ (flft κ₂ q₂) ∷ ‵ (finally u8 γ-mem w-mem) ∷ ‵ (finally u8 γ-out w-out) ∷ [])) (Post v)
   exits res v w-mem w-out l-mem l-out e is =
       qed W (‵ (flft κ₀ q₀) ∷ ‵ (flft κ₁ q₁) ∷ ‵ (flft κ₂ q₂) ∷ ‵ (finally u8 γ-mem w-mem) ∷ ‵ (finally u8 γ-out w-out) ∷ []) ∵ suffices ! _ (ends-at 𝓤 H A call.ended stayed (call.clauses 𝓤 H A mem run) W ((κs, qs, tt, x, at), tt) v res (tt, (tt, (tt, (tt, (w-mem, (tt, (tt, (tt, (w-out, tt))))))))) (tt, (tt, (tt, (tt, (l-mem, (tt, (tt, (tt, (l-out, tt)))))))))) $
       says ! e $ nothing ! $ move ! (3 ∷ 0 ∷ []) $ join ! $ move ! (2 ∷ 0 ∷ []) $ join ! $ move ! (1 ∷ 0 ∷ []) $ join ! $ frame ! $ nothing ! $ move ! (2 ∷ 0 ∷ []) $ fjoin ! $ nothing ! $ fjoin ! $ nothing ! $ fjoin ! $ nothing ! $ fjoin ! $ move ! (1 ∷ 0 ∷ []) $ fjoin ! $ nothing ! $ fjoin ! $ nothing ! $ fjoin ! $ nothing ! $ fjoin ! $ nothing ! $ fjoin ! $ frame ! $ owned ! MadeT.the-row (Is MadeT.the-row) (LL.makes MadeT.the-type MadeL.the-plain 𝓤 H A) res _ is $ done !
 
-  module _ (C : Calls 𝓤 H) (Λ : Loops 𝓤 H) (fm : FmC 𝓤 H (W .laws) C) (known-f-rows : Triple 𝓤 (C #f-rows) (C-f-rows 𝓤 H A mem run)) (known-f-make : Triple 𝓤 (C #f-make) (C-f-make 𝓤 H A mem run)) (known-f-beside : Triple 𝓤 (C #f-beside) (C-f-beside 𝓤 H A mem run)) where
+  module _ (C : Calls 𝓤 H) (Λ : Loops 𝓤 H) (fm : FmC 𝓤 H (W .laws) C) (known-f-lent : Triple 𝓤 (C #f-lent) (C-f-lent 𝓤 H A mem run)) (known-f-make : Triple 𝓤 (C #f-make) (C-f-make 𝓤 H A mem run)) (known-f-beside : Triple 𝓤 (C #f-beside) (C-f-beside 𝓤 H A mem run)) where
     room-of : (m : ℕ) → m ≤ 300 → Room RecordT.the-row m
     room-of m h = (omega (arith, h), omega (arith, h))
 
     abbrev locals : ℕ → ℕ → ℕ → ℕ → ℕ → ℕ → ℕ → ℕ → ℕ → ℕ → ℕ → ℕ → ℕ → ℕ → ℕ → ℕ → ℕ → ℕ → ℕ → ℕ → Env 𝓤 H
     locals l₀ l₁ l₂ l₃ l₄ l₅ l₆ l₇ l₈ l₉ l₁₀ l₁₁ l₁₂ l₁₃ l₁₄ l₁₅ l₁₆ l₁₇ l₁₈ l₁₉ = (MadeL.mir, l₀) ∷ ((tyArray RecordL.mir 300), l₁) ∷ ((tyInt w64), l₂) ∷ ((tyInt w32), l₃) ∷ ((tyInt w32), l₄) ∷ ((sliceTy (tyRef (named 0) mut (tyInt w8))), l₅) ∷ (LinksL.mir, l₆) ∷ (CommandL.mir, l₇) ∷ ((sliceTy (tyRef (named 1) imm (tyInt w8))), l₈) ∷ ((sliceTy (tyRef (named 2) mut (tyInt w8))), l₉) ∷ ((tyInt w64), l₁₀) ∷ ((tyArray RecordL.mir 300), l₁₁) ∷ (AnsweredL.mir, l₁₂) ∷ ((tyRef erased mut (tyInt w8)), l₁₃) ∷ ((sliceTy (tyRef erased mut (tyInt w8))), l₁₄) ∷ ((tyRef erased mut (pointee ((Array RecordT.the-row 300) .written))), l₁₅) ∷ ((sliceTy (tyRef erased mut (pointee (RecordT.the-row .written)))), l₁₆) ∷ ((tyRef erased mut (tyInt w8)), l₁₇) ∷ ((sliceTy (tyRef erased mut (tyInt w8))), l₁₈) ∷ ((tyArray RecordL.mir 300), l₁₉) ∷ []
 
-    part-3 : (l₀ l₁ l₂ l₃ l₄ l₅ l₆ l₇ l₈ l₉ l₁₀ l₁₁ l₁₂ l₁₃ l₁₄ l₁₅ l₁₆ l₁₇ l₁₈ l₁₉ : ℕ) (w : Val) (r : ℕ) (ws : Unit {0} × Unit {0}) (e : r ≤ 300) (is : Is usize r (w ∷ [])) (long : length table ≡ 300) (w₂ : Val) (r₂ : Answered) (ws₂ : Unit {0} × (Unit {0} × (List ℕ × (List Record × (Unit {0} × (Unit {0} × (Unit {0} × (List ℕ × Unit {0})))))))) (e₂ : Did (groupOf s n ((take r table)) links (ys-mem)) (callOf command (ys-bytes) (ys-out)) (answerOf r₂ (outLeft command (ws₂ .1 .1 .1 .1 .1 .1 .1 .0))) (groupOf s n (ws₂ .1 .1 .1 .0) (r₂ .links) (ws₂ .1 .1 .0)) × OutKept command (ys-out) (ws₂ .1 .1 .1 .1 .1 .1 .1 .0)) (len : length (ws₂ .1 .1 .0) ≡ length ys-mem) (len₂ : length (ws₂ .1 .1 .1 .0) ≡ length (take r table)) (len₃ : length (ws₂ .1 .1 .1 .1 .1 .1 .1 .0) ≡ length ys-out) (is₂ : Is AnsweredT.the-row r₂ (w₂ ∷ [])) (vs : List Val) (isz : Is (Array RecordT.the-row 300) ((ws₂ .1 .1 .1 .0) ++ drop-list r table) vs) → Sq W (‵ (fat fullShare (tyArray RecordL.mir 300) l₁₁ 0 ((only ((array-vals (LL.vals RecordT.the-type RecordL.the-laws)) ((ws₂ .1 .1 .1 .0) ++ drop-list r table))))) ∷ ‵ (flft κ₂ q₂) ∷ ‵ (flft κ₁ q₁) ∷ ‵ (flft κ₀ q₀) ∷ ‵ (finally u8 γ-out (ws₂ .1 .1 .1 .1 .1 .1 .1 .0)) ∷ ‵ (finally u8 γ-mem (ws₂ .1 .1 .0)) ∷ ‵ Own-bytes ∷ ‵ (froom (tyArray RecordL.mir 300) l₁₉ 0) ∷ ‵ (fdies (tyArray RecordL.mir 300) l₁₉) ∷ ‵ (fat fullShare (sliceTy (tyRef erased mut (tyInt w8))) l₁₈ 0 (s-out)) ∷ ‵ (fdies (sliceTy (tyRef erased mut (tyInt w8))) l₁₈) ∷ ‵ (fat fullShare (tyRef erased mut (tyInt w8)) l₁₇ 0 (vptr b-out o-out)) ∷ ‵ (fdies (tyRef erased mut (tyInt w8)) l₁₇) ∷ ‵ (fat fullShare (sliceTy (tyRef erased mut (pointee (RecordT.the-row .written)))) l₁₆ 0 (sliceVal (l₁₁, 0) (length (take r table)))) ∷ ‵ (fdies (sliceTy (tyRef erased mut (pointee (RecordT.the-row .written)))) l₁₆) ∷ ‵ (fat fullShare (tyRef erased mut (pointee ((Array RecordT.the-row 300) .written))) l₁₅ 0 (vptr l₁₁ 0)) ∷ ‵ (fdies (tyRef erased mut (pointee ((Array RecordT.the-row 300) .written))) l₁₅) ∷ ‵ (fat fullShare (sliceTy (tyRef erased mut (tyInt w8))) l₁₄ 0 (s-mem)) ∷ ‵ (fdies (sliceTy (tyRef erased mut (tyInt w8))) l₁₄) ∷ ‵ (fat fullShare (tyRef erased mut (tyInt w8)) l₁₃ 0 (vptr b-mem o-mem)) ∷ ‵ (fdies (tyRef erased mut (tyInt w8)) l₁₃) ∷ ‵ (fat fullShare AnsweredL.mir l₁₂ 0 (w₂)) ∷ ‵ (fdies AnsweredL.mir l₁₂) ∷ ‵ (fdies (tyArray RecordL.mir 300) l₁₁) ∷ ‵ (fat fullShare (tyInt w64) l₁₀ 0 (vint w64 r)) ∷ ‵ (fdies (tyInt w64) l₁₀) ∷ ‵ (fat fullShare (sliceTy (tyRef (named 2) mut (tyInt w8))) l₉ 0 (s-out)) ∷ ‵ (fdies (sliceTy (tyRef (named 2) mut (tyInt w8))) l₉) ∷ ‵ (fat fullShare (sliceTy (tyRef (named 1) imm (tyInt w8))) l₈ 0 (s-bytes)) ∷ ‵ (fdies (sliceTy (tyRef (named 1) imm (tyInt w8))) l₈) ∷ ‵ (fat fullShare CommandL.mir l₇ 0 (v-command)) ∷ ‵ (fdies CommandL.mir l₇) ∷ ‵ (fat fullShare LinksL.mir l₆ 0 (v-links)) ∷ ‵ (fdies LinksL.mir l₆) ∷ ‵ (fat fullShare (sliceTy (tyRef (named 0) mut (tyInt w8))) l₅ 0 (s-mem)) ∷ ‵ (fdies (sliceTy (tyRef (named 0) mut (tyInt w8))) l₅) ∷ ‵ (fat fullShare (tyInt w32) l₄ 0 (vint w32 n)) ∷ ‵ (fdies (tyInt w32) l₄) ∷ ‵ (fat fullShare (tyInt w32) l₃ 0 (vint w32 s)) ∷ ‵ (fdies (tyInt w32) l₃) ∷ ‵ (fat fullShare (tyInt w64) l₂ 0 (vint w64 count)) ∷ ‵ (fdies (tyInt w64) l₂) ∷ ‵ (fat fullShare (tyArray RecordL.mir 300) l₁ 0 (v-table)) ∷ ‵ (fdies (tyArray RecordL.mir 300) l₁) ∷ ‵ (froom MadeL.mir l₀ 0) ∷ ‵ (fdies MadeL.mir l₀) ∷ []) (runs C Λ (locals l₀ l₁ l₂ l₃ l₄ l₅ l₆ l₇ l₈ l₉ l₁₀ l₁₁ l₁₂ l₁₃ l₁₄ l₁₅ l₁₆ l₁₇ l₁₈ l₁₉) (after 9 (code.function .body)) (atRet (locals l₀ l₁ l₂ l₃ l₄ l₅ l₆ l₇ l₈ l₉ l₁₀ l₁₁ l₁₂ l₁₃ l₁₄ l₁₅ l₁₆ l₁₇ l₁₈ l₁₉) Post))
+    part-3 : (l₀ l₁ l₂ l₃ l₄ l₅ l₆ l₇ l₈ l₉ l₁₀ l₁₁ l₁₂ l₁₃ l₁₄ l₁₅ l₁₆ l₁₇ l₁₈ l₁₉ : ℕ) (w : Val) (r : ℕ) (ws : Unit {0} × Unit {0}) (e : (r ≡ min count 300) × (r ≤ 300)) (is : Is usize r (w ∷ [])) (long : length table ≡ 300) (w₂ : Val) (r₂ : Answered) (ws₂ : Unit {0} × (Unit {0} × (List ℕ × (List Record × (Unit {0} × (Unit {0} × (Unit {0} × (List ℕ × Unit {0})))))))) (e₂ : Did (groupOf s n ((take r table)) links (ys-mem)) (callOf command (ys-bytes) (ys-out)) (answerOf r₂ (outLeft command (ws₂ .1 .1 .1 .1 .1 .1 .1 .0))) (groupOf s n (ws₂ .1 .1 .1 .0) (r₂ .links) (ws₂ .1 .1 .0)) × OutKept command (ys-out) (ws₂ .1 .1 .1 .1 .1 .1 .1 .0)) (len : length (ws₂ .1 .1 .0) ≡ length ys-mem) (len₂ : length (ws₂ .1 .1 .1 .0) ≡ length (take r table)) (len₃ : length (ws₂ .1 .1 .1 .1 .1 .1 .1 .0) ≡ length ys-out) (is₂ : Is AnsweredT.the-row r₂ (w₂ ∷ [])) (vs : List Val) (isz : Is (Array RecordT.the-row 300) ((ws₂ .1 .1 .1 .0) ++ drop-list r table) vs) → Sq W (‵ (fat fullShare (tyArray RecordL.mir 300) l₁₁ 0 ((only ((array-vals (LL.vals RecordT.the-type RecordL.the-laws)) ((ws₂ .1 .1 .1 .0) ++ drop-list r table))))) ∷ ‵ (flft κ₂ q₂) ∷ ‵ (flft κ₁ q₁) ∷ ‵ (flft κ₀ q₀) ∷ ‵ (finally u8 γ-out (ws₂ .1 .1 .1 .1 .1 .1 .1 .0)) ∷ ‵ (finally u8 γ-mem (ws₂ .1 .1 .0)) ∷ ‵ Own-bytes ∷ ‵ (froom (tyArray RecordL.mir 300) l₁₉ 0) ∷ ‵ (fdies (tyArray RecordL.mir 300) l₁₉) ∷ ‵ (fat fullShare (sliceTy (tyRef erased mut (tyInt w8))) l₁₈ 0 (s-out)) ∷ ‵ (fdies (sliceTy (tyRef erased mut (tyInt w8))) l₁₈) ∷ ‵ (fat fullShare (tyRef erased mut (tyInt w8)) l₁₇ 0 (vptr b-out o-out)) ∷ ‵ (fdies (tyRef erased mut (tyInt w8)) l₁₇) ∷ ‵ (fat fullShare (sliceTy (tyRef erased mut (pointee (RecordT.the-row .written)))) l₁₆ 0 (sliceVal (l₁₁, 0) (length (take r table)))) ∷ ‵ (fdies (sliceTy (tyRef erased mut (pointee (RecordT.the-row .written)))) l₁₆) ∷ ‵ (fat fullShare (tyRef erased mut (pointee ((Array RecordT.the-row 300) .written))) l₁₅ 0 (vptr l₁₁ 0)) ∷ ‵ (fdies (tyRef erased mut (pointee ((Array RecordT.the-row 300) .written))) l₁₅) ∷ ‵ (fat fullShare (sliceTy (tyRef erased mut (tyInt w8))) l₁₄ 0 (s-mem)) ∷ ‵ (fdies (sliceTy (tyRef erased mut (tyInt w8))) l₁₄) ∷ ‵ (fat fullShare (tyRef erased mut (tyInt w8)) l₁₃ 0 (vptr b-mem o-mem)) ∷ ‵ (fdies (tyRef erased mut (tyInt w8)) l₁₃) ∷ ‵ (fat fullShare AnsweredL.mir l₁₂ 0 (w₂)) ∷ ‵ (fdies AnsweredL.mir l₁₂) ∷ ‵ (fdies (tyArray RecordL.mir 300) l₁₁) ∷ ‵ (fat fullShare (tyInt w64) l₁₀ 0 (vint w64 r)) ∷ ‵ (fdies (tyInt w64) l₁₀) ∷ ‵ (fat fullShare (sliceTy (tyRef (named 2) mut (tyInt w8))) l₉ 0 (s-out)) ∷ ‵ (fdies (sliceTy (tyRef (named 2) mut (tyInt w8))) l₉) ∷ ‵ (fat fullShare (sliceTy (tyRef (named 1) imm (tyInt w8))) l₈ 0 (s-bytes)) ∷ ‵ (fdies (sliceTy (tyRef (named 1) imm (tyInt w8))) l₈) ∷ ‵ (fat fullShare CommandL.mir l₇ 0 (v-command)) ∷ ‵ (fdies CommandL.mir l₇) ∷ ‵ (fat fullShare LinksL.mir l₆ 0 (v-links)) ∷ ‵ (fdies LinksL.mir l₆) ∷ ‵ (fat fullShare (sliceTy (tyRef (named 0) mut (tyInt w8))) l₅ 0 (s-mem)) ∷ ‵ (fdies (sliceTy (tyRef (named 0) mut (tyInt w8))) l₅) ∷ ‵ (fat fullShare (tyInt w32) l₄ 0 (vint w32 n)) ∷ ‵ (fdies (tyInt w32) l₄) ∷ ‵ (fat fullShare (tyInt w32) l₃ 0 (vint w32 s)) ∷ ‵ (fdies (tyInt w32) l₃) ∷ ‵ (fat fullShare (tyInt w64) l₂ 0 (vint w64 count)) ∷ ‵ (fdies (tyInt w64) l₂) ∷ ‵ (fat fullShare (tyArray RecordL.mir 300) l₁ 0 (v-table)) ∷ ‵ (fdies (tyArray RecordL.mir 300) l₁) ∷ ‵ (froom MadeL.mir l₀ 0) ∷ ‵ (fdies MadeL.mir l₀) ∷ []) (runs C Λ (locals l₀ l₁ l₂ l₃ l₄ l₅ l₆ l₇ l₈ l₉ l₁₀ l₁₁ l₁₂ l₁₃ l₁₄ l₁₅ l₁₆ l₁₇ l₁₈ l₁₉) (after 9 (code.function .body)) (atRet (locals l₀ l₁ l₂ l₃ l₄ l₅ l₆ l₇ l₈ l₉ l₁₀ l₁₁ l₁₂ l₁₃ l₁₄ l₁₅ l₁₆ l₁₇ l₁₈ l₁₉) Post))
     unfolding partOf
     part-3 l₀ l₁ l₂ l₃ l₄ l₅ l₆ l₇ l₈ l₉ l₁₀ l₁₁ l₁₂ l₁₃ l₁₄ l₁₅ l₁₆ l₁₇ l₁₈ l₁₉ w r ws e is long w₂ r₂ ws₂ e₂ len len₂ len₃ is₂ vs isz =
         assigns ! (of-opd ! (load ! (from ! (stop !)) (look ! 0 refl))) (from ! (stop !)) (init ! 7 refl (array-typed RecordT.the-row (LL.lawful RecordT.the-type RecordL.the-laws 𝓤 H A W .typed) 300 ((ws₂ .1 .1 .1 .0) ++ drop-list r table) _ (subst (Is (Array RecordT.the-row 300) ((ws₂ .1 .1 .1 .0) ++ drop-list r table)) ((array-tells RecordT.the-row (LL.vals RecordT.the-type RecordL.the-laws) (LL.tells RecordT.the-type RecordL.the-laws) 300) ((ws₂ .1 .1 .1 .0) ++ drop-list r table) vs isz) isz) .0)) $
         use0 W (raw (C-f-beside 𝓤 H A mem run .pre (to-f-beside 𝓤 H A mem run ((ws₂ .1 .1 .1 .0) ++ drop-list r table) ((only ((array-vals (LL.vals RecordT.the-type RecordL.the-laws)) ((ws₂ .1 .1 .1 .0) ++ drop-list r table)))) r₂ (w₂)))) (goes-f-beside 𝓤 H A W mem run ((ws₂ .1 .1 .1 .0) ++ drop-list r table) ((only ((array-vals (LL.vals RecordT.the-type RecordL.the-laws)) ((ws₂ .1 .1 .1 .0) ++ drop-list r table)))) r₂ (w₂) (subst (Is (Array RecordT.the-row 300) ((ws₂ .1 .1 .1 .0) ++ drop-list r table)) ((array-tells RecordT.the-row (LL.vals RecordT.the-type RecordL.the-laws) (LL.tells RecordT.the-type RecordL.the-laws) 300) ((ws₂ .1 .1 .1 .0) ++ drop-list r table) vs isz) isz) is₂) $
         calls-at ! fm (C-f-beside 𝓤 H A mem run) known-f-beside (to-f-beside 𝓤 H A mem run ((ws₂ .1 .1 .1 .0) ++ drop-list r table) ((only ((array-vals (LL.vals RecordT.the-type RecordL.the-laws)) ((ws₂ .1 .1 .1 .0) ++ drop-list r table)))) r₂ (w₂)) (and-then ! (load ! (from ! (stop !)) (look ! 8 refl)) (and-then ! (load ! (from ! (stop !)) (look ! 22 refl)) (no-more !))) (λ w₃.
         use1 W (later (some (λ (r₃ : Made). ((‵ ftrue) ⊛ ‵ (MadeT.the-row .own r₃ (w₃ ∷ []))) ⊛ raw (ensured 𝓤 H A f-beside.ended (f-beside.clauses 𝓤 H A mem run) tt (((ws₂ .1 .1 .1 .0) ++ drop-list r table), (r₂, tt)) tt r₃)))) (id⊢ 𝓤 _) $ await ! tt $ pick ! (λ r₃.
-        split ! $ move ! (1 ∷ []) $ use1 W (some (λ (ws₃ : Unit {0} × (Unit {0} × Unit {0})). ‵ (lasts f-beside.ended tt (((ws₂ .1 .1 .1 .0) ++ drop-list r table), (r₂, tt)) ws₃) ⊛ raw (fact 𝓤 (r₃ .answer ≡ r₂)))) (id⊢ 𝓤 _) $ pick ! (λ ws₃.
-        split ! $ move ! (1 ∷ []) $ heard ! (r₃ .answer ≡ r₂) (λ e₃.
+        split ! $ move ! (1 ∷ []) $ use1 W (some (λ (ws₃ : Unit {0} × (Unit {0} × Unit {0})). ‵ (lasts f-beside.ended tt (((ws₂ .1 .1 .1 .0) ++ drop-list r table), (r₂, tt)) ws₃) ⊛ raw (fact 𝓤 ((r₃ .table ≡ ((ws₂ .1 .1 .1 .0) ++ drop-list r table)) × (r₃ .answer ≡ r₂))))) (id⊢ 𝓤 _) $ pick ! (λ ws₃.
+        split ! $ move ! (1 ∷ []) $ heard ! ((r₃ .table ≡ ((ws₂ .1 .1 .1 .0) ++ drop-list r table)) × (r₃ .answer ≡ r₂)) (λ e₃.
         fsplit ! $ drop ! $ fsplit ! $ drop ! $ drop ! $ split ! $
         move ! (1 ∷ []) $ peeks ! MadeT.the-row (Is MadeT.the-row) (shows 𝓤 H A MadeT.the-row) r₃ (w₃ ∷ []) (λ is₃. drop ! $
         land ! (from ! (stop !)) (init ! 45 refl (LL.lawful MadeT.the-type MadeL.the-laws 𝓤 H A W .typed r₃ _ is₃ .0)) $
@@ -225,11 +226,11 @@ module _ {M : Type 1} (𝓤 : URA M) (H : Heap 𝓤) (A : Atoms 𝓤) (W : Given
     part-2 : (l₀ l₁ l₂ l₃ l₄ l₅ l₆ l₇ l₈ l₉ l₁₀ l₁₁ l₁₂ l₁₃ l₁₄ l₁₅ l₁₆ l₁₇ l₁₈ l₁₉ : ℕ) → Sq W (‵ (flft κ₂ q₂) ∷ ‵ (flft κ₁ q₁) ∷ ‵ (flft κ₀ q₀) ∷ ‵ Own-out ∷ ‵ Own-bytes ∷ ‵ Own-mem ∷ ‵ (froom (tyArray RecordL.mir 300) l₁₉ 0) ∷ ‵ (fdies (tyArray RecordL.mir 300) l₁₉) ∷ ‵ (froom (sliceTy (tyRef erased mut (tyInt w8))) l₁₈ 0) ∷ ‵ (fdies (sliceTy (tyRef erased mut (tyInt w8))) l₁₈) ∷ ‵ (froom (tyRef erased mut (tyInt w8)) l₁₇ 0) ∷ ‵ (fdies (tyRef erased mut (tyInt w8)) l₁₇) ∷ ‵ (froom (sliceTy (tyRef erased mut (pointee (RecordT.the-row .written)))) l₁₆ 0) ∷ ‵ (fdies (sliceTy (tyRef erased mut (pointee (RecordT.the-row .written)))) l₁₆) ∷ ‵ (froom (tyRef erased mut (pointee ((Array RecordT.the-row 300) .written))) l₁₅ 0) ∷ ‵ (fdies (tyRef erased mut (pointee ((Array RecordT.the-row 300) .written))) l₁₅) ∷ ‵ (froom (sliceTy (tyRef erased mut (tyInt w8))) l₁₄ 0) ∷ ‵ (fdies (sliceTy (tyRef erased mut (tyInt w8))) l₁₄) ∷ ‵ (froom (tyRef erased mut (tyInt w8)) l₁₃ 0) ∷ ‵ (fdies (tyRef erased mut (tyInt w8)) l₁₃) ∷ ‵ (froom AnsweredL.mir l₁₂ 0) ∷ ‵ (fdies AnsweredL.mir l₁₂) ∷ ‵ (froom (tyArray RecordL.mir 300) l₁₁ 0) ∷ ‵ (fdies (tyArray RecordL.mir 300) l₁₁) ∷ ‵ (froom (tyInt w64) l₁₀ 0) ∷ ‵ (fdies (tyInt w64) l₁₀) ∷ ‵ (fat fullShare (sliceTy (tyRef (named 2) mut (tyInt w8))) l₉ 0 (s-out)) ∷ ‵ (fdies (sliceTy (tyRef (named 2) mut (tyInt w8))) l₉) ∷ ‵ (fat fullShare (sliceTy (tyRef (named 1) imm (tyInt w8))) l₈ 0 (s-bytes)) ∷ ‵ (fdies (sliceTy (tyRef (named 1) imm (tyInt w8))) l₈) ∷ ‵ (fat fullShare CommandL.mir l₇ 0 (v-command)) ∷ ‵ (fdies CommandL.mir l₇) ∷ ‵ (fat fullShare LinksL.mir l₆ 0 (v-links)) ∷ ‵ (fdies LinksL.mir l₆) ∷ ‵ (fat fullShare (sliceTy (tyRef (named 0) mut (tyInt w8))) l₅ 0 (s-mem)) ∷ ‵ (fdies (sliceTy (tyRef (named 0) mut (tyInt w8))) l₅) ∷ ‵ (fat fullShare (tyInt w32) l₄ 0 (vint w32 n)) ∷ ‵ (fdies (tyInt w32) l₄) ∷ ‵ (fat fullShare (tyInt w32) l₃ 0 (vint w32 s)) ∷ ‵ (fdies (tyInt w32) l₃) ∷ ‵ (fat fullShare (tyInt w64) l₂ 0 (vint w64 count)) ∷ ‵ (fdies (tyInt w64) l₂) ∷ ‵ (fat fullShare (tyArray RecordL.mir 300) l₁ 0 (v-table)) ∷ ‵ (fdies (tyArray RecordL.mir 300) l₁) ∷ ‵ (froom MadeL.mir l₀ 0) ∷ ‵ (fdies MadeL.mir l₀) ∷ []) (runs C Λ (locals l₀ l₁ l₂ l₃ l₄ l₅ l₆ l₇ l₈ l₉ l₁₀ l₁₁ l₁₂ l₁₃ l₁₄ l₁₅ l₁₆ l₁₇ l₁₈ l₁₉) (after 0 (code.function .body)) (atRet (locals l₀ l₁ l₂ l₃ l₄ l₅ l₆ l₇ l₈ l₉ l₁₀ l₁₁ l₁₂ l₁₃ l₁₄ l₁₅ l₁₆ l₁₇ l₁₈ l₁₉) Post))
     unfolding partOf
     part-2 l₀ l₁ l₂ l₃ l₄ l₅ l₆ l₇ l₈ l₉ l₁₀ l₁₁ l₁₂ l₁₃ l₁₄ l₁₅ l₁₆ l₁₇ l₁₈ l₁₉ =
-        use0 W (raw (C-f-rows 𝓤 H A mem run .pre (to-f-rows 𝓤 H A mem run count (vint w64 count)))) (goes-f-rows 𝓤 H A W mem run count (vint w64 count) (refl, g-count)) $
-        calls-at ! fm (C-f-rows 𝓤 H A mem run) known-f-rows (to-f-rows 𝓤 H A mem run count (vint w64 count)) (and-then ! (load ! (from ! (stop !)) (look ! 41 refl)) (no-more !)) (λ w.
-        use1 W (later (some (λ (r : ℕ). ((‵ ftrue) ⊛ ‵ (usize .own r (w ∷ []))) ⊛ raw (ensured 𝓤 H A f-rows.ended (f-rows.clauses 𝓤 H A mem run) tt (count, tt) tt r)))) (id⊢ 𝓤 _) $ await ! tt $ pick ! (λ r.
-        split ! $ move ! (1 ∷ []) $ use1 W (some (λ (ws : Unit {0} × Unit {0}). ‵ (lasts f-rows.ended tt (count, tt) ws) ⊛ raw (fact 𝓤 (r ≤ 300)))) (id⊢ 𝓤 _) $ pick ! (λ ws.
-        split ! $ move ! (1 ∷ []) $ heard ! (r ≤ 300) (λ e.
+        use0 W (raw (C-f-lent 𝓤 H A mem run .pre (to-f-lent 𝓤 H A mem run count (vint w64 count)))) (goes-f-lent 𝓤 H A W mem run count (vint w64 count) (refl, g-count)) $
+        calls-at ! fm (C-f-lent 𝓤 H A mem run) known-f-lent (to-f-lent 𝓤 H A mem run count (vint w64 count)) (and-then ! (load ! (from ! (stop !)) (look ! 41 refl)) (no-more !)) (λ w.
+        use1 W (later (some (λ (r : ℕ). ((‵ ftrue) ⊛ ‵ (usize .own r (w ∷ []))) ⊛ raw (ensured 𝓤 H A f-lent.ended (f-lent.clauses 𝓤 H A mem run) tt (count, tt) tt r)))) (id⊢ 𝓤 _) $ await ! tt $ pick ! (λ r.
+        split ! $ move ! (1 ∷ []) $ use1 W (some (λ (ws : Unit {0} × Unit {0}). ‵ (lasts f-lent.ended tt (count, tt) ws) ⊛ raw (fact 𝓤 ((r ≡ min count 300) × (r ≤ 300))))) (id⊢ 𝓤 _) $ pick ! (λ ws.
+        split ! $ move ! (1 ∷ []) $ heard ! ((r ≡ min count 300) × (r ≤ 300)) (λ e.
         fsplit ! $ drop ! $ drop ! $ split ! $
         move ! (1 ∷ []) $ peeks ! usize (Is usize) (shows 𝓤 H A usize) r (w ∷ []) (λ is. drop ! $
         land ! (from ! (stop !)) (init ! 25 refl (uint-lawful 𝓤 H A W w64 .typed r _ is .0)) $ rewrite ! 25 (λ (u : Val). ‵ (fat fullShare (tyInt w64) l₁₀ 0 u)) (ap only (is .0)) refl $
@@ -243,8 +244,8 @@ module _ {M : Type 1} (𝓤 : URA M) (H : Heap 𝓤) (A : Atoms 𝓤) (W : Given
         assigns ! (agg ! (and-then ! (load ! (from ! (stop !)) (look ! 10 refl)) (and-then ! (load ! (from ! (fld ! refl (stop !))) (look-in ! 26 (sub ! 1 refl (whole !)))) (no-more !)))) (from ! (stop !)) (init ! 8 refl (tt, (tt, (record { fits = g-out .0 }, tt)))) $
         move ! (22 ∷ []) $ use1 W (‵ (cellAt fullShare ((Array RecordT.the-row 300) .mir) (v-table ∷ []) l₁₁ 0)) (W .laws .at-raw fullShare (tyArray RecordL.mir 300) l₁₁ 0 (v-table)) $ owned ! (Array RecordT.the-row 300) (Is (Array RecordT.the-row 300)) (array-makes 𝓤 H A W RecordT.the-row (LL.makes RecordT.the-type RecordL.the-plain 𝓤 H A) 300) table _ g-table $ move ! (1 ∷ 0 ∷ []) $ fjoin ! $ fpack ! (List Val) (λ vs. fsep (cellAt fullShare ((Array RecordT.the-row 300) .mir) vs l₁₁ 0) ((Array RecordT.the-row 300) .own table vs)) (v-table ∷ []) $
         use1 W (‵ (arr-parts (shares RecordT.the-row) 300 .part fullShare table l₁₁ 0)) (array-apart 𝓤 H A W RecordT.the-row fullShare tt 300 table l₁₁ 0) $ fsplit ! $ feqL ! (λ long. use1 W (‵ (cells (cellOf RecordT.the-row) table l₁₁ 0)) (whole-in 𝓤 H A W RecordT.the-row table l₁₁ 0) $ rewrite ! 0 (λ (ys : List Record). ‵ (cells (cellOf RecordT.the-row) ys l₁₁ 0)) (sym (take-append-drop r table)) refl $ use1 W (‵ (cells (cellOf RecordT.the-row) (take r table) l₁₁ 0) ⊛ ‵ (cells (cellOf RecordT.the-row) (drop-list r table) l₁₁ (place-of 0 (cellOf RecordT.the-row .size) (length (take r table))))) (cut-app 𝓤 H A (cellOf RecordT.the-row) (take r table) (drop-list r table) l₁₁ 0) $ split ! $
-        lft-new ! tt (λ ν. move ! (1 ∷ []) $ use1 W (later (some (λ (δ : GName). ‵ (MutSlice (named 0) (ν ∷ []) RecordT.the-row .own (record { ptr = (l₁₁, 0); name = δ; now = (take r table) }) ((sliceVal (l₁₁, 0) (length (take r table))) ∷ [])) ⊛ ‵ (flent (ν ∷ []) (Held RecordT.the-row (length (take r table)) l₁₁ 0 δ))))) (lends-slice 𝓤 H A W RecordT.the-row (named 0) (ν ∷ []) (take r table) l₁₁ 0 (subst (Room RecordT.the-row) (sym (length-take-le r table (subst (λ (m : ℕ). r ≤ m) (sym long) e))) (room-of r e))) $ await ! tt $ pick ! (λ δ. split ! $
-        rewrite ! 16 (λ (m : ℕ). ‵ (fat fullShare (sliceTy (tyRef erased mut (pointee (RecordT.the-row .written)))) l₁₆ 0 (sliceVal (l₁₁, 0) m))) (sym (length-take-le r table (subst (λ (m : ℕ). r ≤ m) (sym long) e))) refl $ move ! (8 ∷ []) $ use1 W (‵ Own-bytes ⊛ ‵ Own-bytes) (shr-slice-copy 𝓤 H A W (named 1) κ₁ u8 .twice x-bytes (s-bytes ∷ [])) $ split ! $ nothing ! $ move ! (10 ∷ 0 ∷ []) $ join ! $ move ! (2 ∷ 0 ∷ []) $ join ! $ move ! (2 ∷ 0 ∷ []) $ join ! $ move ! (8 ∷ 0 ∷ []) $ join ! $ move ! (5 ∷ 0 ∷ []) $ join ! $ move ! (5 ∷ 0 ∷ []) $ join ! $ move ! (3 ∷ 0 ∷ []) $ join ! $ move ! (4 ∷ 0 ∷ []) $ join ! $ use1 W (raw (C-f-make 𝓤 H A mem run .pre (to-f-make 𝓤 H A mem run κ₀ q₀ (ν ∷ []) fullShare κ₁ q₁ κ₂ q₂ s (vint w32 s) n (vint w32 n) x-mem s-mem (record { ptr = (l₁₁, 0); name = δ; now = (take r table) }) (sliceVal (l₁₁, 0) (length (take r table))) links (v-links) command (v-command) x-bytes s-bytes x-out s-out))) (goes-f-make 𝓤 H A W mem run κ₀ q₀ (ν ∷ []) fullShare κ₁ q₁ κ₂ q₂ s (vint w32 s) n (vint w32 n) x-mem s-mem (record { ptr = (l₁₁, 0); name = δ; now = (take r table) }) (sliceVal (l₁₁, 0) (length (take r table))) links (v-links) command (v-command) x-bytes s-bytes x-out s-out (refl, g-s) (refl, g-n) g-links g-command) $
+        lft-new ! tt (λ ν. move ! (1 ∷ []) $ use1 W (later (some (λ (δ : GName). ‵ (MutSlice (named 0) (ν ∷ []) RecordT.the-row .own (record { ptr = (l₁₁, 0); name = δ; now = (take r table) }) ((sliceVal (l₁₁, 0) (length (take r table))) ∷ [])) ⊛ ‵ (flent (ν ∷ []) (Held RecordT.the-row (length (take r table)) l₁₁ 0 δ))))) (lends-slice 𝓤 H A W RecordT.the-row (named 0) (ν ∷ []) (take r table) l₁₁ 0 (subst (Room RecordT.the-row) (sym (length-take-le r table (subst (λ (m : ℕ). r ≤ m) (sym long) (e .1)))) (room-of r (e .1)))) $ await ! tt $ pick ! (λ δ. split ! $
+        rewrite ! 16 (λ (m : ℕ). ‵ (fat fullShare (sliceTy (tyRef erased mut (pointee (RecordT.the-row .written)))) l₁₆ 0 (sliceVal (l₁₁, 0) m))) (sym (length-take-le r table (subst (λ (m : ℕ). r ≤ m) (sym long) (e .1)))) refl $ move ! (8 ∷ []) $ use1 W (‵ Own-bytes ⊛ ‵ Own-bytes) (shr-slice-copy 𝓤 H A W (named 1) κ₁ u8 .twice x-bytes (s-bytes ∷ [])) $ split ! $ nothing ! $ move ! (10 ∷ 0 ∷ []) $ join ! $ move ! (2 ∷ 0 ∷ []) $ join ! $ move ! (2 ∷ 0 ∷ []) $ join ! $ move ! (8 ∷ 0 ∷ []) $ join ! $ move ! (5 ∷ 0 ∷ []) $ join ! $ move ! (5 ∷ 0 ∷ []) $ join ! $ move ! (3 ∷ 0 ∷ []) $ join ! $ move ! (4 ∷ 0 ∷ []) $ join ! $ use1 W (raw (C-f-make 𝓤 H A mem run .pre (to-f-make 𝓤 H A mem run κ₀ q₀ (ν ∷ []) fullShare κ₁ q₁ κ₂ q₂ s (vint w32 s) n (vint w32 n) x-mem s-mem (record { ptr = (l₁₁, 0); name = δ; now = (take r table) }) (sliceVal (l₁₁, 0) (length (take r table))) links (v-links) command (v-command) x-bytes s-bytes x-out s-out))) (goes-f-make 𝓤 H A W mem run κ₀ q₀ (ν ∷ []) fullShare κ₁ q₁ κ₂ q₂ s (vint w32 s) n (vint w32 n) x-mem s-mem (record { ptr = (l₁₁, 0); name = δ; now = (take r table) }) (sliceVal (l₁₁, 0) (length (take r table))) links (v-links) command (v-command) x-bytes s-bytes x-out s-out (refl, g-s) (refl, g-n) g-links g-command) $
         calls-at ! fm (C-f-make 𝓤 H A mem run) known-f-make (to-f-make 𝓤 H A mem run κ₀ q₀ (ν ∷ []) fullShare κ₁ q₁ κ₂ q₂ s (vint w32 s) n (vint w32 n) x-mem s-mem (record { ptr = (l₁₁, 0); name = δ; now = (take r table) }) (sliceVal (l₁₁, 0) (length (take r table))) links (v-links) command (v-command) x-bytes s-bytes x-out s-out) (and-then ! (load ! (from ! (stop !)) (look ! 35 refl)) (and-then ! (load ! (from ! (stop !)) (look ! 33 refl)) (and-then ! (load ! (from ! (stop !)) (look ! 14 refl)) (and-then ! (load ! (from ! (stop !)) (look ! 10 refl)) (and-then ! (load ! (from ! (stop !)) (look ! 29 refl)) (and-then ! (load ! (from ! (stop !)) (look ! 27 refl)) (and-then ! (load ! (from ! (stop !)) (look ! 25 refl)) (and-then ! (load ! (from ! (stop !)) (look ! 6 refl)) (no-more !))))))))) (λ w₂.
         use1 W (later (some (λ (r₂ : Answered). ((‵ (flft κ₀ q₀) ⊛ ‵ (flft (ν ∷ []) fullShare) ⊛ ‵ (flft κ₁ q₁) ⊛ ‵ (flft κ₂ q₂) ⊛ ‵ ftrue) ⊛ ‵ (AnsweredT.the-row .own r₂ (w₂ ∷ []))) ⊛ raw (ensured 𝓤 H A f-make.ended (f-make.clauses 𝓤 H A mem run) (κ₀, ((ν ∷ []), (κ₁, (κ₂, tt)))) (s, (n, (x-mem, ((record { ptr = (l₁₁, 0); name = δ; now = (take r table) }), (links, (command, (x-bytes, (x-out, tt)))))))) tt r₂)))) (id⊢ 𝓤 _) $ await ! tt $ pick ! (λ r₂.
         split ! $ move ! (1 ∷ []) $ use1 W (some (λ (ws₂ : Unit {0} × (Unit {0} × (List ℕ × (List Record × (Unit {0} × (Unit {0} × (Unit {0} × (List ℕ × Unit {0})))))))). ‵ (lasts f-make.ended (κ₀, ((ν ∷ []), (κ₁, (κ₂, tt)))) (s, (n, (x-mem, ((record { ptr = (l₁₁, 0); name = δ; now = (take r table) }), (links, (command, (x-bytes, (x-out, tt)))))))) ws₂) ⊛ raw (fact 𝓤 (Did (groupOf s n ((take r table)) links (ys-mem)) (callOf command (ys-bytes) (ys-out)) (answerOf r₂ (outLeft command (ws₂ .1 .1 .1 .1 .1 .1 .1 .0))) (groupOf s n (ws₂ .1 .1 .1 .0) (r₂ .links) (ws₂ .1 .1 .0)) × OutKept command (ys-out) (ws₂ .1 .1 .1 .1 .1 .1 .1 .0))))) (id⊢ 𝓤 _) $ pick ! (λ ws₂.
@@ -266,17 +267,17 @@ module _ {M : Type 1} (𝓤 : URA M) (H : Heap 𝓤) (A : Atoms 𝓤) (W : Given
         part-2 l₀ l₁ l₂ l₃ l₄ l₅ l₆ l₇ l₈ l₉ l₁₀ l₁₁ l₁₂ l₁₃ l₁₄ l₁₅ l₁₆ l₁₇ l₁₈ l₁₉))))))))))))))))))))
 
 module _ {M : Type 1} (𝓤 : URA M) (H : Heap 𝓤) (A : Atoms 𝓤) (W : Given 𝓤 H A) (mem : Memory → SProp 𝓤) (run : Routine → Fun 𝓤) where
-  call-walks : (C : Calls 𝓤 H) (Λ : Loops 𝓤 H) → FmC 𝓤 H (W .laws) C → Triple 𝓤 (C #f-rows) (C-f-rows 𝓤 H A mem run) → Triple 𝓤 (C #f-make) (C-f-make 𝓤 H A mem run) → Triple 𝓤 (C #f-beside) (C-f-beside 𝓤 H A mem run) → Walks 𝓤 H A call.ended stayed (WpFn 𝓤 H C Λ code.function) (call.clauses 𝓤 H A mem run)
-  call-walks C Λ fm known-f-rows known-f-make known-f-beside = walked 𝓤 H A call.ended stayed (call.clauses 𝓤 H A mem run) (WpFn 𝓤 H C Λ code.function)
+  call-walks : (C : Calls 𝓤 H) (Λ : Loops 𝓤 H) → FmC 𝓤 H (W .laws) C → Triple 𝓤 (C #f-lent) (C-f-lent 𝓤 H A mem run) → Triple 𝓤 (C #f-make) (C-f-make 𝓤 H A mem run) → Triple 𝓤 (C #f-beside) (C-f-beside 𝓤 H A mem run) → Walks 𝓤 H A call.ended stayed (WpFn 𝓤 H C Λ code.function) (call.clauses 𝓤 H A mem run)
+  call-walks C Λ fm known-f-lent known-f-make known-f-beside = walked 𝓤 H A call.ended stayed (call.clauses 𝓤 H A mem run) (WpFn 𝓤 H C Λ code.function)
       (λ κs. ((array-vals (LL.vals RecordT.the-type RecordL.the-laws)), ((uint-vals w64), ((uint-vals w32), ((uint-vals w32), (slice-vals, ((LL.vals LinksT.the-type LinksL.the-laws), ((EL.vals CommandT.the-type CommandL.the-laws), (slice-vals, (slice-vals, tt)))))))))) (λ κs. ((array-tells RecordT.the-row (LL.vals RecordT.the-type RecordL.the-laws) (LL.tells RecordT.the-type RecordL.the-laws) 300), ((uint-tells w64), ((uint-tells w32), ((uint-tells w32), (mut-slice-tells (named 0) (κs .0) u8, ((LL.tells LinksT.the-type LinksL.the-laws), ((EL.tells CommandT.the-type CommandL.the-laws), (shr-slice-tells (named 1) (κs .1 .0) u8, (mut-slice-tells (named 2) (κs .1 .1 .0) u8, tt))))))))))
-      (λ κs qs bounds a g are. via 𝓤 _ (fst∗ 𝓤 _ (emp 𝓤)) (walk 𝓤 H A W mem run (κs .0) (κs .1 .0) (κs .1 .1 .0) (qs .0) (qs .1 .0) (qs .1 .1 .0) (a .0) (_) (a .1 .0) (a .1 .1 .0) (a .1 .1 .1 .0) (a .1 .1 .1 .1 .0 .ptr .0) (a .1 .1 .1 .1 .0 .ptr .1) (a .1 .1 .1 .1 .0 .name) (a .1 .1 .1 .1 .0 .now) (a .1 .1 .1 .1 .1 .0) (LL.val LinksT.the-type LinksL.the-laws (a .1 .1 .1 .1 .1 .0)) (a .1 .1 .1 .1 .1 .1 .0) (EL.val CommandT.the-type CommandL.the-laws (a .1 .1 .1 .1 .1 .1 .0)) (a .1 .1 .1 .1 .1 .1 .1 .0 .ptr .0) (a .1 .1 .1 .1 .1 .1 .1 .0 .ptr .1) (a .1 .1 .1 .1 .1 .1 .1 .0 .name) (a .1 .1 .1 .1 .1 .1 .1 .0 .now) (a .1 .1 .1 .1 .1 .1 .1 .1 .0 .ptr .0) (a .1 .1 .1 .1 .1 .1 .1 .1 .0 .ptr .1) (a .1 .1 .1 .1 .1 .1 .1 .1 .0 .name) (a .1 .1 .1 .1 .1 .1 .1 .1 .0 .now) (are .0) (are .1 .0 .1) (are .1 .1 .0 .1) (are .1 .1 .1 .0 .1) (are .1 .1 .1 .1 .0 .0 .1) (are .1 .1 .1 .1 .1 .0) (are .1 .1 .1 .1 .1 .1 .0) (are .1 .1 .1 .1 .1 .1 .1 .0 .0 .1) (are .1 .1 .1 .1 .1 .1 .1 .1 .0 .0 .1) C Λ fm known-f-rows known-f-make known-f-beside))
+      (λ κs qs bounds a g are. via 𝓤 _ (fst∗ 𝓤 _ (emp 𝓤)) (walk 𝓤 H A W mem run (κs .0) (κs .1 .0) (κs .1 .1 .0) (qs .0) (qs .1 .0) (qs .1 .1 .0) (a .0) (_) (a .1 .0) (a .1 .1 .0) (a .1 .1 .1 .0) (a .1 .1 .1 .1 .0 .ptr .0) (a .1 .1 .1 .1 .0 .ptr .1) (a .1 .1 .1 .1 .0 .name) (a .1 .1 .1 .1 .0 .now) (a .1 .1 .1 .1 .1 .0) (LL.val LinksT.the-type LinksL.the-laws (a .1 .1 .1 .1 .1 .0)) (a .1 .1 .1 .1 .1 .1 .0) (EL.val CommandT.the-type CommandL.the-laws (a .1 .1 .1 .1 .1 .1 .0)) (a .1 .1 .1 .1 .1 .1 .1 .0 .ptr .0) (a .1 .1 .1 .1 .1 .1 .1 .0 .ptr .1) (a .1 .1 .1 .1 .1 .1 .1 .0 .name) (a .1 .1 .1 .1 .1 .1 .1 .0 .now) (a .1 .1 .1 .1 .1 .1 .1 .1 .0 .ptr .0) (a .1 .1 .1 .1 .1 .1 .1 .1 .0 .ptr .1) (a .1 .1 .1 .1 .1 .1 .1 .1 .0 .name) (a .1 .1 .1 .1 .1 .1 .1 .1 .0 .now) (are .0) (are .1 .0 .1) (are .1 .1 .0 .1) (are .1 .1 .1 .0 .1) (are .1 .1 .1 .1 .0 .0 .1) (are .1 .1 .1 .1 .1 .0) (are .1 .1 .1 .1 .1 .1 .0) (are .1 .1 .1 .1 .1 .1 .1 .0 .0 .1) (are .1 .1 .1 .1 .1 .1 .1 .1 .0 .0 .1) C Λ fm known-f-lent known-f-make known-f-beside))
 
-call-meets : {M : Type 1} (𝓤 : URA M) (H : Heap 𝓤) (A : Atoms 𝓤) → Given 𝓤 H A → (mem : Memory → SProp 𝓤) (run : Routine → Fun 𝓤) (𝓣 : Tables 𝓤 H) → Triple 𝓤 (𝓣 .C #f-rows) (C-f-rows 𝓤 H A mem run) → Triple 𝓤 (𝓣 .C #f-make) (C-f-make 𝓤 H A mem run) → Triple 𝓤 (𝓣 .C #f-beside) (C-f-beside 𝓤 H A mem run)
+call-meets : {M : Type 1} (𝓤 : URA M) (H : Heap 𝓤) (A : Atoms 𝓤) → Given 𝓤 H A → (mem : Memory → SProp 𝓤) (run : Routine → Fun 𝓤) (𝓣 : Tables 𝓤 H) → Triple 𝓤 (𝓣 .C #f-lent) (C-f-lent 𝓤 H A mem run) → Triple 𝓤 (𝓣 .C #f-make) (C-f-make 𝓤 H A mem run) → Triple 𝓤 (𝓣 .C #f-beside) (C-f-beside 𝓤 H A mem run)
     → Meets 𝓤 H A call.signature (WpFn 𝓤 H (𝓣 .C) (𝓣 .Λ) code.function) (call.spec 𝓤 H A mem run)
-call-meets 𝓤 H A W mem run 𝓣 known-f-rows known-f-make known-f-beside =
+call-meets 𝓤 H A W mem run 𝓣 known-f-lent known-f-make known-f-beside =
     walk-meets 𝓤 H A call.ended stayed W
     (goes-dropped 𝓤 H A W 3 (arrayOf (plain (λ _. RecordT.the-row)) 300) yes (λ κs x f. refl), (goes-dropped 𝓤 H A W 3 (plain (λ _. usize)) yes (λ κs x f. refl), (goes-dropped 𝓤 H A W 3 (plain (λ _. u32)) yes (λ κs x f. refl), (goes-dropped 𝓤 H A W 3 (plain (λ _. u32)) yes (λ κs x f. refl), (goes-gave-slice 𝓤 H A W 3 0 tt (plain (λ _. u8)), (goes-dropped 𝓤 H A W 3 (plain (λ _. LinksT.the-row)) yes (λ κs x f. refl), (goes-dropped 𝓤 H A W 3 (plain (λ _. CommandT.the-row)) yes (λ κs x f. refl), (goes-dropped 𝓤 H A W 3 (shrSliceOf (1 ∷ []) tt (plain (λ _. u8))) yes (λ κs x f. refl), (goes-gave-slice 𝓤 H A W 3 2 tt (plain (λ _. u8)), tt)))))))))
-    (call.clauses 𝓤 H A mem run) (WpFn 𝓤 H (𝓣 .C) (𝓣 .Λ) code.function) (WpFn-mono 𝓤 H (W .laws) 𝓣 code.function) (call-walks 𝓤 H A W mem run (𝓣 .C) (𝓣 .Λ) (fmOf 𝓤 H (W .laws) 𝓣) known-f-rows known-f-make known-f-beside)
+    (call.clauses 𝓤 H A mem run) (WpFn 𝓤 H (𝓣 .C) (𝓣 .Λ) code.function) (WpFn-mono 𝓤 H (W .laws) 𝓣 code.function) (call-walks 𝓤 H A W mem run (𝓣 .C) (𝓣 .Λ) (fmOf 𝓤 H (W .laws) 𝓣) known-f-lent known-f-make known-f-beside)
 
 pub on-rows-spec : {M : Type 1} → stated.statement M
 unfolding code.routine tablesOf
@@ -284,6 +285,6 @@ on-rows-spec 𝓤 H 𝓜 𝓖 𝓡 =
     entered 𝓤 H (tripleOf 𝓤 H (𝓖 .A) call.signature (call.spec 𝓤 H (𝓖 .A) (𝓜 .mem) (𝓡 .run)))
     (tables 𝓤 H 𝓜 𝓡 code.env .C) (tables 𝓤 H 𝓜 𝓡 code.env .Λ) #call code.function (code.unfolded 𝓤 H 𝓜 𝓡)
     (call-meets 𝓤 H (𝓖 .A) (givenOf 𝓤 H 𝓜 𝓖) (𝓜 .mem) (𝓡 .run) (tablesOf 𝓤 H 𝓜 (tables 𝓤 H 𝓜 𝓡 code.env))
-    (cited 𝓤 H (C-f-rows 𝓤 H (𝓖 .A) (𝓜 .mem) (𝓡 .run)) 𝓜 𝓡 code.env #f-rows f-rows-def.routine code.calls-records·rows (f-rows-thm.met 𝓤 H 𝓜 𝓖 𝓡))
+    (cited 𝓤 H (C-f-lent 𝓤 H (𝓖 .A) (𝓜 .mem) (𝓡 .run)) 𝓜 𝓡 code.env #f-lent f-lent-def.routine code.calls-rows·lent (f-lent-thm.met 𝓤 H 𝓜 𝓖 𝓡))
     (cited 𝓤 H (C-f-make 𝓤 H (𝓖 .A) (𝓜 .mem) (𝓡 .run)) 𝓜 𝓡 code.env #f-make f-make-def.routine code.calls-group·make (f-make-thm.met 𝓤 H 𝓜 𝓖 𝓡))
-    (cited 𝓤 H (C-f-beside 𝓤 H (𝓖 .A) (𝓜 .mem) (𝓡 .run)) 𝓜 𝓡 code.env #f-beside f-beside-def.routine code.calls-replay·beside (f-beside-thm.met 𝓤 H 𝓜 𝓖 𝓡)))
+    (cited 𝓤 H (C-f-beside 𝓤 H (𝓖 .A) (𝓜 .mem) (𝓡 .run)) 𝓜 𝓡 code.env #f-beside f-beside-def.routine code.calls-rows·beside (f-beside-thm.met 𝓤 H 𝓜 𝓖 𝓡)))

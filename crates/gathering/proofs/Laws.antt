@@ -1,0 +1,57 @@
+-- A send of a head and a body, from what its parts gave. Assumes nothing.
+use Prim.Native.Nat.{ℕ, _+_}
+use mathlib.Core.Path.{_≡_, refl, sym, ap, _∙_}
+use mathlib.Core.Bool.{Bool}
+use mathlib.Core.List.{List, [], _++_}
+use lib.ListN.{length, length-append}
+use Rattle.connection.specs.declared.Record.{Record}
+use Rattle.connection.specs.declared.Outcome.{Outcome}
+use Rattle.transmit.specs.Transmit.{sendOf}
+use Rattle.pieces.specs.Pieces.{piecesOf}
+use Rattle.table.specs.declared.Links.{Links}
+use Rattle.table.specs.declared.Answered.{Answered}
+use Rattle.table.specs.declared.Turned.{Turned}
+use Rattle.table.specs.Table.{recordAt, withRecord}
+use Rattle.rules.specs.Rules.{Answer, on, send, gather, Did, groupOf, answer, answerInPieces, turnOf, requestTurn}
+use Rattle.rules.specs.Promises.{Promise}
+use Rattle.rules.proofs.Joined.{joined-left, joined-says}
+use Rattle.gathering.specs.declared.Gathered.{Gathered}
+use Rattle.gathering.specs.Gathering.{callOf, gatherAnswer, DidGather}
+
+-- the turn of a send of the joined bytes, whose length the code adds up
+pub joined-turn : (n : ℕ) (active : Bool) (c : Record) (e h b : List ℕ) (o : Outcome) → o ≡ sendOf n active c (length h + length b)
+    → requestTurn n active c e (send (h ++ b)) ≡ turnOf o e []
+unfolding requestTurn
+joined-turn n active c e h b o p =
+    ap (λ (w : Outcome). turnOf w e []) (ap (sendOf n active c) (length-append h b) ∙ sym p)
+
+-- what a send of the joined bytes did, a gather did
+pub did-joined : (s n : ℕ) (m : List ℕ) (t : List Record) (ls : Links) (k : ℕ) (c : Record) (h b : List ℕ) (a : Turned) → c ≡ recordAt t k
+    → Promise s n m m t ls (on k (send (h ++ b))) k a []
+    → Did (groupOf s n t ls m) (on k (gather h b)) (gatherAnswer c h b (a .answer))
+    (groupOf s n (withRecord t k (a .after)) (a .answer .links) m)
+did-joined s n m t ls k c h b a hc p =
+    let g = groupOf s n t ls m in
+    record {
+      answered =
+          ap (answerInPieces (piecesOf c h b)) (p .answered)
+          ∙ ap (λ (r : Record). answerInPieces (piecesOf r h b) (answer g (on k (send (h ++ b))))) hc
+          ∙ sym (joined-says g k h b);
+      left = p .left ∙ sym (joined-left g k h b);
+    }
+
+-- THE LENT FORM: what the record that was found, its step and the store give together
+pub gather-returns : (s n : ℕ) (m : List ℕ) (t : List Record) (ls : Links) (slot : ℕ) (h b : List ℕ) → (rec : Record)
+    → rec ≡ recordAt t slot → (d : Turned) → DidGather s n m (length t) ls slot rec h b d → (after : Record) → after ≡ d .after
+    → (u : Unit {0}) → (z : List Record) → z ≡ withRecord t slot after → (r : Gathered) → (r .answer ≡ d .answer) × (r .found ≡ rec)
+    → Did (groupOf s n t ls m) (callOf slot h b) (gatherAnswer (r .found) h b (r .answer))
+    (groupOf s n z (r .answer .links) m)
+    × (r .found ≡ recordAt t slot)
+gather-returns s n m t ls slot h b rec er d e after ea u z ez r es =
+    let p = e t refl er in (
+      record {
+        answered = (λ i. gatherAnswer (es .1 i) h b (es .0 i)) ∙ p .answered;
+        left = (λ i. groupOf s n ((ez ∙ ap (withRecord t slot) ea) i) (es .0 i .links) m) ∙ p .left;
+      },
+      es .1 ∙ er,
+    )

@@ -1,0 +1,83 @@
+// A head and a body, in two lent buffers, sent as if joined (document 02, 2026-08). As every call it is lent S, N, the memory, the table
+// and the links, whatever they hold. Its pieces are handed out one at a time afterwards, by `pieces::piece` and `pieces::placing`, from the
+// record that it found.
+ghost use mathlib.Core.Path.{_≡_};
+ghost use Rattle.table.specs.Table.{recordAt};
+ghost use Rattle.rules.specs.Rules.{Did, groupOf};
+ghost use Rattle.gathering.specs.Gathering.{callOf, gatherAnswer, DidGather};
+use connection::Record;
+use table::Answered;
+use table::Links;
+use table::Turned;
+
+// What a gather answers: where it is not refused, `reply` has n, and the placings of a plain send of the joined bytes; and the record of
+// the slot as the call found it, which cuts n bytes into pieces.
+pub struct Gathered {
+    pub answer: Answered,
+    pub found: Record,
+}
+
+// The step of one record.
+fn turn(
+    s: u32,
+    n: u32,
+    mem: &[u8],
+    count: usize,
+    links: Links,
+    slot: u32,
+    rec: Record,
+    head: &[u8],
+    body: &[u8],
+) -> Turned
+    ensures { λ r. ⌜ DidGather s n (now (mem .entry)) count links slot rec (now (head .entry)) (now (body .entry)) r ⌝ }
+{
+    let no = table::found(s, n, mem.len(), count, slot, rec);
+    let active = table::link_active(links, rec.id.link);
+    let h = head.len();
+    let b = body.len();
+    let o = transmit::send(n, active, rec, h + b);
+    table::settled(no, links, rec, o)
+}
+
+// The record that it leaves; and what the caller sees of it, beside the record that it found.
+fn after_of(d: Turned) -> Record
+    ensures { λ r. ⌜ r ≡ d .after ⌝ }
+{
+    d.after
+}
+
+fn answer_of(d: Turned, rec: Record) -> Gathered
+    ensures { λ r. ⌜ (r .answer ≡ d .answer) × (r .found ≡ rec) ⌝ }
+{
+    let answer = d.answer;
+    Gathered {
+        answer: answer,
+        found: rec,
+    }
+}
+
+// Sends a head and a body. At most the slot's record changes.
+pub fn gather(
+    s: u32,
+    n: u32,
+    mem: &[u8],
+    table: &mut [Record],
+    links: Links,
+    slot: u32,
+    head: &[u8],
+    body: &[u8],
+) -> Gathered
+    ensures { λ r.
+        ⌜ Did (groupOf s n (now (table .entry)) links (now (mem .entry)))
+        (callOf slot (now (head .entry)) (now (body .entry)))
+        (gatherAnswer (r .found) (now (head .entry)) (now (body .entry)) (r .answer))
+        (groupOf s n (now (table .exit)) (r .answer .links) (now (mem .entry)))
+        × (r .found ≡ recordAt (now (table .entry)) slot) ⌝ }
+{
+    let k = slot as usize;
+    let rec = table::record_at(table, k);
+    let d = turn(s, n, mem, table.len(), links, slot, rec, head, body);
+    let after = after_of(d);
+    table::put_record(table, k, after);
+    answer_of(d, rec)
+}

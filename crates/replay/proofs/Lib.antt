@@ -1,2 +1,0 @@
--- `Laws`: what a call on lent rows gives.
-pub mod Laws
