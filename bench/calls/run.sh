@@ -5,7 +5,8 @@
 set -eu
 cd "$(dirname "$0")/../.."
 copy=$PWD/target/calls
-below="cursor cdc llc closing gauge flow element connection transmit pieces receive hear finish table rules calls management group"
+below="cursor cdc llc layout llcfields exchange closing gauge flow element connection transmit pieces receive hear finish table linkcalls"
+below="$below rules calls management group"
 below="$below gathering"
 rm -rf "$copy/crates"
 mkdir -p "$copy"

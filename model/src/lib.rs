@@ -17,6 +17,8 @@ pub mod compare;
 pub mod count;
 pub mod gauge;
 pub mod generate;
+pub mod links;
+pub mod llc;
 pub mod picture;
 pub mod pool;
 pub mod random;

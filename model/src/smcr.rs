@@ -5,6 +5,7 @@
 //! below zero, exactly as the page says.
 
 use crate::gauge::Gauge;
+use crate::links::{Exchange, Queue, Role};
 
 // ---------------------------------------------------------------------------
 // The memory and the tables
@@ -244,6 +245,10 @@ pub struct Group {
     pub links: [bool; LINKS],
     /// One for each link (2026-10).
     pub gauges: [Gauge; LINKS],
+    /// What link messages need (2026-01).
+    pub role: Role,
+    pub exchange: Exchange,
+    pub queue: Queue,
 }
 
 impl Group {
@@ -257,6 +262,9 @@ impl Group {
             table: vec![Connection::default(); records],
             links: [false; LINKS],
             gauges: [Gauge::default(); LINKS],
+            role: Role::Client,
+            exchange: Exchange::default(),
+            queue: Queue::EMPTY,
         }
     }
 
@@ -1132,32 +1140,8 @@ pub fn state_of_marks(
 }
 
 // ---------------------------------------------------------------------------
-// Open, free, link change and link message
+// Open and free; `links` has link change, link message and link send
 // ---------------------------------------------------------------------------
-
-/// What the first byte of an LLC message says.
-#[derive(Clone, Copy, Debug, PartialEq, Eq)]
-pub enum LlcClass {
-    Named,
-    Cdc,
-    Optional,
-    Unknown,
-}
-
-/// "01 to 04 and 06 to 09 named, FE cursor message, 80 to BF (high bits 10)
-/// optional, all else unknown."
-pub fn llc_class(first_byte: u8) -> LlcClass {
-    match first_byte {
-        0x01..=0x04 | 0x06..=0x09 => LlcClass::Named,
-        0xFE => LlcClass::Cdc,
-        0x80..=0xBF => LlcClass::Optional,
-        _ => LlcClass::Unknown,
-    }
-}
-
-pub const TEST_LINK: u8 = 0x07;
-/// The reply bit, in byte 3.
-pub const LLC_REPLY: u8 = 0x80;
 
 /// What open is given.
 #[derive(Clone, Copy, Debug, PartialEq, Eq)]
@@ -1254,45 +1238,6 @@ impl Group {
         self.table[index].close_slot();
         Ok(())
     }
-
-    /// **Link change** sets one link. Tests 13. 2026-10: a new open does not clear
-    /// the gauge, "a link going down does".
-    pub fn link_change(&mut self, link: u8, active: bool) -> Result<(), u8> {
-        if !link_in_range(link) {
-            return Err(13);
-        }
-        let index = usize::from(link) - 1;
-        self.links[index] = active;
-        if !active {
-            self.gauges[index] = Gauge::default();
-        }
-        Ok(())
-    }
-
-    /// **Link message** takes a link and bytes. Tests "13, 6, length 44, then
-    /// optional, else 4, 14".
-    pub fn link_message(&mut self, link: u8, bytes: &[u8]) -> Result<Option<Bytes44>, u8> {
-        if !link_in_range(link) {
-            return Err(13);
-        }
-        if self.link_down(link) {
-            return Err(6);
-        }
-        if bytes.len() != MESSAGE_BYTES {
-            return Err(4);
-        }
-        let class = llc_class(bytes[0]);
-        if class == LlcClass::Optional {
-            return Ok(None);
-        }
-        if class != LlcClass::Named || bytes[1] != LENGTH_BYTE {
-            return Err(4);
-        }
-        if bytes[0] != TEST_LINK {
-            return Err(14);
-        }
-        Ok(answer_test_link(bytes))
-    }
 }
 
 /// "Sets all cursors to offset 4, wrap 0, next sequence 1, last heard 0, marks
@@ -1316,18 +1261,4 @@ fn new_connection(opening: &Opening) -> Connection {
         next_sequence: 1,
         ..Connection::default()
     }
-}
-
-/// "TEST LINK [...] is answered by a reply: 07 2C 00 80, the same 16 bytes,
-/// zeros. A reply is taken and nothing follows."
-fn answer_test_link(bytes: &[u8]) -> Option<Bytes44> {
-    if bytes[3] & LLC_REPLY != 0 {
-        return None;
-    }
-    let mut reply = [0; MESSAGE_BYTES];
-    reply[0] = TEST_LINK;
-    reply[1] = LENGTH_BYTE;
-    reply[3] = LLC_REPLY;
-    reply[4..20].copy_from_slice(&bytes[4..20]);
-    Some(reply)
 }

@@ -29,7 +29,7 @@ pub fn input() -> Vec<u8> {
 }
 
 /// How far the second hostile list goes.
-const HOSTILE: usize = 5_000;
+const HOSTILE: usize = 3_000;
 /// Seeds of traffic with elements of 8, of 10,000, of 65,540 bytes, and small.
 const TRAFFIC: [u64; 10] = [1, 2, 3, 4, 5, 6, 7, 8, 9, 10];
 

@@ -151,7 +151,7 @@ fn table() {
             "{group}\nlink 3 1\nrecord {count} {record}\nrecord {} {record}\ntable\n",
             count + 1
         ));
-        assert_eq!(lines.len(), 4 + count + 5, "{group}");
+        assert_eq!(lines.len(), 4 + count + 8, "{group}");
         assert_eq!(lines[2..4], ["record", "bad line"]);
         assert_eq!(lines[4], format!("slot 1 {none}"));
         assert_eq!(lines[3 + count], format!("slot {count} {record}"));
@@ -161,7 +161,7 @@ fn table() {
     assert_eq!(lines[..3], ["group", "bad line", "links 0 0 0 0"]);
     let lines = answers("group 2 8 16 0\ntable\n");
     assert_eq!(lines[..2], ["group", "links 0 0 0 0"]);
-    assert_eq!(answers("table").len(), 6);
+    assert_eq!(answers("table").len(), 9);
 }
 
 #[test]
@@ -184,9 +184,9 @@ fn what_calls_print() {
             "place",
             "read 3 out 000000A5A5 message FE2C000000000002000000010000000700000000000000078000000000\
              000000000000000000000000000000",
-            "linkmsg reply 072C00800102030405060708090A0B0C0D0E0F10000000000000000000000000000000000000\
+            "linkmsg 07:0,72623859790382856,651345242494996240 taken reply 072C00800102030405060708090A0B0C0D0E0F10000000000000000000000000000000000000\
              000000000000",
-            "linkmsg reply -",
+            "linkmsg 07:1,72623859790382856,651345242494996240 taken reply -",
             "poke",
             "torn out A5 message FE2C00010000000200000001000000070000000000000007802000000000000000\
              0000000000000000000000",

@@ -174,7 +174,7 @@ fn replay_lines() {
         ]
     );
     for link in 1..=4 {
-        assert_eq!(lines[17 + link], format!("gauge {link} {zeros}"));
+        assert_eq!(lines[20 + link], format!("gauge {link} {zeros}"));
     }
     for line in [
         "health 0",

@@ -175,15 +175,18 @@ fn number_6_and_link_messages() {
     assert_eq!(last(&format!("{START}linkmsg 5 00")), "refused 13");
     let rest = "0".repeat(84);
     for (first, answer) in [
-        ("072C", format!("linkmsg reply 072C0080{}", "0".repeat(80))),
+        (
+            "072C",
+            format!("linkmsg 07:0,0,0 taken reply 072C0080{}", "0".repeat(80)),
+        ),
         ("072D", "refused 4".to_string()),
-        ("082C", "refused 14".to_string()),
-        ("082D", "refused 4".to_string()),
+        ("042C", "refused 14".to_string()),
+        ("042D", "refused 4".to_string()),
         ("052C", "refused 4".to_string()),
         ("FE2C", "refused 4".to_string()),
         ("C02C", "refused 4".to_string()),
-        ("8000", "linkmsg reply -".to_string()),
-        ("BF2C", "linkmsg reply -".to_string()),
+        ("8000", "linkmsg - dropped reply -".to_string()),
+        ("BF2C", "linkmsg - dropped reply -".to_string()),
     ] {
         assert_eq!(
             last(&format!("{START}linkmsg 1 {first}{rest}")),

@@ -1,6 +1,7 @@
 //! The soundings of document 01, the whole example message and the examples of
 //! section 4.5.1. Every expected value is typed in from the documents.
 
+use model::llc::{llc_class, LlcClass};
 use model::smcr::*;
 
 const N: i64 = 10_000;

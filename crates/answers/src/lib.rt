@@ -171,15 +171,14 @@ fn on_accepted(o: &mut [u8; 65536], at: usize, request: Request, said: Answered)
     }
 }
 
-// A call of management, which makes no message, but for the link message's reply.
-fn management_accepted(o: &mut [u8; 65536], at: usize, call: Management, said: Answered) -> usize
+// A call of management, which makes no message.
+fn management_accepted(o: &mut [u8; 65536], at: usize, call: Management) -> usize
     ensures { λ r. ⌜ r ≤ 65536 ⌝ }
 {
     match call {
         Management::Open(_, _) => output::text(o, at, b"open\n"),
         Management::Free(_) => output::text(o, at, b"free\n"),
         Management::LinkChange(_, _) => output::text(o, at, b"link\n"),
-        Management::LinkMessage(_) => with_message(o, at, b"linkmsg reply ", said),
         Management::Sample(_, _) => output::text(o, at, b"sample\n"),
     }
 }
@@ -191,7 +190,7 @@ fn accepted(o: &mut [u8; 65536], at: usize, command: Command, said: Answered) ->
     match command {
         Command::On(_, request) => on_accepted(o, at, request, said),
         Command::Hear => with_message(o, at, b"hear message ", said),
-        Command::Manage(call) => management_accepted(o, at, call, said),
+        Command::Manage(call) => management_accepted(o, at, call),
     }
 }
 

@@ -12,7 +12,6 @@ pub enum CallVerb {
     Open,
     Free,
     Link,
-    LinkMessage,
     Sample,
     Send,
     Urgent,
@@ -73,15 +72,6 @@ fn link_line(buf: &mut [u8; 65536], c: Scan) -> CallLine
     let up = input::number(buf, link.scan, 1);
     let command = Command::Manage(Management::LinkChange(link.value as u8, up.value == 1));
     line_of(up.scan, command, 0, 0)
-}
-
-fn linkmsg_line(buf: &mut [u8; 65536], given: &mut [u8], c: Scan) -> CallLine
-    ensures { λ r. ⌜ r .scan .left ≤ c .left ⌝ }
-{
-    let link = input::number(buf, c, 255);
-    let b = input::bytes(buf, given, link.scan);
-    let command = Command::Manage(Management::LinkMessage(link.value as u8));
-    line_of(b.scan, command, b.count, 0)
 }
 
 fn sample_line(buf: &mut [u8; 65536], c: Scan) -> CallLine
@@ -154,7 +144,6 @@ pub fn parse(buf: &mut [u8; 65536], given: &mut [u8], c: Scan, verb: CallVerb) -
     match verb {
         CallVerb::Open => open_line(buf, c),
         CallVerb::Link => link_line(buf, c),
-        CallVerb::LinkMessage => linkmsg_line(buf, given, c),
         CallVerb::Sample => sample_line(buf, c),
         CallVerb::Send => send_line(buf, given, c, Request::Send),
         CallVerb::Urgent => send_line(buf, given, c, Request::Urgent),

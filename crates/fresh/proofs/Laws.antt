@@ -7,6 +7,10 @@ use lib.ListN.{length, take, replicate, getD, length-replicate}
 use lib.Seq.{length-take-le}
 use Rattle.gauge.specs.declared.Gauge.{Gauge}
 use Rattle.gauge.specs.Gauge.{clearedOf}
+use Rattle.exchange.specs.declared.Role.{Role}
+use Rattle.exchange.specs.declared.Exchange.{Exchange}
+use Rattle.exchange.specs.declared.Queue.{Queue}
+use Rattle.exchange.specs.Exchange.{noExchange, emptyQueue}
 use Rattle.connection.specs.declared.Record.{Record}
 use Rattle.connection.specs.Connection.{zeroRecord}
 use Rattle.table.specs.declared.Links.{Links}
@@ -31,22 +35,30 @@ shut : (s k : ℕ) → openB s (take s closedTable) k ≡ false
 unfolding openB zeroRecord
 shut s k = ap (λ (c : Record). slotB s k && c .id .opened) (closed-at s k) ∙ and-false (slotB s k)
 
-off : (k : ℕ) → activeB (downLinks .active) k ≡ false
+off : (role : Role) (k : ℕ) → activeB (downLinks role .active) k ≡ false
 unfolding activeB downLinks
-off zero = refl
-off (suc i) = all-alike false 4 4 i
+off role zero = refl
+off role (suc i) = all-alike false 4 4 i
 
-empty : (k : ℕ) → gaugeAt (downLinks .gauges) k ≡ clearedOf
+empty : (role : Role) (k : ℕ) → gaugeAt (downLinks role .gauges) k ≡ clearedOf
 unfolding gaugeAt downLinks
-empty zero = refl
-empty (suc i) = all-alike clearedOf 4 4 i
+empty role zero = refl
+empty role (suc i) = all-alike clearedOf 4 4 i
+
+no-stage : (role : Role) → downLinks role .exchange .stage ≡ 0
+unfolding downLinks
+no-stage role = refl
+
+none-waits : (role : Role) → downLinks role .queue .count ≡ 0
+unfolding downLinks emptyQueue
+none-waits role = refl
 
 count-of : (s : ℕ) → s ≤ mostSlots → length (take s closedTable) ≡ s
 unfolding closedTable
 count-of s h = length-take-le s (replicate mostSlots zeroRecord) (rw (length-replicate {A = Record} mostSlots zeroRecord) h)
 
-pub fresh-tables : (t : List Record) (l : Links) → t ≡ closedTable → l ≡ downLinks → FreshTables t l
-fresh-tables t l et el s n e =
+pub fresh-tables : (t : List Record) (l : Links) (role : Role) → t ≡ closedTable → l ≡ downLinks role → FreshTables t l
+fresh-tables t l role et el s n e =
     let long = length-replicate {A = ℕ} (s * n) 0 in
     subst (λ (x : List Record). Fresh (groupOf s n (take s x) l (replicate (s * n) 0))) (sym et)
     (subst (λ (a : Links). Fresh (groupOf s n (take s closedTable) a (replicate (s * n) 0))) (sym el)
@@ -55,18 +67,23 @@ fresh-tables t l et el s n e =
           ap (λ (len : ℕ). sizesB s n len (length (take s closedTable))) long
           ∙ (ap (sizesB s n (s * n)) (count-of s (sizes-facts s n (s * n) s e .s-most)) ∙ e);
       closed = shut s;
-      down = off;
-      unheard = empty;
+      down = off role;
+      unheard = empty role;
+      idle = no-stage role;
+      none = none-waits role;
       zeros = ap (λ (len : ℕ). replicate len 0) (sym long);
     })
 
 -- the code's tables: a zero record in each slot, a cleared gauge at each link
-pub fresh-made : (z : Record) → z ≡ zeroRecord → (q : Gauge) → q ≡ clearedOf
-    → let l : Links = record { active = replicate 4 false; gauges = replicate 4 q } in
-    (replicate mostSlots z ≡ closedTable) × (l ≡ downLinks) × FreshTables (replicate mostSlots z) l
+abbrev linksMade : Role → Gauge → Exchange → Queue → Links
+linksMade role q x w = record { active = replicate 4 false; gauges = replicate 4 q; role = role; exchange = x; queue = w }
+
+pub fresh-made : (role : Role) (z : Record) → z ≡ zeroRecord → (q : Gauge) → q ≡ clearedOf → (x : Exchange) → x ≡ noExchange
+    → (w : Queue) → w ≡ emptyQueue
+    → (replicate mostSlots z ≡ closedTable) × (linksMade role q x w ≡ downLinks role)
+    × FreshTables (replicate mostSlots z) (linksMade role q x w)
 unfolding closedTable downLinks
-fresh-made z ez q eq =
-    let l : Links = record { active = replicate 4 false; gauges = replicate 4 q } in
+fresh-made role z ez q eq x ex w ew =
     let et : replicate mostSlots z ≡ closedTable = ap (replicate mostSlots) ez in
-    let el : l ≡ downLinks = λ i. record { active = replicate 4 false; gauges = replicate 4 (eq i) } in
-    (et, el, fresh-tables (replicate mostSlots z) l et el)
+    let el : linksMade role q x w ≡ downLinks role = λ i. linksMade role (eq i) (ex i) (ew i) in
+    (et, el, fresh-tables (replicate mostSlots z) (linksMade role q x w) role et el)

@@ -5,6 +5,8 @@ use mathlib.Core.Bool.{true, false}
 use mathlib.Core.List.{List}
 use lib.ListN.{take, replicate}
 use Rattle.gauge.specs.Gauge.{clearedOf}
+use Rattle.exchange.specs.declared.Role.{Role}
+use Rattle.exchange.specs.Exchange.{noExchange, emptyQueue}
 use Rattle.connection.specs.declared.Record.{Record}
 use Rattle.connection.specs.Connection.{zeroRecord}
 use Rattle.table.specs.declared.Links.{Links}
@@ -15,9 +17,10 @@ use Rattle.rules.specs.Rules.{groupOf, Fresh}
 unfoldable pub closedTable : List Record
 closedTable = replicate mostSlots zeroRecord
 
--- every link down, every gauge cleared
-unfoldable pub downLinks : Links
-downLinks = record { active = replicate 4 false; gauges = replicate 4 clearedOf }
+-- every link down, every gauge cleared, no exchange and none that waits; either role
+unfoldable pub downLinks : Role → Links
+downLinks role =
+    record { active = replicate 4 false; gauges = replicate 4 clearedOf; role = role; exchange = noExchange; queue = emptyQueue }
 
 -- for every S and N in range: with the first S records and any zeroed memory of S x N bytes, a fresh group
 abbrev pub FreshTables : List Record → Links → Type 0

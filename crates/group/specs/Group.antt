@@ -14,7 +14,7 @@ use Rattle.group.specs.declared.Command.the-variants.{On, Hear, Manage}
 abbrev pub callOf : Command → List ℕ → List ℕ → Call
 callOf (On k q) b out = Call.on k (requestOf q b out)
 callOf Hear b out = Call.hear b
-callOf (Manage d) b out = Call.manage (managementOf d b)
+callOf (Manage d) b out = Call.manage (managementOf d)
 
 -- the token that it looks for; 0 for none
 abbrev pub tokenOf : Command → List ℕ → ℕ

@@ -78,17 +78,7 @@ fn turn(
             out,
         ),
         Command::Hear => calls::hear(s, n, mem, count, links, holder, rec, bytes),
-        Command::Manage(call) => management::manage(
-            s,
-            n,
-            mem,
-            count,
-            links,
-            holder,
-            rec,
-            call,
-            bytes,
-        ),
+        Command::Manage(call) => management::manage(s, n, mem, count, links, holder, rec, call),
     }
 }
 

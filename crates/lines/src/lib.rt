@@ -1,10 +1,12 @@
-// A line of the input: a call with its numbers, a send of a head and a body, one of the seven lines that are no calls, a line of the pool
-// or one on setting up.
+// A line of the input: a call with its numbers, a send of a head and a body, one of the seven lines that are no calls, a line of the pool,
+// one on setting up or one on link messages.
 ghost use Prim.Native.Nat.{_-_, _≤_};
 use call_text::CallVerb;
 use connection::Record;
 use gauge::Gauge;
 use group::Command;
+use link_read::LinkLine;
+use link_read::LinkVerb;
 use pool_text::PoolLine;
 use pool_text::PoolVerb;
 use records::read;
@@ -38,6 +40,8 @@ pub enum Line {
     Pool(PoolLine),
     // a line on setting up
     Setup(SetupLine),
+    // a line on link messages
+    Link(LinkLine),
 }
 
 pub struct Parsed {
@@ -59,6 +63,7 @@ enum Verb {
     Gauge,
     Pool(PoolVerb),
     Setup(SetupVerb),
+    Link(LinkVerb),
     Unknown,
 }
 
@@ -79,6 +84,28 @@ fn is(letters: &[u8; 8], count: usize, name: &[u8]) -> bool
     true
 }
 
+// The verbs on link messages.
+fn link_verb(letters: &[u8; 8], count: usize) -> Verb
+    requires { ⌜ count ≤ 8 ⌝ }
+{
+    if is(letters, count, b"linkmsg") {
+        return Verb::Link(LinkVerb::Message);
+    }
+    if is(letters, count, b"linksend") {
+        return Verb::Link(LinkVerb::Send);
+    }
+    if is(letters, count, b"role") {
+        return Verb::Link(LinkVerb::Role);
+    }
+    if is(letters, count, b"exchange") {
+        return Verb::Link(LinkVerb::Exchange);
+    }
+    if is(letters, count, b"queue") {
+        return Verb::Link(LinkVerb::Queue);
+    }
+    Verb::Unknown
+}
+
 // The verbs of setting up.
 fn setup_verb(letters: &[u8; 8], count: usize) -> Verb
     requires { ⌜ count ≤ 8 ⌝ }
@@ -92,7 +119,7 @@ fn setup_verb(letters: &[u8; 8], count: usize) -> Verb
     if is(letters, count, b"clc") {
         return Verb::Setup(SetupVerb::Clc);
     }
-    Verb::Unknown
+    link_verb(letters, count)
 }
 
 // The verbs of the pool.
@@ -160,9 +187,6 @@ fn management_verb(letters: &[u8; 8], count: usize) -> Verb
     }
     if is(letters, count, b"link") {
         return Verb::Call(CallVerb::Link);
-    }
-    if is(letters, count, b"linkmsg") {
-        return Verb::Call(CallVerb::LinkMessage);
     }
     if is(letters, count, b"sample") {
         return Verb::Call(CallVerb::Sample);
@@ -325,6 +349,14 @@ fn setup_line(buf: &mut [u8; 65536], given: &mut [u8], c: Scan, verb: SetupVerb)
     ended(buf, p.scan, Line::Setup(line))
 }
 
+fn link_line(buf: &mut [u8; 65536], given: &mut [u8], c: Scan, verb: LinkVerb) -> Parsed
+    ensures { λ r. ⌜ r .scan .left ≤ c .left - 1 ⌝ }
+{
+    let p = link_read::parse(buf, given, c, verb);
+    let line = p.line;
+    ended(buf, p.scan, Line::Link(line))
+}
+
 fn line_of(buf: &mut [u8; 65536], given: &mut [u8], body: &mut [u8], c: Scan, verb: Verb) -> Parsed
     ensures { λ r. ⌜ r .scan .left ≤ c .left - 1 ⌝ }
 {
@@ -340,6 +372,7 @@ fn line_of(buf: &mut [u8; 65536], given: &mut [u8], body: &mut [u8], c: Scan, ve
         Verb::Gauge => gauge_line(buf, given, c),
         Verb::Pool(v) => pool_line(buf, given, c, v),
         Verb::Setup(v) => setup_line(buf, given, c, v),
+        Verb::Link(v) => link_line(buf, given, c, v),
         Verb::Unknown => ended(buf, c, Line::Bad),
     }
 }

@@ -7,10 +7,6 @@ use native.Mathlib.Omega.{arith}
 use lib.Dec.{leb, ltb, eqb}
 use lib.ListN.{length}
 use borrow.Author.Tests.{eq-eqb, ne-eqb, eqb-false}
-use Rattle.llc.specs.declared.Kind.{Kind}
-use Rattle.llc.specs.declared.Kind.the-variants as Kinds
-use Rattle.llc.specs.declared.Received.{Received}
-use Rattle.llc.specs.Llc.{receivedOf}
 use Rattle.gauge.specs.declared.Gauge.{Gauge}
 use Rattle.gauge.specs.Gauge.{mostMs, sampledOf, healthOf}
 use Rattle.element.specs.Element.{baseOf, freshElement, clearedOf}
@@ -22,13 +18,15 @@ use Rattle.connection.specs.Connection.{coherentB, zeroRecord, openedRecord, ou
 use Rattle.table.specs.declared.Links.{Links}
 use Rattle.table.specs.declared.Answered.{Answered}
 use Rattle.table.specs.declared.Turned.{Turned}
-use Rattle.table.specs.Table.{sizesB, slotB, recordAt, openB, linkIn, activeB, gaugeAt, findFrom, holderIn, withRecord, gaugeSet, linkSet, refusedBy, keptBy, settledBy}
+use Rattle.table.specs.Table.{sizesB, slotB, recordAt, openB, linkIn, activeB, gaugeAt, findFrom, holderIn, withRecord, gaugeSet, refusedBy, keptBy, settledBy}
+use Rattle.linkcalls.specs.declared.Settled.{Settled}
+use Rattle.linkcalls.specs.Calls.{changedOf}
 use Rattle.table.proofs.Laws.{sizes-facts, two-passed, open-facts, holder-some}
-use Rattle.rules.specs.Rules.{Group, Call, Management, Done, Did, groupOf, answerOf, does, turnOf, putTurn, plain, plainTurn, healthy, accepted, refuses, sizesOk, linksOf, withLinks, badOpening, openRefusal, openDoes, freeRefusal, freeDoes, linkDoes, linkAnswer, linkMessageDoes, sampleRefusal, sampleDoes, elementIn}
+use Rattle.rules.specs.Rules.{Group, Call, Management, Done, Did, groupOf, answerOf, does, turnOf, putTurn, plain, plainTurn, healthy, refuses, sizesOk, linksOf, withLinks, badOpening, openRefusal, openDoes, freeRefusal, freeDoes, linkDoes, sampleRefusal, sampleDoes, elementIn}
 use Rattle.rules.specs.Promises.{Promise, DidIn, DidLinks}
 use Rattle.rules.proofs.Memory.{kept-memory, cleared-memory}
 use Rattle.rules.proofs.Settled.{settled}
-use Rattle.management.specs.Management.{answeredBy, kindAnswer, healthBy, managementOf, tokenOf, slotOf}
+use Rattle.management.specs.Management.{answeredBy, healthBy, managementOf, tokenOf, slotOf}
 use Rattle.management.specs.declared.Management.{Management as Managed}
 
 -- the turn of an accepted call that names nothing and makes no message
@@ -152,9 +150,6 @@ module _ (ls : Links) (g : Group) (e : linksOf g ≡ ls) where
   abbrev DidIt : Call → Answered → Type 0
   DidIt call r = Did g call (answerOf r []) (withLinks g (r .links))
 
-  active-is : (l : ℕ) (b : Bool) → activeB (ls .active) l ≡ b → activeB (g .links) l ≡ b
-  active-is l b d = ap (λ (x : Links). activeB (x .active) l) e ∙ d
-
   links-refused : (call : Call) (k : ℕ) (r : Answered) → does g call ≡ refuses g k [] → r ≡ refusedBy k ls → DidIt call r
   unfolding refuses refusedBy
   links-refused call k r d p =
@@ -173,63 +168,21 @@ module _ (ls : Links) (g : Group) (e : linksOf g ≡ ls) where
         left = ap (λ (b : Answered). withLinks g (b .links)) p ∙ sym (ap (λ (w : Done). w .group) d);
       }
 
-  links-answered : (call : Call) (made : Bool) (message : List ℕ) (u : Links) (r : Answered)
-      → does g call ≡ record { answer = answerOf (answeredBy made message u) []; group = withLinks g u } → r ≡ answeredBy made message u
-      → DidIt call r
-  unfolding answeredBy
-  links-answered call made message u r d p = links-left call (answeredBy made message u) r d p
-
   module _ (l : ℕ) where
-    pub change-did : (up : Bool) (u : Links) (r : Answered) → linkIn l ≡ true → u ≡ linkSet ls l up → r ≡ answeredBy false noMessage u
+    pub change-did : (up : Bool) (u : Settled) (r : Answered) → linkIn l ≡ true → u ≡ changedOf ls l up → r ≡ answeredBy (u .after)
         → DidIt (Call.manage (Management.linkChange l up)) r
     unfolding linkDoes answeredBy
     change-did up u r h q p =
-        links-answered (Call.manage (Management.linkChange l up)) false noMessage u r
+        links-left (Call.manage (Management.linkChange l up)) (answeredBy (u .after)) r
         ((simp h)
-        ∙ ap (λ (x : Links). record { answer = plain; group = withLinks g x }) (sym (q ∙ ap (λ (x : Links). linkSet x l up) (sym e))))
+        ∙ ap (λ (x : Settled). record { answer = plain; group = withLinks g (x .after) })
+        (sym (q ∙ ap (λ (x : Links). changedOf x l up) (sym e))))
         p
 
     pub change-refused : (up : Bool) (r : Answered) → linkIn l ≡ false → r ≡ refusedBy 13 ls
         → DidIt (Call.manage (Management.linkChange l up)) r
     unfolding linkDoes
     change-refused up r h p = links-refused (Call.manage (Management.linkChange l up)) 13 r (simp h) p
-
-    module _ (b : List ℕ) (r : Answered) where
-      abbrev message : Call
-      message = Call.manage (Management.linkMessage l b)
-
-      pub message-nowhere : linkIn l ≡ false → r ≡ refusedBy 13 ls → DidIt message r
-      unfolding linkMessageDoes
-      message-nowhere h p = links-refused message 13 r (simp h) p
-
-      module _ (h : linkIn l ≡ true) where
-        pub message-down : activeB (ls .active) l ≡ false → r ≡ refusedBy 6 ls → DidIt message r
-        unfolding linkMessageDoes
-        message-down d p = links-refused message 6 r (simp (h, active-is l false d)) p
-
-        -- a message that changes no link
-        kept-links : (made : Bool) (m : List ℕ)
-            → linkMessageDoes g l b ≡ record { answer = record { says = accepted; made = made; message = m; out = [] }; group = g }
-            → r ≡ answeredBy made m ls → DidIt message r
-        unfolding answeredBy
-        kept-links made m d p =
-            links-answered message made m ls r
-            (d ∙ ap (λ (x : Links). record { answer = record { says = accepted; made = made; message = m; out = [] }; group = withLinks g x }) e)
-            p
-
-        by-kind : (x : Kind) (reply : List ℕ) → linkMessageDoes g l b ≡ linkAnswer g x reply → r ≡ kindAnswer x reply ls → DidIt message r
-        by-kind Kinds.Malformed reply d p = links-refused message 4 r d p
-        by-kind Kinds.Optional reply d p = kept-links false noMessage d p
-        by-kind Kinds.Named reply d p = links-refused message 14 r d p
-        by-kind Kinds.TestRequest reply d p = kept-links true reply d p
-        by-kind Kinds.TestReply reply d p = kept-links false noMessage d p
-
-        pub message-did : activeB (ls .active) l ≡ true → (w : Received) → w ≡ receivedOf b → r ≡ kindAnswer (w .kind) (w .reply) ls
-            → DidIt message r
-        unfolding linkMessageDoes
-        message-did d w hw p =
-            by-kind (w .kind) (w .reply)
-            ((simp (h, active-is l true d)) ∙ ap (λ (x : Received). linkAnswer g (x .kind) (x .reply)) (sym hw)) p
 
     -- SAMPLE, by the number of its refusal
     module _ (ms j : ℕ) (f : j ≡ sampleRefusal (ls .active) l ms) (r : Answered) where
@@ -275,9 +228,9 @@ module _ (ls : Links) (g : Group) (e : linksOf g ≡ ls) where
             left x q = record { answer = healthy q; group = withLinks g (gaugeSet x l q) }
 
 -- ANY CALL: what holds of the call that was matched holds of the call
-module _ {x y : Managed} (e : x ≡ y) (s n : ℕ) (m l : List ℕ) (count : ℕ) (ls : Links) (holder : ℕ) (rec : Record) (b : List ℕ) (r : Turned) where
+module _ {x y : Managed} (e : x ≡ y) (s n : ℕ) (m l : List ℕ) (count : ℕ) (ls : Links) (holder : ℕ) (rec : Record) (r : Turned) where
   abbrev DidManaged : Managed → Type 0
-  DidManaged q = DidIn s n m l count ls (Call.manage (managementOf q b)) (tokenOf q) holder (slotOf q) rec r []
+  DidManaged q = DidIn s n m l count ls (Call.manage (managementOf q)) (tokenOf q) holder (slotOf q) rec r []
 
   pub by-management : DidManaged y → DidManaged x
   by-management = subst DidManaged (sym e)

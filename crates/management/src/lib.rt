@@ -1,6 +1,6 @@
 // The calls of management, document 01's desk calls ("Desk calls"). Open and free act on one record, as the calls of a connection do: each is
-// lent S, N and the memory, and is given the table's length, the links, a slot and the record that the slot shows. Link change, link message
-// and sample (request 2026-10) see the links and their gauges alone.
+// lent S, N and the memory, and is given the table's length, the links, a slot and the record that the slot shows. Link change and sample
+// (request 2026-10) see the links with their gauges and exchange alone. Link message and link send answer more: see the crate `linkdesk`.
 ghost use mathlib.Core.Path.{_≡_};
 ghost use mathlib.Core.List.{List, []};
 ghost use lib.ListN.{length};
@@ -9,17 +9,16 @@ ghost use Rattle.table.specs.Table.{recordAt, holderIn};
 ghost use Rattle.rules.specs.Rules as Rules;
 ghost use Rattle.rules.specs.Rules.{Call, badOpening, openRefusal, freeRefusal, sampleRefusal, groupOf};
 ghost use Rattle.rules.specs.Promises.{DidOn, DidIn, DidLinks};
-ghost use Rattle.management.specs.Management.{answeredBy, kindAnswer, healthBy, managementOf, tokenOf, slotOf};
+ghost use Rattle.management.specs.Management.{answeredBy, healthBy, managementOf, tokenOf, slotOf};
 use connection::Opening;
 use connection::Record;
 use connection::Reply;
 use gauge::Health;
-use llc::Kind;
 use table::Answered;
 use table::Links;
 use table::Turned;
 
-// A call of management, with its numbers; a link message's bytes are lent beside it.
+// A call of management, with its numbers.
 pub enum Management {
     // a slot, and what its connection is given
     Open(u32, Opening),
@@ -27,8 +26,6 @@ pub enum Management {
     Free(u32),
     // a link, and whether it is active now
     LinkChange(u8, bool),
-    // a link
-    LinkMessage(u8),
     // a link, and an answer time in milliseconds
     Sample(u8, u32),
 }
@@ -139,14 +136,14 @@ pub fn free(
     table::settled(no, links, rec, o)
 }
 
-// An accepted call's answer, with a message where `made`.
-fn answered(made: bool, message: [u8; 44], links: Links) -> Answered
-    ensures { λ r. ⌜ r ≡ answeredBy made message links ⌝ }
+// An accepted call's answer.
+fn answered(links: Links) -> Answered
+    ensures { λ r. ⌜ r ≡ answeredBy links ⌝ }
 {
     Answered {
         reply: Reply::Accepted,
-        made: made,
-        message: message,
+        made: false,
+        message: [0u8; 44],
         links: links,
     }
 }
@@ -155,37 +152,9 @@ pub fn link_change(links: Links, link: u8, up: bool) -> Answered
     ensures { λ r. ⌜ DidLinks links (Call.manage (Rules.Management.linkChange link up)) r ⌝ }
 {
     if table::link_ok(link) {
-        answered(false, [0u8; 44], table::set_link(links, link, up))
-    } else {
-        table::refuse(13, links)
-    }
-}
-
-// What a link message is answered by its kind; `reply` is a TEST LINK request's.
-fn link_answer(kind: Kind, reply: [u8; 44], links: Links) -> Answered
-    ensures { λ r. ⌜ r ≡ kindAnswer kind reply links ⌝ }
-{
-    match kind {
-        Kind::Malformed => table::refuse(4, links),
-        Kind::Optional => answered(false, [0u8; 44], links),
-        Kind::Named => table::refuse(14, links),
-        Kind::TestRequest => answered(true, reply, links),
-        Kind::TestReply => answered(false, [0u8; 44], links),
-    }
-}
-
-pub fn link_message(links: Links, link: u8, bytes: &[u8]) -> Answered
-    ensures { λ r. ⌜ DidLinks links (Call.manage (Rules.Management.linkMessage link (now (bytes .entry)))) r ⌝ }
-{
-    if table::link_ok(link) {
-        if table::link_active(links, link) {
-            let m = llc::receive(bytes);
-            let kind = m.kind;
-            let reply = m.reply;
-            link_answer(kind, reply, links)
-        } else {
-            table::refuse(6, links)
-        }
+        let done = linkcalls::change(links, link, up);
+        let after = done.after;
+        answered(after)
     } else {
         table::refuse(13, links)
     }
@@ -236,7 +205,6 @@ pub fn token_of(call: Management) -> u32
         Management::Open(_, given) => given.own,
         Management::Free(_) => 0,
         Management::LinkChange(_, _) => 0,
-        Management::LinkMessage(_) => 0,
         Management::Sample(_, _) => 0,
     }
 }
@@ -249,7 +217,6 @@ pub fn slot_of(call: Management) -> u32
         Management::Open(slot, _) => slot,
         Management::Free(slot) => slot,
         Management::LinkChange(_, _) => 0,
-        Management::LinkMessage(_) => 0,
         Management::Sample(_, _) => 0,
     }
 }
@@ -264,17 +231,15 @@ pub fn manage(
     holder: usize,
     rec: Record,
     call: Management,
-    bytes: &[u8],
 ) -> Turned
     ensures { λ r.
         ⌜ DidIn s n (now (mem .entry)) (now (mem .exit)) count links
-        (Call.manage (managementOf call (now (bytes .entry)))) (tokenOf call) holder (slotOf call) rec r [] ⌝ }
+        (Call.manage (managementOf call)) (tokenOf call) holder (slotOf call) rec r [] ⌝ }
 {
     match call {
         Management::Open(slot, given) => open(s, n, mem, count, links, holder, slot, rec, given),
         Management::Free(slot) => free(s, n, mem, count, links, slot, rec),
         Management::LinkChange(link, up) => table::kept(rec, link_change(links, link, up)),
-        Management::LinkMessage(link) => table::kept(rec, link_message(links, link, bytes)),
         Management::Sample(link, ms) => table::kept(rec, sample(links, link, ms)),
     }
 }

@@ -233,10 +233,10 @@ module _ (g h : Group) (c : Call) (i : ℕ) (n : Agree g h (suc i)) (sizes : siz
               same-record = p .this-record ∙ ap (λ t. t .after) same-turn ∙ sym (q .this-record);
               same-element = p .this-element ∙ ap (λ t. t .element) same-turn ∙ sym (q .this-element);
               same-link =
-                  (λ x. activeB (p .put-links x) (p .this-record x .id .link))
+                  (λ x. activeB (p .put-links x .active) (p .this-record x .id .link))
                   ∙ link-left ((turnAt g (suc i) c) .after) (turn-left g c i sizes o)
                   ∙ (λ x. activeB (h .links) (same-turn x .after .id .link))
-                  ∙ sym (λ x. activeB (q .put-links x) (q .this-record x .id .link));
+                  ∙ sym (λ x. activeB (q .put-links x .active) (q .this-record x .id .link));
             };
       }
 

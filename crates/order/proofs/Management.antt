@@ -10,9 +10,7 @@ use native.Mathlib.Omega.{arith}
 use lib.Dec.{ltb, eqb}
 use lib.ListN.{length}
 use borrow.Author.Tests.{eqb-true, ltb-false, not-false}
-use Rattle.llc.specs.declared.Kind.{Kind}
-use Rattle.llc.specs.declared.Kind.the-variants as Kinds
-use Rattle.llc.specs.Llc.{receivedOf}
+use Rattle.llcfields.specs.declared.Kind.{Kind}
 use Rattle.gauge.specs.declared.Gauge.{Gauge}
 use Rattle.gauge.specs.Gauge.{sampledOf}
 use Rattle.element.specs.Element.{freshElement}
@@ -20,9 +18,10 @@ use Rattle.element.proofs.Others.{fresh-length}
 use Rattle.connection.specs.Connection.{zeroRecord}
 use Rattle.connection.specs.declared.Opening.{Opening}
 use Rattle.table.specs.declared.Links.{Links}
-use Rattle.table.specs.Table.{slotB, openB, linkIn, activeB, findFrom, gaugeAt, gaugeSet, linkSet}
+use Rattle.table.specs.Table.{slotB, openB, linkIn, activeB, findFrom, gaugeAt, gaugeSet}
+use Rattle.linkcalls.specs.Calls.{changedOf, heardOf, sentOf}
 use Rattle.connection.specs.Connection.{openedRecord}
-use Rattle.rules.specs.Rules.{Group, manage, Management, openSlot, freeSlot, linkChange, linkMessage, sample, Turn, next, plain, healthy, refuses, sizesOk, recordOf, elementIn, putTurn, plainTurn, badOpening, linksOf, withLinks, openRefusal, openDoes, freeRefusal, freeDoes, linkDoes, linkAnswer, linkMessageDoes, sampleRefusal, sampleDoes}
+use Rattle.rules.specs.Rules.{Group, manage, Management, openSlot, freeSlot, linkChange, linkMessage, linkSend, sample, Answer, Turn, next, plain, healthy, refuses, sizesOk, recordOf, elementIn, putTurn, plainTurn, badOpening, linksOf, withLinks, openRefusal, openDoes, freeRefusal, freeDoes, linkDoes, linkMessageDoes, linkSendDoes, sampleRefusal, sampleDoes}
 use Rattle.order.proofs.Slots.{slot-in, open-in, open-is, open-found, element-long, Sizes, sizes-in, Put, put}
 use Rattle.order.proofs.Acts.{OpenAt, ownOf}
 use Rattle.order.proofs.Near.{Good, enough}
@@ -132,26 +131,24 @@ link-good : (g : Group) (l : ℕ) (up : Bool) → Good g → Good ((linkDoes g l
 unfolding linkDoes refuses
 link-good g l up good = go (linkIn l)
   where
-    go : (t : Bool) → Good ((cond t (record { answer = plain; group = withLinks g (linkSet (linksOf g) l up) }) (refuses g 13 [])) .group)
-    go true = links-good g (linkSet (linksOf g) l up) good
+    go : (t : Bool) → Good ((cond t (record { answer = plain; group = withLinks g (changedOf (linksOf g) l up .after) }) (refuses g 13 [])) .group)
+    go true = links-good g (changedOf (linksOf g) l up .after) good
     go false = good
 
-answer-good : (g : Group) (k : Kind) (reply : List ℕ) → Good g → Good ((linkAnswer g k reply) .group)
+-- a call that acts on the links alone, or is refused
+either-good : (g : Group) (a : Answer) (ls : Links) (k : ℕ) (t : Bool) → Good g
+    → Good ((cond t (record { answer = a; group = withLinks g ls }) (refuses g k [])) .group)
 unfolding refuses
-answer-good g Kinds.Malformed reply good = good
-answer-good g Kinds.Optional reply good = good
-answer-good g Kinds.Named reply good = good
-answer-good g Kinds.TestRequest reply good = good
-answer-good g Kinds.TestReply reply good = good
+either-good g a ls k true good = links-good g ls good
+either-good g a ls k false good = good
 
 message-good : (g : Group) (l : ℕ) (b : List ℕ) → Good g → Good ((linkMessageDoes g l b) .group)
-unfolding linkMessageDoes refuses
-message-good g l b good = go (linkIn l) (activeB (g .links) l)
-  where
-    go : (t u : Bool) → Good ((cond t (cond u (linkAnswer g (receivedOf b .kind) (receivedOf b .reply)) (refuses g 6 [])) (refuses g 13 [])) .group)
-    go true true = answer-good g (receivedOf b .kind) (receivedOf b .reply) good
-    go true false = good
-    go false u = good
+unfolding linkMessageDoes
+message-good g l b good = either-good g _ _ _ (eqb (heardOf (linksOf g) l b .refusal) 0) good
+
+send-good : (g : Group) (l : ℕ) (k : Kind) (vs : List ℕ) → Good g → Good ((linkSendDoes g l k vs) .group)
+unfolding linkSendDoes
+send-good g l k vs good = either-good g _ _ _ (eqb (sentOf (linksOf g) l k vs .refusal) 0) good
 
 sample-good : (g : Group) (l ms : ℕ) → Good g → Good ((sampleDoes g l ms) .group)
 unfolding sampleDoes refuses
@@ -170,4 +167,5 @@ manage-good g (openSlot k o) good = open-good g k o good
 manage-good g (freeSlot k) good = free-good g k good
 manage-good g (linkChange l up) good = link-good g l up good
 manage-good g (linkMessage l b) good = message-good g l b good
+manage-good g (linkSend l k vs) good = send-good g l k vs good
 manage-good g (sample l ms) good = sample-good g l ms good

@@ -14,7 +14,7 @@ use Rattle.connection.specs.declared.Record.{Record}
 use Rattle.connection.specs.Connection.{zeroRecord}
 use Rattle.element.specs.Element.{elementOf}
 use Rattle.table.specs.Table.{slotB, recordAt, openB, activeB}
-use Rattle.rules.specs.Rules.{Group, Call, on, hear, manage, Done, answer, next, refuses, sizesOk, recordOf, elementIn, putTurn, Fresh}
+use Rattle.rules.specs.Rules.{Group, Call, on, hear, manage, Done, answer, next, refuses, sizesOk, recordOf, elementIn, putTurn, linksOf, Fresh}
 use Rattle.order.specs.Statement.{the-manager, connection, nobody, connectionAt, ownerOf, SameSlot, Agree}
 use Rattle.order.proofs.Records.{Left}
 use Rattle.order.proofs.Slots.{no-slot, open-in, open-is, same-memory, sizes-in, Put}
@@ -35,8 +35,7 @@ pub record Near (b g : Group) : Type 0 where
   pub good : Good b
   pub kept-S : g .S ≡ b .S
   pub kept-N : g .N ≡ b .N
-  pub kept-links : g .links ≡ b .links
-  pub kept-gauges : g .gauges ≡ b .gauges
+  pub kept-links : linksOf g ≡ linksOf b
   pub kept-memory : length (g .memory) ≡ length (b .memory)
   pub kept-table : length (g .table) ≡ length (b .table)
   -- nothing is opened, and what is open is what it was
@@ -49,7 +48,6 @@ near-start b h =
       kept-S = refl;
       kept-N = refl;
       kept-links = refl;
-      kept-gauges = refl;
       kept-memory = refl;
       kept-table = refl;
       kept-open = λ i o. (o, refl);
@@ -86,7 +84,6 @@ module _ (b g : Group) (n : Near b g) where
         kept-S = p .put-S ∙ n .kept-S;
         kept-N = p .put-N ∙ n .kept-N;
         kept-links = p .put-links ∙ n .kept-links;
-        kept-gauges = p .put-gauges ∙ n .kept-gauges;
         kept-memory = p .put-memory ∙ n .kept-memory;
         kept-table = p .put-table ∙ n .kept-table;
         kept-open = λ j x. opened j x (ℕ-discrete j i);
@@ -215,11 +212,17 @@ module _ (b g h : Group) (n : Near b g) (m : Near b h) where
         S = (n .kept-S ∙ sym (m .kept-S)) x;
         N = same-N x;
         table = tables x;
-        links = (n .kept-links ∙ sym (m .kept-links)) x;
-        gauges = (n .kept-gauges ∙ sym (m .kept-gauges)) x;
+        links = same-links x .active;
+        gauges = same-links x .gauges;
+        role = same-links x .role;
+        exchange = same-links x .exchange;
+        queue = same-links x .queue;
         memory = memories x;
       }
     where
+      same-links : linksOf g ≡ linksOf h
+      same-links = n .kept-links ∙ sym (m .kept-links)
+
       same-N : g .N ≡ h .N
       same-N = n .kept-N ∙ sym (m .kept-N)
 
@@ -249,7 +252,7 @@ module _ (b g h : Group) (n : Near b g) (m : Near b h) where
           record {
             same-record = λ x. e x .0;
             same-element = λ x. e x .1;
-            same-link = λ x. activeB ((n .kept-links ∙ sym (m .kept-links)) x) (e x .0 .id .link);
+            same-link = λ x. activeB ((n .kept-links ∙ sym (m .kept-links)) x .active) (e x .0 .id .link);
           }
 
 -- a call changes no slot but its owner's

@@ -17,7 +17,7 @@ use Rattle.element.proofs.Others.{splice-length, part-same, part-before, part-a
 use Rattle.connection.specs.declared.Record.{Record}
 use Rattle.connection.specs.Connection.{zeroRecord}
 use Rattle.table.specs.Table.{sizesB, slotB, recordAt, openB, holdsB, orLater, lowest, findFrom, withRecord}
-use Rattle.rules.specs.Rules.{Group, Turn, recordOf, elementIn, putTurn}
+use Rattle.rules.specs.Rules.{Group, Turn, recordOf, elementIn, putTurn, linksOf}
 use Rattle.order.proofs.Records.{and-both}
 
 -- THE TABLE. Slot k is one of 1 to S
@@ -181,8 +181,7 @@ module _ (g : Group) (i : ℕ) (t : Turn) where
   pub record Put (h : Group) : Type 0 where
     pub put-S : h .S ≡ g .S
     pub put-N : h .N ≡ g .N
-    pub put-links : h .links ≡ g .links
-    pub put-gauges : h .gauges ≡ g .gauges
+    pub put-links : linksOf h ≡ linksOf g
     pub put-memory : length (h .memory) ≡ length (g .memory)
     pub put-table : length (h .table) ≡ length (g .table)
     pub this-record : recordOf h (suc i) ≡ t .after
@@ -197,7 +196,6 @@ module _ (g : Group) (i : ℕ) (t : Turn) where
         put-S = refl;
         put-N = refl;
         put-links = refl;
-        put-gauges = refl;
         put-memory = memory-long (g .N) (g .S) (g .memory) whole i inside (t .element) fits;
         put-table = table-long (g .table) (suc i) (t .after);
         this-record = record-same (g .table) i (t .after) there;

@@ -13,10 +13,13 @@ use Rattle.cursor.specs.Cursor.{inRange, movedOf, stepOf, turnsOf, distanceOf, 
 use Rattle.cdc.specs.Cdc.{highByte, lowByte, encodeOf}
 use Rattle.flow.specs.Flow.{roomOf, takenOf, firstOf, stretchesOf}
 use Rattle.gauge.specs.Gauge.{clearedOf}
+use Rattle.exchange.specs.declared.Role.the-variants.{Client}
+use Rattle.exchange.specs.Exchange.{noExchange, emptyQueue, endsB}
 use Rattle.element.specs.Element.{part, elementOf, splice, freshElement}
 use Rattle.connection.specs.Connection.{zeroToken, zeroRecord, fitsB, remoteOk, numbersOk, offsetsOk, distancesOk, placeOk, placesOk, coherentB, refusalOf, messageOf, toldIn, usedIn, toldOf, outcomeOf, refusedOf}
 use Rattle.transmit.specs.Transmit.{sendForbids, nOf, rtokenOf, placingOf, producedOut, producedOf, tellsOf, sentOf, waitsB, sendOf}
 use Rattle.table.specs.Table.{sizesB, slotB, recordAt, openB, activeB, gaugeAt, holdsB, lowest, findFrom, withRecord, withLink, linkSet}
+use Rattle.linkcalls.specs.Calls.{touched, settledOf, changeTouch, changedOf}
 use Rattle.connection.specs.declared.Opening.{Opening}
 use Rattle.connection.specs.Connection.{openedRecord}
 use Rattle.rules.specs.Rules.{Group, send, gather, openSlot, linkChange, Call, on, manage, Says, accepted, sent, Answer, turnOf, requestTurn, refuses, putTurn, onDoes, openRefusal, openDoes, linkDoes, next, Fresh}
@@ -32,12 +35,15 @@ aGroup =
       table = zeroRecord ∷ zeroRecord ∷ [];
       links = false ∷ false ∷ false ∷ false ∷ [];
       gauges = clearedOf ∷ clearedOf ∷ clearedOf ∷ clearedOf ∷ [];
+      role = Client;
+      exchange = noExchange;
+      queue = emptyQueue;
       memory = replicate 16 0;
     }
 
 pub a-fresh-group : Fresh aGroup
-unfolding sizesB slotB recordAt openB activeB gaugeAt zeroRecord
-a-fresh-group = record { sizes = refl; closed = shut; down = off; unheard = empty; zeros = refl }
+unfolding sizesB slotB recordAt openB activeB gaugeAt zeroRecord emptyQueue
+a-fresh-group = record { sizes = refl; closed = shut; down = off; unheard = empty; idle = refl; none = refl; zeros = refl }
   where
     shut : (k : ℕ) → openB 2 (zeroRecord ∷ zeroRecord ∷ []) k ≡ false
     shut zero = refl
@@ -178,7 +184,7 @@ secondly = opening ++ two ∷ one ∷ []
 
 -- whose each call is, by the groups as the spans begin
 pub owners-are : whose aGroup firstly ≡ the-manager ∷ the-manager ∷ the-manager ∷ connection 1 ∷ connection 2 ∷ []
-unfolding whoseFrom ownerOf inRange movedOf stepOf turnsOf distanceOf goodB gapOf highByte lowByte encodeOf roomOf takenOf firstOf stretchesOf part elementOf splice freshElement zeroRecord fitsB remoteOk numbersOk offsetsOk distancesOk placeOk placesOk coherentB refusalOf messageOf toldIn usedIn toldOf outcomeOf refusedOf sendForbids nOf rtokenOf placingOf producedOut producedOf tellsOf sentOf waitsB sendOf sizesB slotB recordAt openB activeB holdsB lowest findFrom withRecord withLink linkSet turnOf requestTurn refuses putTurn onDoes openedRecord openRefusal openDoes linkDoes
+unfolding whoseFrom ownerOf inRange movedOf stepOf turnsOf distanceOf goodB gapOf highByte lowByte encodeOf roomOf takenOf firstOf stretchesOf part elementOf splice freshElement zeroRecord fitsB remoteOk numbersOk offsetsOk distancesOk placeOk placesOk coherentB refusalOf messageOf toldIn usedIn toldOf outcomeOf refusedOf sendForbids nOf rtokenOf placingOf producedOut producedOf tellsOf sentOf waitsB sendOf sizesB slotB recordAt openB activeB holdsB lowest findFrom withRecord withLink linkSet touched changeTouch settledOf changedOf endsB emptyQueue turnOf requestTurn refuses putTurn onDoes openedRecord openRefusal openDoes linkDoes
 owners-are = refl
 
 pub sends-swapped : AnotherOrder aGroup firstly secondly
@@ -193,11 +199,11 @@ abbrev sends : ℕ → Says
 sends n = sent n (record { key = 0; address = 4; start = 0; len = n } ∷ [])
 
 pub said-first : map (λ (a : Answer). a .says) (answers aGroup firstly) ≡ accepted ∷ accepted ∷ accepted ∷ sends 2 ∷ sends 3 ∷ []
-unfolding answers inRange movedOf stepOf turnsOf distanceOf goodB gapOf highByte lowByte encodeOf roomOf takenOf firstOf stretchesOf part elementOf splice freshElement zeroRecord fitsB remoteOk numbersOk offsetsOk distancesOk placeOk placesOk coherentB refusalOf messageOf toldIn usedIn toldOf outcomeOf refusedOf sendForbids nOf rtokenOf placingOf producedOut producedOf tellsOf sentOf waitsB sendOf sizesB slotB recordAt openB activeB holdsB lowest findFrom withRecord withLink linkSet turnOf requestTurn refuses putTurn onDoes openedRecord openRefusal openDoes linkDoes
+unfolding answers inRange movedOf stepOf turnsOf distanceOf goodB gapOf highByte lowByte encodeOf roomOf takenOf firstOf stretchesOf part elementOf splice freshElement zeroRecord fitsB remoteOk numbersOk offsetsOk distancesOk placeOk placesOk coherentB refusalOf messageOf toldIn usedIn toldOf outcomeOf refusedOf sendForbids nOf rtokenOf placingOf producedOut producedOf tellsOf sentOf waitsB sendOf sizesB slotB recordAt openB activeB holdsB lowest findFrom withRecord withLink linkSet touched changeTouch settledOf changedOf endsB emptyQueue turnOf requestTurn refuses putTurn onDoes openedRecord openRefusal openDoes linkDoes
 said-first = refl
 
 pub said-second : map (λ (a : Answer). a .says) (answers aGroup secondly) ≡ accepted ∷ accepted ∷ accepted ∷ sends 3 ∷ sends 2 ∷ []
-unfolding answers inRange movedOf stepOf turnsOf distanceOf goodB gapOf highByte lowByte encodeOf roomOf takenOf firstOf stretchesOf part elementOf splice freshElement zeroRecord fitsB remoteOk numbersOk offsetsOk distancesOk placeOk placesOk coherentB refusalOf messageOf toldIn usedIn toldOf outcomeOf refusedOf sendForbids nOf rtokenOf placingOf producedOut producedOf tellsOf sentOf waitsB sendOf sizesB slotB recordAt openB activeB holdsB lowest findFrom withRecord withLink linkSet turnOf requestTurn refuses putTurn onDoes openedRecord openRefusal openDoes linkDoes
+unfolding answers inRange movedOf stepOf turnsOf distanceOf goodB gapOf highByte lowByte encodeOf roomOf takenOf firstOf stretchesOf part elementOf splice freshElement zeroRecord fitsB remoteOk numbersOk offsetsOk distancesOk placeOk placesOk coherentB refusalOf messageOf toldIn usedIn toldOf outcomeOf refusedOf sendForbids nOf rtokenOf placingOf producedOut producedOf tellsOf sentOf waitsB sendOf sizesB slotB recordAt openB activeB holdsB lowest findFrom withRecord withLink linkSet touched changeTouch settledOf changedOf endsB emptyQueue turnOf requestTurn refuses putTurn onDoes openedRecord openRefusal openDoes linkDoes
 said-second = refl
 
 -- sentence 3, of these two lists

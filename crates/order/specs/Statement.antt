@@ -44,7 +44,7 @@ connectionAt (suc k) = connection (suc k)
 
 -- By the group as it was when the call's span began: a call on a slot belongs to that slot's connection; one on a slot outside 1 to S,
 -- or closed then, belongs to nobody. A heard message belongs to the connection that held its token then; one with a token nobody held,
--- or malformed, belongs to nobody. A desk call, sample among them, is the manager's, a refused one too.
+-- or malformed, belongs to nobody. A desk call, sample and link send among them, is the manager's, a refused one too.
 unfoldable pub ownerOf : Group → Call → Whose
 ownerOf began (on k q) = cond (openB (began .S) (began .table) k) (connection k) nobody
 ownerOf began (hear b) = connectionAt (hearer began (decodeOf b))
@@ -95,8 +95,8 @@ pub data Made : Group → List Call → List Answer → Group → Type 0 where
       → Made g (c ∷ cs) (a ∷ said) end
 
 -- SENTENCE 3. Every call, in either order, answers as the rules answer it in the first, out bytes and message bytes too. The tables
--- and the memory end the same: `Group` has the connection table field for field, the links, their gauges, the memory byte for byte, S and
--- N. Each call's owner is the same in both orders.
+-- and the memory end the same: `Group` has the connection table field for field, the links, their gauges, the role, the exchange and the
+-- queue, the memory byte for byte, S and N. Each call's owner is the same in both orders.
 pub record SameOutcome (g : Group) (first second : List Call) (place : ℕ → ℕ) (said₁ said₂ : List Answer) (end₁ end₂ : Group) : Type 0 where
   pub in-first : (i : ℕ) (a : Answer) → At (answers g first) i a → At said₁ i a
   pub in-second : (i : ℕ) (a : Answer) → At (answers g first) i a → At said₂ (place i) a

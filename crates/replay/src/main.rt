@@ -1,14 +1,17 @@
 // Replays calls on one group: reads a call from each line of the standard input, makes it, and prints its answer. What a line may be and
 // what is printed is fixed by the replay format; what a call answers is the group's alone. Lines are parsed by `lines`, answers printed by
-// `answers`, both over the streams of `stream`; a record's numbers are read and printed by `records`, a gauge's by `gauge_text`.
+// `answers`, both over the streams of `stream`; a record's numbers are read and printed by `records`, a gauge's by `gauge_text`, link
+// messages by `link_text`.
 //
 // Six buffers are lent throughout: `mem` the receive memory, `given` the bytes of a line, `body` the second bytes of a line, `out` the out
 // buffer of a read, `buf` the input and `o` the output.
 ghost use Prim.Native.Nat.{_≤_};
 use connection::Record;
+use exchange::Role;
 use gauge::Gauge;
 use group::Command;
 use lines::Line;
+use link_read::LinkLine;
 use pool_text::PoolLine;
 use records::print;
 use setup_text::SetupLine;
@@ -54,7 +57,7 @@ fn copy(to: &mut [u8], from: &[u8]) {
     }
 }
 
-// A fresh group: every slot all zeros, every link down, every gauge cleared. The pool and the
+// A fresh group: every slot all zeros, every link down, every gauge cleared; a client, no exchange, none that waits. The pool and the
 // settings stay as they are.
 fn fresh(
     s: u32,
@@ -67,9 +70,14 @@ fn fresh(
 ) -> World {
     let z = connection::zero_record();
     let g = gauge::cleared();
+    let idle = exchange::no_exchange();
+    let none = exchange::empty_queue();
     let links = Links {
         active: [false; 4],
         gauges: [g; 4],
+        role: Role::Client,
+        exchange: idle,
+        queue: none,
     };
     World {
         s: s,
@@ -264,7 +272,8 @@ fn memory(mem: &[u8], o: &mut [u8; 65536], w: World, at: usize, count: usize) ->
 fn table(o: &mut [u8; 65536], w: World) -> World {
     let table = w.table;
     let links = w.links;
-    let at = print::tables(o, w.at, table, w.count, links);
+    let a = print::tables(o, w.at, table, w.count, links);
+    let at = link_text::lines(o, a, links);
     filled_to(w, at)
 }
 
@@ -316,6 +325,17 @@ fn setup_line(
     next
 }
 
+// A line on link messages, made on the links.
+fn link_line(given: &[u8], o: &mut [u8; 65536], w: World, line: LinkLine) -> World {
+    let links = w.links;
+    let a = link_text::act(o, w.at, links, given, line);
+    let after = a.links;
+    let mut next = w;
+    next.links = after;
+    next.at = a.at;
+    next
+}
+
 // The lines that are no calls of the group.
 fn aside(mem: &mut [u8], given: &[u8], o: &mut [u8; 65536], w: World, line: Line) -> World {
     match line {
@@ -345,6 +365,7 @@ fn act<'a>(
         Line::Call(command, count, room) => lent(mem, given, out, o, w, command, count, room),
         Line::Gather(slot, h, b) => gather_line(mem, given, body, o, w, slot, h, b),
         Line::Setup(l) => setup_line(given, out, o, w, l),
+        Line::Link(l) => link_line(given, o, w, l),
         _ => aside(mem, given, o, w, line),
     }
 }

@@ -13,10 +13,11 @@ use Rattle.cdc.specs.declared.Message.{Message}
 use Rattle.cdc.specs.declared.Decoded.{Decoded}
 use Rattle.cdc.specs.declared.Decoded.the-variants.{Good, Malformed}
 use Rattle.cdc.specs.Cdc.{decodeOf}
-use Rattle.llc.specs.declared.Kind.{Kind}
-use Rattle.llc.specs.declared.Kind.the-variants as Kinds
-use Rattle.llc.specs.declared.Received.{Received}
-use Rattle.llc.specs.Llc.{receivedOf}
+use Rattle.llcfields.specs.declared.Kind.{Kind}
+use Rattle.exchange.specs.declared.Role.{Role}
+use Rattle.exchange.specs.declared.Exchange.{Exchange}
+use Rattle.exchange.specs.declared.Queue.{Queue}
+use Rattle.exchange.specs.declared.Fate.{Fate}
 use Rattle.closing.specs.declared.State.{State}
 use Rattle.gauge.specs.declared.Gauge.{Gauge}
 use Rattle.gauge.specs.declared.Health.{Health}
@@ -40,31 +41,53 @@ use Rattle.hear.specs.Hear.{hearOf}
 use Rattle.finish.specs.Finish.{shutdownOf, closeOf, abortOf}
 use Rattle.table.specs.declared.Links.{Links}
 use Rattle.table.specs.declared.Answered.{Answered}
-use Rattle.table.specs.Table.{sizesB, slotB, recordAt, openB, linkIn, activeB, gaugeAt, findFrom, withRecord, gaugeSet, linkSet}
+use Rattle.table.specs.Table.{sizesB, slotB, recordAt, openB, linkIn, activeB, gaugeAt, findFrom, withRecord, gaugeSet}
+use Rattle.linkcalls.specs.declared.Fields.{Fields}
+use Rattle.linkcalls.specs.declared.TakenUp.{TakenUp}
+use Rattle.linkcalls.specs.Calls.{changedOf, heardOf, sentOf}
 
--- A group: S and N, one connection table, four links, a gauge for each, one receive memory. The code is given four links and gauges by its
--- type; the rules are said for lists of any length.
+-- A group: S and N, one connection table, four links, a gauge for each, our role, the exchange that runs, the messages that wait for its
+-- end (request 2026-01), one receive memory. The code is given four links and gauges by its type; the rules are said for lists of any
+-- length.
 pub record Group : Type 0 where
   pub S : ℕ
   pub N : ℕ
   pub table : List Record
   pub links : List Bool
   pub gauges : List Gauge
+  pub role : Role
+  pub exchange : Exchange
+  pub queue : Queue
   pub memory : List ℕ
+
+-- its links with their gauges, role, exchange and queue
+abbrev pub linksOf : Group → Links
+linksOf g = record { active = g .links; gauges = g .gauges; role = g .role; exchange = g .exchange; queue = g .queue }
+
+-- what is lent to the code, as a group
+abbrev pub groupOf : ℕ → ℕ → List Record → Links → List ℕ → Group
+groupOf s n t l m =
+    record {
+      S = s;
+      N = n;
+      table = t;
+      links = l .active;
+      gauges = l .gauges;
+      role = l .role;
+      exchange = l .exchange;
+      queue = l .queue;
+      memory = m;
+    }
 
 -- the group with another table, other links, another memory
 abbrev pub withTable : Group → List Record → Group
-withTable g t = record { S = g .S; N = g .N; table = t; links = g .links; gauges = g .gauges; memory = g .memory }
+withTable g t = groupOf (g .S) (g .N) t (linksOf g) (g .memory)
 
 abbrev pub withLinks : Group → Links → Group
-withLinks g l = record { S = g .S; N = g .N; table = g .table; links = l .active; gauges = l .gauges; memory = g .memory }
+withLinks g l = groupOf (g .S) (g .N) (g .table) l (g .memory)
 
 abbrev pub withMemory : Group → List ℕ → Group
-withMemory g m = record { S = g .S; N = g .N; table = g .table; links = g .links; gauges = g .gauges; memory = m }
-
--- its links with their gauges
-abbrev pub linksOf : Group → Links
-linksOf g = record { active = g .links; gauges = g .gauges }
+withMemory g m = groupOf (g .S) (g .N) (g .table) (linksOf g) m
 
 -- THE CALLS, each with all bytes lent to it.
 
@@ -80,13 +103,14 @@ pub data Request : Type 0 where
   abort : Request
 
 -- of management, document 01's desk calls: open takes a slot and what the connection is given (own token, peer token, link, N', index, and
--- a key and a base for each link); link change a link and whether it is active; link message a link and bytes; sample (request 2026-10) a
--- link and milliseconds
+-- a key and a base for each link); link change a link and whether it is active; link message a link and bytes; link send (request 2026-01)
+-- a link, a kind and its values; sample (request 2026-10) a link and milliseconds
 pub data Management : Type 0 where
   openSlot : ℕ → Opening → Management
   freeSlot : ℕ → Management
   linkChange : ℕ → Bool → Management
   linkMessage : ℕ → List ℕ → Management
+  linkSend : ℕ → Kind → List ℕ → Management
   sample : ℕ → ℕ → Management
 
 pub data Call : Type 0 where
@@ -95,7 +119,7 @@ pub data Call : Type 0 where
   manage : Management → Call
 
 -- THE ANSWERS: the refusal's number, or all that the call's line names, with every byte of a message made, and the out buffer's bytes
--- as the call leaves them.
+-- as the call leaves them. A link message answers its fields, its fate and what was taken up, a link send what was taken up.
 pub data Says : Type 0 where
   refusal : ℕ → Says
   accepted : Says
@@ -106,6 +130,8 @@ pub data Says : Type 0 where
   heard : ℕ → State → Says
   reset : Says
   sampled : Health → Says
+  linkHeard : Fields → Fate → TakenUp → Says
+  linkSent : TakenUp → Says
 
 -- 44 zeros stand in the place of a message where none is made
 pub record Answer : Type 0 where
@@ -168,6 +194,8 @@ inPieces pieces torn = torn
 inPieces pieces (heard moved state) = heard moved state
 inPieces pieces reset = reset
 inPieces pieces (sampled health) = sampled health
+inPieces pieces (linkHeard fields fate up) = linkHeard fields fate up
+inPieces pieces (linkSent up) = linkSent up
 
 abbrev pub answerInPieces : (ℕ → List Piece) → Answer → Answer
 answerInPieces pieces a = record { says = inPieces pieces (a .says); made = a .made; message = a .message; out = a .out }
@@ -304,25 +332,32 @@ freeDoes g k =
     let j = freeRefusal g k in
     cond (eqb j 0) (putTurn g k (plainTurn zeroRecord (elementIn g k))) (refuses g j [])
 
--- Link change: 13; it sets one link, and one that is set down loses its gauge
+-- Link change: 13; it sets one link, and one that is set down loses its gauge, and ends an exchange that is run over it
 unfoldable pub linkDoes : Group → ℕ → Bool → Done
-linkDoes g l up = cond (linkIn l) (record { answer = plain; group = withLinks g (linkSet (linksOf g) l up) }) (refuses g 13 [])
+linkDoes g l up =
+    cond (linkIn l) (record { answer = plain; group = withLinks g (changedOf (linksOf g) l up .after) }) (refuses g 13 [])
 
--- Link message: optional is discarded, a TEST LINK request is answered by a reply, a reply is taken and nothing follows;
--- 4: malformed; 14: a named link message other than 07
-abbrev pub linkAnswer : Group → Kind → List ℕ → Done
-linkAnswer g Kinds.Malformed reply = refuses g 4 []
-linkAnswer g Kinds.Optional reply = record { answer = plain; group = g }
-linkAnswer g Kinds.Named reply = refuses g 14 []
-linkAnswer g Kinds.TestRequest reply = record { answer = record { says = accepted; made = true; message = reply; out = [] }; group = g }
-linkAnswer g Kinds.TestReply reply = record { answer = plain; group = g }
-
--- 13, 6, then what the bytes are
+-- Link message: 13, 6, 4, 14, 15, and what the bytes are
 unfoldable pub linkMessageDoes : Group → ℕ → List ℕ → Done
 linkMessageDoes g l b =
-    cond (linkIn l)
-    (cond (activeB (g .links) l) (linkAnswer g (receivedOf b .kind) (receivedOf b .reply)) (refuses g 6 []))
-    (refuses g 13 [])
+    let h = heardOf (linksOf g) l b in
+    cond (eqb (h .refusal) 0)
+    (record {
+      answer = record { says = linkHeard (h .fields) (h .fate) (h .settled .up); made = h .replies; message = h .reply; out = [] };
+      group = withLinks g (h .settled .after);
+    })
+    (refuses g (h .refusal) [])
+
+-- Link send: 13, 6, 14, 15, and the message made
+unfoldable pub linkSendDoes : Group → ℕ → Kind → List ℕ → Done
+linkSendDoes g l k vs =
+    let h = sentOf (linksOf g) l k vs in
+    cond (eqb (h .refusal) 0)
+    (record {
+      answer = record { says = linkSent (h .settled .up); made = true; message = h .message; out = [] };
+      group = withLinks g (h .settled .after);
+    })
+    (refuses g (h .refusal) [])
 
 -- Sample: 13, 6, 17 (above 60,000 milliseconds); 0: not refused
 unfoldable pub sampleRefusal : List Bool → ℕ → ℕ → ℕ
@@ -344,6 +379,7 @@ manageDoes g (openSlot k o) = openDoes g k o
 manageDoes g (freeSlot k) = freeDoes g k
 manageDoes g (linkChange l up) = linkDoes g l up
 manageDoes g (linkMessage l b) = linkMessageDoes g l b
+manageDoes g (linkSend l k vs) = linkSendDoes g l k vs
 manageDoes g (sample l ms) = sampleDoes g l ms
 
 abbrev pub does : Group → Call → Done
@@ -363,18 +399,17 @@ pub record Did (g : Group) (c : Call) (a : Answer) (h : Group) : Type 0 where
   pub answered : a ≡ answer g c
   pub left : h ≡ next g c
 
--- what is lent to the code, as a group; and what it returns, as an answer
-abbrev pub groupOf : ℕ → ℕ → List Record → Links → List ℕ → Group
-groupOf s n t l m = record { S = s; N = n; table = t; links = l .active; gauges = l .gauges; memory = m }
-
+-- what the code returns, as an answer
 abbrev pub answerOf : Answered → List ℕ → Answer
 answerOf r out = record { says = saysOf (r .reply); made = r .made; message = r .message; out = out }
 
 -- A fresh group has S and N in range, a table of S records, every slot closed (whatever else it holds), every link down, every gauge
--- cleared and memory all zeros.
+-- cleared, no exchange, none that waits (whatever v, w and the places hold), either role, and memory all zeros.
 pub record Fresh (g : Group) : Type 0 where
   pub sizes : sizesOk g ≡ true
   pub closed : (k : ℕ) → openB (g .S) (g .table) k ≡ false
   pub down : (l : ℕ) → activeB (g .links) l ≡ false
   pub unheard : (l : ℕ) → gaugeAt (g .gauges) l ≡ clearedOf
+  pub idle : g .exchange .stage ≡ 0
+  pub none : g .queue .count ≡ 0
   pub zeros : g .memory ≡ replicate (length (g .memory)) 0

@@ -13,7 +13,7 @@ use Rattle.transmit.specs.Transmit.{sendOf, sentOf, urgentOf, urgentSendOf}
 use Rattle.receive.specs.Receive.{placeOf, readOf, takeOf}
 use Rattle.hear.specs.Hear.{ruledOf, hearOf, abortedOf, followedOf, acceptedOf}
 use Rattle.finish.specs.Finish.{resetOf, closingOf, shutdownOf, closeOf, abortOf}
-use Rattle.rules.specs.Rules.{Says, refusal, accepted, sent, gathered, wasRead, torn, reset, heard, sampled, saysOf}
+use Rattle.rules.specs.Rules.{Says, refusal, accepted, sent, gathered, wasRead, torn, reset, heard, sampled, linkHeard, linkSent, saysOf}
 use Rattle.safety.specs.Statement.{acceptedB}
 
 -- from an equation of two constructors
@@ -138,3 +138,5 @@ says-accepted torn e = absurd (false≢true e)
 says-accepted (heard moved state) e = absurd (false≢true e)
 says-accepted reset e = absurd (false≢true e)
 says-accepted (sampled q) e = absurd (false≢true e)
+says-accepted (linkHeard f t u) e = absurd (false≢true e)
+says-accepted (linkSent u) e = absurd (false≢true e)

@@ -2,7 +2,7 @@
 -- is intact and holds what it must; and it answers neither refusal 3 nor "torn". Assumes nothing.
 use mathlib.Core.Path.{_≡_, refl, sym, ap, _∙_}
 use mathlib.Core.Logic.{_⊎_, inl, inr, _≢_}
-use mathlib.Core.Bool.{true, false, false≢true, cond}
+use mathlib.Core.Bool.{Bool, true, false, false≢true, cond}
 use mathlib.Core.List.{List}
 use Prim.Native.Nat.{ℕ, zero, suc, _-_, _<_, _≤_}
 use native.Mathlib.Omega.{arith}
@@ -22,7 +22,9 @@ use Rattle.order.proofs.Slots.{slot-in, open-in, element-long, Put, put}
 use Rattle.safety.specs.Statement.{OpenAt, acceptedB, changedBy}
 use Rattle.safety.specs.Refusals.{lentOut}
 use Rattle.safety.proofs.Answers.{clash}
-use Rattle.safety.proofs.Effects.{Openable, open-facts, openTurn, free-facts, freeTurn, Acts, asks, hears, opens, frees, Incoherent, Effect, refuses-it, answers-it, sets-link, samples-it, puts-turn, relinked, resampled}
+use Rattle.safety.proofs.Effects.{Openable, open-facts, openTurn, free-facts, freeTurn, Acts, asks, hears, opens, frees, Incoherent, Effect, refuses-it, links-it, samples-it, puts-turn, Quiet, relinked, resampled}
+use Rattle.linktheorems.specs.Statements.{Call as LinkCall}
+use Rattle.safety.specs.Links.{callOf}
 use Rattle.safety.proofs.Effects
 use Rattle.safety.proofs.Invariant.{Sound, no-slot-0, sizes}
 use Rattle.safety.proofs.Turns.{Kept, same, request, heard}
@@ -74,15 +76,27 @@ module _ (g : Group) (s : Sound g) where
       not-here zero o e = no-slot-0 g o
       not-here (suc i) o e = false≢true (sym e ∙ s .coherent i o)
 
-  -- an accepted call that touches no slot
-  aside : (c : Call) (x : Done) → x .answer .says ≡ accepted → x .group .S ≡ g .S → x .group .N ≡ g .N → x .group .table ≡ g .table
-      → x .group .memory ≡ g .memory → ((k : ℕ) (e : List ℕ) → changedBy (g .N) k c e ≡ e) → Does g c x
-  aside c x a p q r m h =
+  -- a call on the links touches no slot
+  aside : (c : Call) (x : Done) (k : LinkCall) → c ≡ callOf k → Quiet (x .answer .says) → x .group ≡ relinked g k → Does g c x
+  aside c x k p a r =
       record {
-        effect = inl (record { same-S = p; same-N = q; same-table = r; same-memory = m; same-held = λ k e. rw a (h k e) });
-        not-3 = λ e. clash (cc);
-        not-torn = λ e. clash (cc);
+        effect =
+            inl
+            (record {
+              same-S = ap (λ (h : Group). h .S) r;
+              same-N = ap (λ (h : Group). h .N) r;
+              same-table = ap (λ (h : Group). h .table) r;
+              same-memory = ap (λ (h : Group). h .memory) r;
+              same-held = λ s e. rw p (held k s e (acceptedB (x .answer .says)));
+            });
+        not-3 = a .not-refused 3;
+        not-torn = a .not-torn;
       }
+    where
+      held : (k : LinkCall) (s : ℕ) (e : List ℕ) (t : Bool) → cond t (changedBy (g .N) s (callOf k) e) e ≡ e
+      held (LinkCall.change l up) s e t = same t e
+      held (LinkCall.message l b) s e t = same t e
+      held (LinkCall.send l i vs) s e t = same t e
 
   sampled-aside : (l ms : ℕ) → Does g (manage (sample l ms)) (resampled g l ms)
   sampled-aside l ms =
@@ -193,9 +207,6 @@ module _ (g : Group) (s : Sound g) where
     where
       go : (x : Done) → Effect g c x → Does g c x
       go x (refuses-it n h e) = rw e (refused c n (lentOut c) h)
-      go x (answers-it l b p a e) =
-          aside c x a (ap (λ (h : Group). h .S) e) (ap (λ (h : Group). h .N) e) (ap (λ (h : Group). h .table) e)
-          (ap (λ (h : Group). h .memory) e) (λ k f. rw p)
-      go x (sets-link l up p e) = rw (p, e) (aside (manage (linkChange l up)) (relinked g l up) refl refl refl refl refl (λ k f. refl))
+      go x (links-it k p a e) = aside c x k p a e
       go x (samples-it l ms p z e) = rw (p, e) (sampled-aside l ms)
       go x (puts-turn k t z a e) = rw e (acts-does c k t a)

@@ -9,7 +9,7 @@ use lib.Dec.{eqb}
 use borrow.Author.Tests.{eqb-true, eqb-false}
 use Rattle.element.specs.Element.{splice, freshElement}
 use Rattle.connection.specs.declared.Opening as Given
-use Rattle.rules.specs.Rules.{Request, send, gather, urgent, place, read, shutdown, close, abort, openSlot, freeSlot, linkChange, linkMessage, sample, Call, on, hear, manage}
+use Rattle.rules.specs.Rules.{Request, send, gather, urgent, place, read, shutdown, close, abort, openSlot, freeSlot, linkChange, linkMessage, linkSend, sample, Call, on, hear, manage}
 use Rattle.safety.specs.Statement.{placedBy, changedBy}
 use Rattle.safety.proofs.Answers.{clash}
 
@@ -70,4 +70,5 @@ module _ (n k : ℕ) (e : List ℕ) where
   changes (manage (freeSlot j)) = stays (λ given p. clash (cc)) (λ at b p. clash (cc)) refl
   changes (manage (linkChange l up)) = stays (λ given p. clash (cc)) (λ at b p. clash (cc)) refl
   changes (manage (linkMessage l b)) = stays (λ given p. clash (cc)) (λ at b p. clash (cc)) refl
+  changes (manage (linkSend l i vs)) = stays (λ given p. clash (cc)) (λ at b p. clash (cc)) refl
   changes (manage (sample l ms)) = stays (λ given p. clash (cc)) (λ at b p. clash (cc)) refl

@@ -6,11 +6,14 @@ use Prim.Native.Nat.{ℕ, zero, suc}
 use native.Mathlib.Omega.{arith}
 use lib.ListN.{length}
 use Rattle.table.specs.declared.Links.{Links}
-use Rattle.table.specs.Table.{recordAt, withRecord, withLink, linkSet}
+use Rattle.table.specs.Table.{recordAt, withRecord}
+use Rattle.linktheorems.specs.Statements.{Call as LinkCall}
+use Rattle.linktheorems.proofs.Theorems.{links-touched}
+use Rattle.safety.specs.Links.{callOf}
 use Rattle.rules.specs.Rules.{linksOf, Group, Call, Turn, Done, does, answer, refuses, putTurn, recordOf, sizesOk, on, requestTurn, next, elementIn, linkOf, close, hearTurn, turnOf, saysOf, refusal, heard, Answer, holderOf, sent, gathered, Request, hear}
 use Rattle.order.proofs.Slots.{slot-in, record-other, table-long, memory-long, open-in, open-is, open-there, record-same}
-use Rattle.safety.specs.Changes.{OneTurned, OneRecord, SetsLink, LinksByLinkChange, HeardFor, Closes, ClosedBy, Forward, NeverBack, by-close, by-hear, by-abort, by-free, AbortAnswer, AbortHeard, slotOf, Closing}
-use Rattle.safety.proofs.Effects.{Acts, Effect, refuses-it, answers-it, sets-link, samples-it, puts-turn, effect, opens, open-facts, free-facts, asks, hears, frees}
+use Rattle.safety.specs.Changes.{OneTurned, OneRecord, Touches, LinksByLinkCalls, HeardFor, Closes, ClosedBy, Forward, NeverBack, by-close, by-hear, by-abort, by-free, AbortAnswer, AbortHeard, slotOf, Closing}
+use Rattle.safety.proofs.Effects.{Acts, Effect, refuses-it, links-it, samples-it, puts-turn, effect, opens, open-facts, free-facts, asks, hears, frees}
 use Rattle.safety.proofs.Acted.{acts-slot, acts-in, is-sizes, acts-high, acts-long}
 use Rattle.safety.proofs.Course.{Course, goes, ends, stays, EndsSlot, request-course, hear-course, ClosesSlot}
 use Rattle.safety.specs.Statement.{OpenAt}
@@ -49,6 +52,12 @@ turn-one g c (suc i) t ok a =
     other zero d = refl
     other (suc j) d = record-other (g .table) i j (t .after) (λ p. d (ap suc p))
 
+-- a call on the links acts on no slot
+no-slot : (g : Group) (k : LinkCall) → slotOf g (callOf k) ≡ 0
+no-slot g (LinkCall.change l up) = refl
+no-slot g (LinkCall.message l b) = refl
+no-slot g (LinkCall.send l i vs) = refl
+
 pub one-record : OneRecord
 unfolding refuses
 one-record g c = go (does g c) (effect g c)
@@ -65,33 +74,25 @@ one-record g c = go (does g c) (effect g c)
 
     go : (x : Done) → Effect g c x → OneTurned g c (x .group)
     go x (refuses-it n h e) = as-was (x .group) (ap (λ (d : Done). d .group) e)
-    go x (answers-it l b p a e) = as-was (x .group) e
-    go x (sets-link l up p e) =
+    go x (links-it k p a e) =
         rw e (record { same-S = refl; same-N = refl; as-many = refl; as-long = refl; others = λ k d. refl })
     go x (samples-it l ms p z e) =
         rw e (record { same-S = refl; same-N = refl; as-many = refl; as-long = refl; others = λ k d. refl })
     go x (puts-turn k t s a e) = rw e (turn-one g c k t s a)
 
 -- 2. Links
-linked : (ls : Links) (l : ℕ) (up : Bool) → linkSet ls l up .active ≡ withLink (ls .active) l up
-unfolding linkSet
-linked ls l true = refl
-linked ls l false = refl
-
-pub links-by-link-change : LinksByLinkChange
+pub links-by-link-calls : LinksByLinkCalls
 unfolding refuses putTurn
-links-by-link-change g c = go (does g c) refl (effect g c)
+links-by-link-calls g c = go (does g c) refl (effect g c)
   where
-    go : (x : Done) → does g c ≡ x → Effect g c x → (x .group .links ≡ g .links) ⊎ SetsLink g c
+    go : (x : Done) → does g c ≡ x → Effect g c x → (x .group .links ≡ g .links) ⊎ Touches g c
     go x q (refuses-it n h e) = inl (ap (λ (d : Done). d .group .links) e)
-    go x q (answers-it l b p a e) = inl (ap (λ (h : Group). h .links) e)
-    go x q (sets-link l up p e) =
+    go x q (links-it k p a e) =
         inr (record {
-          link = l;
-          up = up;
+          call = k;
           is = p;
-          took = ap (λ (d : Done). d .answer .says) (q ∙ e);
-          sets = ap (λ (d : Done). d .group .links) (q ∙ e) ∙ linked (linksOf g) l up;
+          touches =
+              ap (λ (d : Done). d .group .links) q ∙ ap (λ (h : Group). h .links) e ∙ links-touched (linksOf g) k .0;
         })
     go x q (samples-it l ms p z e) = inl (ap (λ (d : Done). d .group .links) e)
     go x q (puts-turn k t s a e) = inl (ap (λ (d : Done). d .group .links) e)
@@ -209,11 +210,9 @@ module _ (g : Group) (c : Call) (i : ℕ) (o : OpenAt g (suc i)) where
       go : (x : Done) → does g c ≡ x → Effect g c x → After (recordOf (next g c) (suc i))
       go x q (refuses-it n h e) =
           as-it-was (not-refused n (ap (λ (d : Done). d .answer .says) (q ∙ e))) _ (ap (λ (d : Done). recordOf (d .group) (suc i)) (q ∙ e))
-      go x q (answers-it l b p a e) =
-          as-it-was (elsewhere (λ z. omega (arith, sym (ap (slotOf g) p) ∙ z))) _
+      go x q (links-it k p a e) =
+          as-it-was (elsewhere (λ z. omega (arith, sym (ap (slotOf g) p ∙ no-slot g k) ∙ z))) _
           (ap (λ (d : Done). recordOf (d .group) (suc i)) q ∙ ap (λ (h : Group). recordOf h (suc i)) e)
-      go x q (sets-link l up p e) =
-          as-it-was (elsewhere (λ z. omega (arith, sym (ap (slotOf g) p) ∙ z))) _ (ap (λ (d : Done). recordOf (d .group) (suc i)) (q ∙ e))
       go x q (samples-it l ms p y e) =
           as-it-was (elsewhere (λ z. omega (arith, sym (ap (slotOf g) p) ∙ z))) _ (ap (λ (d : Done). recordOf (d .group) (suc i)) (q ∙ e))
       go x q (puts-turn k t s a e) = turned k t (q ∙ e) s a (ℕ-discrete (suc i) k)
@@ -322,7 +321,6 @@ abort-heard g c k m for a = go (does g c) refl (effect g c)
 
     go : (x : Done) → does g c ≡ x → Effect g c x → AbortAnswer g c k
     go x q (refuses-it n h e) = absurd (for .took n (ap (λ (d : Done). d .answer .says) (q ∙ e)))
-    go x q (answers-it l b p a e) = let w = for .is in clash (cc)
-    go x q (sets-link l up p e) = let w = for .is in clash (cc)
+    go x q (links-it k p a e) = let w = for .is in clash (cc)
     go x q (samples-it l ms p z e) = let w = for .is in clash (cc)
     go x q (puts-turn j t s a e) = by j t (q ∙ e) a

@@ -1,8 +1,8 @@
--- What a call does to a group, however that came about: it refuses; or a link message is answered; or a link is set; or one turn is put
+-- What a call does to a group, however that came about: it refuses; or acts on the links; or a gauge has a sample more; or one turn is put
 -- back in the slot on which the call acts. All else that is said of calls one by one goes by these cases; a further call is a clause more of
 -- `effect`. Assumes nothing.
 use mathlib.Core.Path.{_≡_, refl, sym}
-use mathlib.Core.Bool.{Bool, true, false, false≢true, not, cond, _||_}
+use mathlib.Core.Bool.{Bool, true, false, false≢true, not, cond, _&&_, _||_}
 use mathlib.Core.List.{List, []}
 use Prim.Native.Nat.{ℕ, zero, suc, _≤_}
 use native.Mathlib.Omega.{arith}
@@ -12,9 +12,6 @@ use Rattle.cdc.specs.declared.Message.{Message}
 use Rattle.cdc.specs.declared.Decoded.{Decoded}
 use Rattle.cdc.specs.declared.Decoded.the-variants.{Good, Malformed}
 use Rattle.cdc.specs.Cdc.{decodeOf}
-use Rattle.llc.specs.declared.Kind.{Kind}
-use Rattle.llc.specs.declared.Kind.the-variants as Kinds
-use Rattle.llc.specs.Llc.{receivedOf}
 use Rattle.element.specs.Element.{freshElement}
 use Rattle.connection.specs.Connection.{zeroRecord, remoteOk, coherentB}
 use Rattle.gauge.specs.declared.Gauge.{Gauge}
@@ -22,11 +19,24 @@ use Rattle.gauge.specs.Gauge.{mostMs, sampledOf}
 use Rattle.connection.specs.declared.Opening as Given
 use Rattle.connection.specs.Connection.{openedRecord}
 use Rattle.table.specs.Table.{linkIn}
-use Rattle.rules.specs.Rules.{plainTurn, badOpening, Group, Request, openSlot, freeSlot, linkChange, linkMessage, sample, Call, on, hear, manage, accepted, Turn, requestTurn, hearTurn, Done, does, answer, refuses, putTurn, recordOf, elementIn, linkOf, sizesOk, outOf, onDoes, holderOf, hearAt, hearMessage, hearDoes, plain, openRefusal, openDoes, freeRefusal, freeDoes, linkDoes, linkAnswer, linkMessageDoes, linksOf, withLinks, healthy, sampleRefusal, sampleDoes}
-use Rattle.table.specs.Table.{slotB, openB, activeB, gaugeAt, findFrom, gaugeSet, linkSet}
+use Rattle.rules.specs.Rules.{plainTurn, badOpening, Group, Request, openSlot, freeSlot, linkChange, linkMessage, linkSend, sample, Call, on, hear, manage, Says, refusal, torn, linkHeard, linkSent, Turn, requestTurn, hearTurn, Done, does, answer, refuses, putTurn, recordOf, elementIn, linkOf, sizesOk, outOf, onDoes, holderOf, hearAt, hearMessage, hearDoes, plain, openRefusal, openDoes, freeRefusal, freeDoes, linkDoes, linkMessageDoes, linkSendDoes, linksOf, withLinks, healthy, sampleRefusal, sampleDoes}
+use Rattle.table.specs.Table.{slotB, openB, activeB, gaugeAt, findFrom, gaugeSet}
+use Rattle.table.specs.declared.Links.{Links}
+use Rattle.llcfields.specs.declared.Kind.{Kind}
+use Rattle.llcfields.specs.Layouts.{encodeOf}
+use Rattle.exchange.specs.declared.Said.{Said}
+use Rattle.exchange.specs.Exchange.{dueB}
+use Rattle.linkcalls.specs.declared.Heard.{Heard}
+use Rattle.linkcalls.specs.declared.Sent.{Sent}
+use Rattle.linkcalls.specs.declared.Settled.{Settled}
+use Rattle.linkcalls.specs.Calls.{noReply, unchanged, optionalB, messageRefusal, heardIn, fateNo, heardWork, nothingHeard, heardOf, sendRefusal, sentWork, sentIn, sentOf}
+use Rattle.linktheorems.specs.Statements as Link
+use Rattle.linktheorems.specs.Statements.{Call as LinkCall}
 use Rattle.order.proofs.Slots.{found-open}
 use Rattle.safety.specs.Statement.{OpenAt, ownOf}
 use Rattle.safety.specs.Refusals.{lentOut}
+use Rattle.safety.specs.Links.{callOf}
+use Rattle.safety.proofs.Answers.{clash}
 
 -- the turn of an accepted open, and that of an accepted free
 abbrev pub openTurn : Group → Given.Opening → Turn
@@ -44,10 +54,15 @@ pub data Acts (g : Group) (c : Call) (k : ℕ) (t : Turn) : Type 0 where
       → t ≡ openTurn g given → Acts g c k t
   frees : c ≡ manage (freeSlot k) → freeRefusal g k ≡ 0 → t ≡ freeTurn g k → Acts g c k t
 
--- what an accepted link change does, and an accepted sample
-abbrev pub relinked : Group → ℕ → Bool → Done
-relinked g l up = record { answer = plain; group = withLinks g (linkSet (linksOf g) l up) }
+-- what a call on the links leaves, and what it says where it is not refused
+abbrev pub relinked : Group → LinkCall → Group
+relinked g k = withLinks g (Link.next (linksOf g) k)
 
+pub record Quiet (says : Says) : Type 0 where
+  pub not-refused : (n : ℕ) → says ≡ refusal n → ⊥
+  pub not-torn : says ≡ torn → ⊥
+
+-- what an accepted sample does
 abbrev pub gaugeAfter : Group → ℕ → ℕ → Gauge
 gaugeAfter g l ms = sampledOf (gaugeAt (g .gauges) l) ms
 
@@ -61,8 +76,7 @@ Incoherent g n = n ≡ 3 → (k : ℕ) × OpenAt g k × (coherentB (g .N) (recor
 
 pub data Effect (g : Group) (c : Call) (x : Done) : Type 0 where
   refuses-it : (n : ℕ) → Incoherent g n → x ≡ refuses g n (lentOut c) → Effect g c x
-  answers-it : (l : ℕ) (b : List ℕ) → c ≡ manage (linkMessage l b) → x .answer .says ≡ accepted → x .group ≡ g → Effect g c x
-  sets-link : (l : ℕ) (up : Bool) → c ≡ manage (linkChange l up) → x ≡ relinked g l up → Effect g c x
+  links-it : (k : LinkCall) → c ≡ callOf k → Quiet (x .answer .says) → x .group ≡ relinked g k → Effect g c x
   samples-it : (l ms : ℕ) → c ≡ manage (sample l ms) → sampleRefusal (g .links) l ms ≡ 0 → x ≡ resampled g l ms → Effect g c x
   puts-turn : (k : ℕ) (t : Turn) → sizesOk g ≡ true → Acts g c k t → x ≡ putTurn g k t → Effect g c x
 
@@ -171,6 +185,59 @@ sample-3 links l ms = go (not (linkIn l)) (not (activeB links l)) (not (leb ms m
     go false false true = refl
     go false false false = refl
 
+-- link message's refusals are 13, 6, 4, 14 and 15, link send's 13, 6, 14 and 15
+record Not3 (n : ℕ) : Type 0 where
+  is : eqb n 3 ≡ false
+
+either-3 : (t : Bool) (x y : ℕ) → Not3 x → Not3 y → Not3 (cond t x y)
+either-3 true x y h k = h
+either-3 false x y h k = k
+
+this-3 : (n : ℕ) → eqb n 3 ≡ false → Not3 n
+this-3 n e = record { is = e }
+
+message-3 : (ls : Links) (l : ℕ) (b : List ℕ) → eqb (heardOf ls l b .refusal) 3 ≡ false
+unfolding heardOf heardWork nothingHeard messageRefusal
+message-3 ls l b = go (eqb j 0 && not (optionalB b)) .is
+  where
+    m : Said
+    m = heardIn ls b
+
+    j : ℕ
+    j = messageRefusal ls l b m (fateNo ls l m)
+
+    number-3 : Not3 j
+    number-3 = search (either-3, this-3) depth 12
+
+    go : (t : Bool)
+        → Not3 (cond t (heardWork ls l b m (dueB (ls .exchange) l m) (fateNo ls l m)) (nothingHeard ls j) .refusal)
+    go true = this-3 0 refl
+    go false = number-3
+
+send-3 : (ls : Links) (l : ℕ) (k : Kind) (vs : List ℕ) → eqb (sentOf ls l k vs .refusal) 3 ≡ false
+unfolding sentOf sendRefusal
+send-3 ls l k vs = go (eqb j 0) .is
+  where
+    m : Said
+    m = sentIn ls k vs
+
+    due : Bool
+    due = dueB (ls .exchange) l m
+
+    j : ℕ
+    j = sendRefusal ls l m due
+
+    number-3 : Not3 j
+    number-3 = search (either-3, this-3) depth 12
+
+    go : (t : Bool)
+        → Not3
+        (cond {A = Sent} t (record { refusal = 0; message = encodeOf k vs; settled = sentWork ls l m due })
+        (record { refusal = j; message = noReply; settled = unchanged ls })
+        .refusal)
+    go true = this-3 0 refl
+    go false = number-3
+
 module _ (g : Group) where
   not3 : (n : ℕ) → eqb n 3 ≡ false → Incoherent g n
   not3 n h = number g n h .incoherent
@@ -201,15 +268,8 @@ module _ (g : Group) where
       go (suc i) p = let w = holder-open (m .token) i p in puts-turn (suc i) _ s (hears b m refl e p (w .0) (w .1) refl) (rw (eqb·suc-zero i))
   heard b s Malformed e = refuses-it 4 (not3 4 refl) refl
 
-  message : (l : ℕ) (b : List ℕ) (k : Kind) (reply : List ℕ) → Effect g (manage (linkMessage l b)) (linkAnswer g k reply)
-  message l b Kinds.Malformed reply = refuses-it 4 (not3 4 refl) refl
-  message l b Kinds.Optional reply = answers-it l b refl refl refl
-  message l b Kinds.Named reply = refuses-it 14 (not3 14 refl) refl
-  message l b Kinds.TestRequest reply = answers-it l b refl refl refl
-  message l b Kinds.TestReply reply = answers-it l b refl refl refl
-
   pub effect : (c : Call) → Effect g c (does g c)
-  unfolding onDoes hearDoes openDoes freeDoes linkDoes linkMessageDoes sampleDoes
+  unfolding onDoes hearDoes openDoes freeDoes linkDoes linkMessageDoes linkSendDoes sampleDoes
   effect (on k q) = asked k q (sizesOk g) (openB (g .S) (g .table) k) refl refl
   effect (hear b) = go (sizesOk g) refl
     where
@@ -233,17 +293,40 @@ module _ (g : Group) where
       go false e = refuses-it (freeRefusal g k) (free-3 g k) refl
   effect (manage (linkChange l up)) = go (linkIn l)
     where
-      go : (z : Bool) → Effect g (manage (linkChange l up)) (cond z (relinked g l up) (refuses g 13 []))
-      go true = sets-link l up refl refl
+      go : (z : Bool)
+          → Effect g (manage (linkChange l up)) (cond z (record { answer = plain; group = relinked g (LinkCall.change l up) }) (refuses g 13 []))
+      go true = links-it (LinkCall.change l up) refl (record { not-refused = λ n e. clash (cc); not-torn = λ e. clash (cc) }) refl
       go false = refuses-it 13 (not3 13 refl) refl
-  effect (manage (linkMessage l b)) = go (linkIn l) (activeB (g .links) l)
+  effect (manage (linkMessage l b)) = go (eqb (heardOf (linksOf g) l b .refusal) 0)
     where
-      go : (y z : Bool)
+      h : Heard
+      h = heardOf (linksOf g) l b
+
+      go : (z : Bool)
           → Effect g (manage (linkMessage l b))
-          (cond y (cond z (linkAnswer g (receivedOf b .kind) (receivedOf b .reply)) (refuses g 6 [])) (refuses g 13 []))
-      go true true = message l b (receivedOf b .kind) (receivedOf b .reply)
-      go true false = refuses-it 6 (not3 6 refl) refl
-      go false z = refuses-it 13 (not3 13 refl) refl
+          (cond z
+          (record {
+            answer = record { says = linkHeard (h .fields) (h .fate) (h .settled .up); made = h .replies; message = h .reply; out = [] };
+            group = relinked g (LinkCall.message l b);
+          })
+          (refuses g (h .refusal) []))
+      go true = links-it (LinkCall.message l b) refl (record { not-refused = λ n e. clash (cc); not-torn = λ e. clash (cc) }) refl
+      go false = refuses-it (h .refusal) (not3 _ (message-3 (linksOf g) l b)) refl
+  effect (manage (linkSend l k vs)) = go (eqb (sentOf (linksOf g) l k vs .refusal) 0)
+    where
+      h : Sent
+      h = sentOf (linksOf g) l k vs
+
+      go : (z : Bool)
+          → Effect g (manage (linkSend l k vs))
+          (cond z
+          (record {
+            answer = record { says = linkSent (h .settled .up); made = true; message = h .message; out = [] };
+            group = relinked g (LinkCall.send l k vs);
+          })
+          (refuses g (h .refusal) []))
+      go true = links-it (LinkCall.send l k vs) refl (record { not-refused = λ n e. clash (cc); not-torn = λ e. clash (cc) }) refl
+      go false = refuses-it (h .refusal) (not3 _ (send-3 (linksOf g) l k vs)) refl
   effect (manage (sample l ms)) = go (eqb (sampleRefusal (g .links) l ms) 0) refl
     where
       never-3 : Incoherent g (sampleRefusal (g .links) l ms)

@@ -3,20 +3,26 @@ use mathlib.Core.Path.{_≡_, refl, sym, ap, _∙_}
 use mathlib.Core.Bool.{Bool, true, false, _&&_, _||_, not, cond, and-true, and-false, and-assoc, or-false, or-assoc}
 use mathlib.Core.Option.{Option, some, none}
 use mathlib.Core.List.{List, [], _∷_, _++_}
-use Prim.Native.Nat.{ℕ, zero, suc, _+_, _-_, _*_, _/_, _%_}
+use Prim.Native.Nat.{ℕ, zero, suc, _+_, _-_, _*_, _≤_}
 use native.Mathlib.Omega.{arith}
 use lib.Dec.{ltb, leb, eqb}
 use lib.ListN.{length, getD}
-use borrow.Author.Tests.{lt-ltb, le-ltb, le-leb, lt-leb, leb-true, leb-false, ne-eqb}
+use borrow.Author.Tests.{eqb-true, lt-ltb, le-ltb, le-leb, lt-leb, leb-true, leb-false, ne-eqb}
 use Rattle.cursor.specs.Cursor.{inRange, sameB, goodB, gapOf}
 use Rattle.cdc.specs.declared.Message.{Message}
 use Rattle.cdc.specs.declared.Decoded.{Decoded}
 use Rattle.cdc.specs.declared.Decoded.the-variants.{Good, Malformed}
 use Rattle.cdc.specs.Cdc.{fieldsOf, decodeOf}
-use Rattle.llc.specs.declared.Kind.{Kind}
-use Rattle.llc.specs.declared.Kind.the-variants as Kinds
-use Rattle.llc.specs.declared.Received.{Received}
-use Rattle.llc.specs.Llc.{between, classOf, namedOf, kindOf, noReply, answeredOf, receivedOf}
+use Rattle.llc.specs.Llc.{between, classOf}
+use Rattle.llcfields.specs.declared.Kind.{Kind}
+use Rattle.llcfields.specs.Layouts.{kindOf, codeOf, namedB, encodeOf}
+use Rattle.exchange.specs.declared.Said.{Said}
+use Rattle.exchange.specs.declared.Fate.the-variants.{Taken, Queued}
+use Rattle.exchange.specs.Exchange.{saidOf, addingB, dueB, fullB}
+use Rattle.exchange.specs.Fates.{isFate, actsB, outsideB, maySend}
+use Rattle.table.specs.declared.Links.{Links}
+use Rattle.linkcalls.specs.declared.Sent.{Sent as SentLink}
+use Rattle.linkcalls.specs.Calls.{downB, optionalB, messageB, messageRefusal, heardIn, fateNo, heardWork, nothingHeard, heardOf, noReply, unchanged, sentWork, sendRefusal, sentIn, sentOf as linkSentOf}
 use Rattle.closing.specs.declared.Marks.{Marks}
 use Rattle.closing.specs.declared.State.{State}
 use Rattle.closing.specs.declared.State.the-variants.{PeerAbortWait}
@@ -40,8 +46,8 @@ use Rattle.table.specs.Table.{sizesB, slotB, openB, activeB, gaugeAt, findFrom,
 use Rattle.connection.specs.declared.Opening.{Opening}
 use Rattle.table.specs.Table.{linkIn}
 use Rattle.pieces.specs.Pieces.{piecesOf}
-use Rattle.rules.specs.Rules.{Group, Request, send, gather, urgent, place, read, shutdown, close, abort, openSlot, freeSlot, linkChange, linkMessage, sample, Call, on, hear, manage, Says, refusal, accepted, sent, gathered, wasRead, torn, reset, heard, sampled, saysOf, turnOf, requestTurn, hearTurn, Done, refuses, answer, sizesOk, recordOf, elementIn, linkOf, putTurn, onDoes, holderOf, hearAt, hearMessage, hearDoes, openRefusal, openDoes, freeRefusal, freeDoes, linkDoes, linkAnswer, linkMessageDoes, linksOf, withLinks, healthy, sampleRefusal, sampleDoes, does, badOpening}
-use Rattle.safety.specs.Refusals.{outside, sizesWrong, slotOutside, slotClosed, incoherent, byteIs, malformedLink, tokenUnheld, connectionDown, linkDown, stateForbids, aborting, notAborting, producerBroken, consumerBroken, byteFree, unplaceable, alreadyOpen, tokenHeld, zeroOrOut, linkOutside, otherNamed, tooLong, Test, _when_, placeTest, tests, firstOf, Exactly, ExactlyWhen}
+use Rattle.rules.specs.Rules.{Group, Request, send, gather, urgent, place, read, shutdown, close, abort, openSlot, freeSlot, linkChange, linkMessage, linkSend, sample, Call, on, hear, manage, Says, refusal, accepted, sent, gathered, wasRead, torn, reset, heard, sampled, linkHeard, linkSent, saysOf, turnOf, requestTurn, hearTurn, Done, refuses, answer, sizesOk, recordOf, elementIn, linkOf, putTurn, onDoes, holderOf, hearAt, hearMessage, hearDoes, openRefusal, openDoes, freeRefusal, freeDoes, linkDoes, linkMessageDoes, linkSendDoes, linksOf, withLinks, healthy, sampleRefusal, sampleDoes, does, badOpening}
+use Rattle.safety.specs.Refusals.{outside, sizesWrong, slotOutside, slotClosed, incoherent, byteIs, malformedLink, tokenUnheld, connectionDown, linkDown, messageDown, stateForbids, aborting, notAborting, producerBroken, consumerBroken, byteFree, unplaceable, alreadyOpen, tokenHeld, zeroOrOut, linkOutside, actedOutside, heardFate, messageOutside, queueFull, sendingBarred, tooLong, Test, _when_, placeTest, tests, firstOf, Exactly, ExactlyWhen}
 use Rattle.safety.proofs.Answers.{clash}
 use Rattle.safety.proofs.Gathered.{carried}
 
@@ -56,6 +62,8 @@ number torn = none
 number (heard moved state) = none
 number reset = none
 number (sampled q) = none
+number (linkHeard f t u) = none
+number (linkSent u) = none
 
 number-is : (s : Says) (k : ℕ) → number s ≡ some k → s ≡ refusal k
 number-is (refusal j) k e = cc
@@ -67,6 +75,8 @@ number-is torn k e = cc
 number-is (heard moved state) k e = cc
 number-is reset k e = cc
 number-is (sampled q) k e = cc
+number-is (linkHeard f t u) k e = cc
+number-is (linkSent u) k e = cc
 
 unnumbered : (s : Says) → ((k : ℕ) → s ≡ refusal k → ⊥) → number s ≡ none
 unnumbered (refusal k) h = absurd (h k refl)
@@ -78,6 +88,8 @@ unnumbered torn h = refl
 unnumbered (heard moved state) h = refl
 unnumbered reset h = refl
 unnumbered (sampled q) h = refl
+unnumbered (linkHeard f t u) h = refl
+unnumbered (linkSent u) h = refl
 
 -- TESTS. What F makes of the outcome of a test: where the test fails, its number; else what the tests after it give
 module _ {A : Type 0} (F : A → Option ℕ) (n : ℕ) (l : List Test) where
@@ -396,51 +408,6 @@ module _ (m : Marks) where
       go true = refl
       go false = by-marks
 
--- 4 and 14: what the bytes are
-module _ (g : Group) (b : List ℕ) where
-  kind-is : (k : Kind) (l : List ℕ) → answeredOf k l .kind ≡ k
-  unfolding answeredOf noReply
-  kind-is Kinds.Malformed l = refl
-  kind-is Kinds.Optional l = refl
-  kind-is Kinds.Named l = refl
-  kind-is Kinds.TestRequest l = refl
-  kind-is Kinds.TestReply l = refl
-
-  abbrev given : List ℕ → Kind → Option ℕ
-  given reply k = refusedBy (linkAnswer g k reply)
-
-  -- the class by its three tests: a named, f FE, o optional
-  abbrev class : Bool → Bool → Bool → ℕ
-  class a f o = cond a 1 (cond f 2 (cond o 3 0))
-
-  by-class : (reply : List ℕ) (len a f o two seven bit : Bool)
-      → given reply (cond len
-      (cond (eqb (class a f o) 3) Kinds.Optional
-      (cond (eqb (class a f o) 1) (cond two (cond seven (cond bit Kinds.TestReply Kinds.TestRequest) Kinds.Named) Kinds.Malformed) Kinds.Malformed))
-      Kinds.Malformed)
-      ≡ firstOf
-      (4 when (not len || not (eqb (class a f o) 3) && (eqb (class a f o) 0 || eqb (class a f o) 2 || not two))
-      ∷ 14 when (eqb (class a f o) 1 && not seven)
-      ∷ [])
-  unfolding firstOf refuses
-  by-class reply false a f o two seven bit = refl
-  by-class reply true true f o false seven bit = refl
-  by-class reply true true f o true false bit = refl
-  by-class reply true true f o true true false = refl
-  by-class reply true true f o true true true = refl
-  by-class reply true false true o two seven bit = refl
-  by-class reply true false false true two seven bit = refl
-  by-class reply true false false false two seven bit = refl
-
-  bytes-first : refusedBy (linkAnswer g (receivedOf b .kind) (receivedOf b .reply))
-      ≡ firstOf (4 when malformedLink b ∷ 14 when otherNamed b ∷ [])
-  unfolding receivedOf kindOf namedOf classOf
-  bytes-first =
-      let x = getD b 0 0 in
-      ap (given (receivedOf b .reply)) (kind-is (kindOf b) b)
-      ∙ by-class (receivedOf b .reply) (eqb (length b) 44) (between 0x01 0x04 x || between 0x06 0x09 x) (eqb x 0xFE) (between 0x80 0xBF x)
-      (eqb (getD b 1 0) 0x2C) (eqb x 0x07) (eqb (getD b 3 0 / 128 % 2) 1)
-
 -- what open and free do with the number that their tests come to
 module _ (g : Group) (d : Done) where
   abbrev numbered : ℕ → Option ℕ
@@ -484,6 +451,159 @@ module _ (g : Group) (d : Done) where
         refl)
         refl
 
+-- LINK MESSAGES. A first byte is named if its class is
+named-far : (x : ℕ) → 10 ≤ x → namedB x ≡ eqb (classOf x) 1
+unfolding namedB kindOf classOf
+named-far x h =
+    rw (
+      ne-eqb x 1 (λ e. omega (arith, e)),
+      ne-eqb x 2 (λ e. omega (arith, e)),
+      ne-eqb x 3 (λ e. omega (arith, e)),
+      ne-eqb x 4 (λ e. omega (arith, e)),
+      ne-eqb x 6 (λ e. omega (arith, e)),
+      ne-eqb x 7 (λ e. omega (arith, e)),
+      ne-eqb x 8 (λ e. omega (arith, e)),
+      le-leb 1 x (omega arith),
+      le-leb 6 x (omega arith),
+      lt-leb x 4 (omega arith),
+      lt-leb x 9 (omega arith),
+    )
+    (ne-eqb 9 x (λ e. omega (arith, e)) ∙ go (eqb x 0xFE) (between 0x80 0xBF x))
+  where
+    go : (f o : Bool) → false ≡ eqb (cond f 2 (cond o 3 0)) 1
+    go true o = refl
+    go false true = refl
+    go false false = refl
+
+named-class : (x : ℕ) → namedB x ≡ eqb (classOf x) 1
+unfolding namedB kindOf classOf
+named-class zero = refl
+named-class (suc zero) = refl
+named-class (suc (suc zero)) = refl
+named-class (suc (suc (suc zero))) = refl
+named-class (suc (suc (suc (suc zero)))) = refl
+named-class (suc (suc (suc (suc (suc zero))))) = refl
+named-class (suc (suc (suc (suc (suc (suc zero)))))) = refl
+named-class (suc (suc (suc (suc (suc (suc (suc zero))))))) = refl
+named-class (suc (suc (suc (suc (suc (suc (suc (suc zero)))))))) = refl
+named-class (suc (suc (suc (suc (suc (suc (suc (suc (suc zero))))))))) = refl
+named-class (suc (suc (suc (suc (suc (suc (suc (suc (suc (suc n)))))))))) =
+    named-far (suc (suc (suc (suc (suc (suc (suc (suc (suc (suc n)))))))))) (omega arith)
+
+not-or : (a b : Bool) → not (a || b) ≡ not a && not b
+not-or true b = refl
+not-or false b = refl
+
+down-is : (g : Group) (l first : ℕ) → messageDown g l first ≡ downB (linksOf g) l first
+unfolding downB
+down-is g l first = sym (not-or (activeB (g .links) l) (addingB (g .exchange) l && eqb first 0x01))
+
+acted-is : (m : Said) → actedOutside m ≡ outsideB m
+unfolding outsideB
+acted-is m = ap (λ t. actsB m && t) (outside-is 1 4 (m .link))
+
+-- the number that the tests of a link message come to, and of a link send, is what is refused
+heard-refusal : (ls : Links) (l : ℕ) (b : List ℕ) → heardOf ls l b .refusal ≡ messageRefusal ls l b (heardIn ls b) (fateNo ls l (heardIn ls b))
+unfolding heardOf heardWork nothingHeard
+heard-refusal ls l b = go (eqb j 0) (not (optionalB b)) refl
+  where
+    j : ℕ
+    j = messageRefusal ls l b (heardIn ls b) (fateNo ls l (heardIn ls b))
+
+    go : (t u : Bool) → eqb j 0 ≡ t
+        → cond (t && u) (heardWork ls l b (heardIn ls b) (dueB (ls .exchange) l (heardIn ls b)) (fateNo ls l (heardIn ls b))) (nothingHeard ls j) .refusal
+        ≡ j
+    go true true e = sym (eqb-true j 0 e)
+    go true false e = refl
+    go false u e = refl
+
+sent-refusal : (ls : Links) (l : ℕ) (k : Kind) (vs : List ℕ)
+    → linkSentOf ls l k vs .refusal ≡ sendRefusal ls l (sentIn ls k vs) (dueB (ls .exchange) l (sentIn ls k vs))
+unfolding linkSentOf
+sent-refusal ls l k vs = go (eqb j 0) refl
+  where
+    j : ℕ
+    j = sendRefusal ls l (sentIn ls k vs) (dueB (ls .exchange) l (sentIn ls k vs))
+
+    go : (t : Bool) → eqb j 0 ≡ t
+        → cond {A = SentLink} t
+        (record { refusal = 0; message = encodeOf k vs; settled = sentWork ls l (sentIn ls k vs) (dueB (ls .exchange) l (sentIn ls k vs)) })
+        (record { refusal = j; message = noReply; settled = unchanged ls })
+        .refusal
+        ≡ j
+    go true e = sym (eqb-true j 0 e)
+    go false e = refl
+
+module _ (g : Group) (d : Done) (accepts : refusedBy d ≡ none) where
+  -- the class by its three tests: a named, f FE, o optional
+  abbrev class : Bool → Bool → Bool → ℕ
+  class a f o = cond a 1 (cond f 2 (cond o 3 0))
+
+  by-class : (len a f o two x y : Bool)
+      → numbered g d
+      (cond (not len) 4
+      (cond (eqb (class a f o) 3) 0
+      (cond (not (eqb (class a f o) 1 && two)) 4
+      (cond x 14 (cond y 15 0)))))
+      ≡ firstOf
+      (4 when (not len || not (eqb (class a f o) 3) && (eqb (class a f o) 0 || eqb (class a f o) 2 || not two))
+      ∷ 14 when (not (eqb (class a f o) 3) && x)
+      ∷ 15 when (not (eqb (class a f o) 3) && y)
+      ∷ [])
+  unfolding firstOf refuses
+  by-class false a f o two x y = refl
+  by-class true true f o false x y = refl
+  by-class true true f o true true y = refl
+  by-class true true f o true false true = refl
+  by-class true true f o true false false = accepts
+  by-class true false true o two x y = refl
+  by-class true false false true two x y = accepts
+  by-class true false false false two x y = refl
+
+  message-first : (l : ℕ) (b : List ℕ)
+      → numbered g d (messageRefusal (linksOf g) l b (heardIn (linksOf g) b) (fateNo (linksOf g) l (heardIn (linksOf g) b)))
+      ≡ firstOf (tests g (manage (linkMessage l b)))
+  unfolding messageRefusal optionalB messageB fullB refuses classOf
+  message-first l b =
+      let m = heardIn (linksOf g) b in
+      let taken = isFate (heardFate g l b) Taken || isFate (heardFate g l b) Queued in
+      must-not (numbered g d) 13 _ (linkOutside l) (not (linkIn l)) _ _ (outside-is 1 4 l)
+      (must-not (numbered g d) 6 _ (messageDown g l (getD b 0 0)) (downB (linksOf g) l (getD b 0 0)) _ _ (down-is g l (getD b 0 0))
+      (bytes taken m)
+      refl)
+      refl
+    where
+      bytes : (taken : Bool) (m : Said)
+          → numbered g d
+          (cond (not (eqb (length b) 44)) 4
+          (cond (eqb (classOf (getD b 0 0)) 3) 0
+          (cond (not (namedB (getD b 0 0) && byteIs b 1 0x2C)) 4
+          (cond (taken && outsideB m) 14 (cond (isFate (heardFate g l b) Queued && leb 4 (g .queue .count)) 15 0)))))
+          ≡ firstOf
+          (4 when malformedLink b
+          ∷ 14 when (not (eqb (classOf (getD b 0 0)) 3) && (taken && actedOutside m))
+          ∷ 15 when queueFull g l b
+          ∷ [])
+      bytes taken m =
+          let x = getD b 0 0 in
+          rw (named-class x, acted-is m)
+          (by-class (eqb (length b) 44) (between 0x01 0x04 x || between 0x06 0x09 x) (eqb x 0xFE) (between 0x80 0xBF x) (byteIs b 1 0x2C)
+          (taken && outsideB m) (isFate (heardFate g l b) Queued && leb 4 (g .queue .count)))
+
+  sending-first : (l : ℕ) (k : Kind) (vs : List ℕ)
+      → numbered g d (sendRefusal (linksOf g) l (sentIn (linksOf g) k vs) (dueB (g .exchange) l (sentIn (linksOf g) k vs)))
+      ≡ firstOf (tests g (manage (linkSend l k vs)))
+  unfolding sendRefusal refuses saidOf
+  sending-first l k vs =
+      let m = sentIn (linksOf g) k vs in
+      must-not (numbered g d) 13 _ (linkOutside l) (not (linkIn l)) _ _ (outside-is 1 4 l)
+      (must-not (numbered g d) 6 _ (messageDown g l (codeOf k)) (downB (linksOf g) l (codeOf k)) _ _ (down-is g l (codeOf k))
+      (must-not (numbered g d) 14 _ (actedOutside m) (outsideB m) _ _ (acted-is m)
+      (must-not (numbered g d) 15 [] (sendingBarred g l m) (sendingBarred g l m) 0 15 refl (accepts ∙ none-left) refl)
+      refl)
+      refl)
+      refl
+
 -- sample, by the number of its refusal
 sample-first : (g : Group) (l ms : ℕ) → refusedBy (sampleDoes g l ms) ≡ firstOf (tests g (manage (sample l ms)))
 unfolding sampleDoes sampleRefusal refuses firstOf
@@ -505,7 +625,7 @@ sample-first g l ms =
     go x y z false false false e f h = rw (e, f, h)
 
 call-first : (g : Group) (c : Call) → refusedBy (does g c) ≡ firstOf (tests g c)
-unfolding onDoes hearDoes hearAt hearTurn openDoes freeDoes linkDoes linkMessageDoes putTurn turnOf refuses decodeOf
+unfolding onDoes hearDoes hearAt hearTurn openDoes freeDoes linkDoes linkMessageDoes linkSendDoes putTurn turnOf refuses decodeOf
 call-first g (on k q) =
     must refusedBy 1 _ (sizesWrong g) (sizesOk g) _ _ (sizes-is g)
     (must refusedBy 2 _ (slotClosed g k) (openB (g .S) (g .table) k) _ _ (open-is g k) (request-first g k q) refl)
@@ -522,10 +642,8 @@ call-first g (manage (openSlot k o)) = open-first g _ refl k o
 call-first g (manage (freeSlot k)) = free-first g _ refl k
 call-first g (manage (linkChange l up)) =
     must refusedBy 13 [] (linkOutside l) (linkIn l) _ _ (outside-is 1 4 l) none-left refl
-call-first g (manage (linkMessage l b)) =
-    must refusedBy 13 _ (linkOutside l) (linkIn l) _ _ (outside-is 1 4 l)
-    (must refusedBy 6 _ (linkDown g l) (activeB (g .links) l) _ _ refl (bytes-first g b) refl)
-    refl
+call-first g (manage (linkMessage l b)) = ap (numbered g _) (heard-refusal (linksOf g) l b) ∙ message-first g _ refl l b
+call-first g (manage (linkSend l k vs)) = ap (numbered g _) (sent-refusal (linksOf g) l k vs) ∙ sending-first g _ refl l k vs
 call-first g (manage (sample l ms)) = sample-first g l ms
 
 pub exactly-when : ExactlyWhen

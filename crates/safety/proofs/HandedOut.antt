@@ -6,9 +6,9 @@ use mathlib.Core.List.{List, [], _++_, append-nil, _∷_}
 use Prim.Native.Nat.{ℕ, _+_, _≤_, zero, suc, _-_, _<_}
 use native.Mathlib.Omega.{arith}
 use lib.ListN.{length, take, getD, List·getD-append, length-append, length-take}
-use Rattle.rules.specs.Rules.{Group, Request, read, on, Done, answer, refuses, putTurn, recordOf, elementIn, linkOf, Says, Call, Turn, does, openSlot, freeSlot, linkChange, linkMessage, sample, hear, manage, wasRead, next}
+use Rattle.rules.specs.Rules.{Group, Request, read, on, Done, answer, refuses, putTurn, recordOf, elementIn, linkOf, Says, Call, Turn, does, openSlot, freeSlot, linkChange, linkMessage, linkSend, sample, hear, manage, wasRead, next}
 use Rattle.safety.proofs.Invariant.{Sound}
-use Rattle.safety.proofs.Effects.{opens, Acts, asks, hears, frees, Effect, refuses-it, answers-it, sets-link, samples-it, puts-turn, effect}
+use Rattle.safety.proofs.Effects.{opens, Acts, asks, hears, frees, Effect, refuses-it, links-it, samples-it, puts-turn, effect}
 use Rattle.safety.proofs.Answers.{clash, says-accepted}
 use Rattle.safety.specs.Positions.{readIn, Placed, Journal, noted, afterCall, opened, nothing, placed, namesB, journalFrom}
 use Rattle.safety.proofs.Calls.{Opening}
@@ -47,8 +47,7 @@ unread-by-hear g b = go (does g (hear b)) refl (effect g (hear b))
 
     go : (x : Done) → does g (hear b) ≡ x → Effect g (hear b) x → readIn (x .answer .says) ≡ 0
     go x q (refuses-it n h e) = ap (λ (d : Done). readIn (d .answer .says)) e
-    go x q (answers-it l a p w e) = clash (cc)
-    go x q (sets-link l up p e) = clash (cc)
+    go x q (links-it i p w e) = clash (cc)
     go x q (samples-it l ms p z e) = clash (cc)
     go x q (puts-turn l t ok a e) = ap (λ (d : Done). readIn (d .answer .says)) e ∙ by l t a
 
@@ -71,8 +70,7 @@ reads-by-read g k q = go (does g (on k q)) (effect g (on k q))
 
     go : (x : Done) → Effect g (on k q) x → Reads (x .answer .says)
     go x (refuses-it n h e) = inl (ap (λ (d : Done). readIn (d .answer .says)) e)
-    go x (answers-it l a p w e) = clash (cc)
-    go x (sets-link l up p e) = clash (cc)
+    go x (links-it i p w e) = clash (cc)
     go x (samples-it l ms p z e) = clash (cc)
     go x (puts-turn l t ok a e) = rw e (by l t a)
 
@@ -138,6 +136,7 @@ module _ (g : Group) (s : Sound g) (k : ℕ) (d : ℕ) (j : Journal) where
   grows (manage (freeSlot l)) = same (λ o. let e = o .is in clash (cc)) refl refl
   grows (manage (linkChange l up)) = same (λ o. let e = o .is in clash (cc)) refl refl
   grows (manage (linkMessage l b)) = same (λ o. let e = o .is in clash (cc)) refl refl
+  grows (manage (linkSend l i vs)) = same (λ o. let e = o .is in clash (cc)) refl refl
   grows (manage (sample l ms)) = same (λ o. let e = o .is in clash (cc)) refl refl
 
 -- ALL CALLS. What is said after the calls cs, from j on

@@ -19,7 +19,7 @@ use Rattle.hear.proofs.Laws.{Produces, aborted-shut, repliedTo, hear-cases, acc
 use Rattle.finish.specs.Finish.{resetOf, closingOf, shutdownOf, closeOf, abortOf}
 use Rattle.connection.specs.declared.Placing.{Placing}
 use Rattle.pieces.specs.Pieces.{Piece, piecesOf}
-use Rattle.rules.specs.Rules.{Says, saysOf, refusal, accepted, Request, read, turnOf, requestTurn, send, gather, urgent, place, shutdown, close, abort, hearTurn, heard, torn, reset, sampled, sent, gathered, wasRead, Turn}
+use Rattle.rules.specs.Rules.{Says, saysOf, refusal, accepted, Request, read, turnOf, requestTurn, send, gather, urgent, place, shutdown, close, abort, hearTurn, heard, torn, reset, sampled, linkHeard, linkSent, sent, gathered, wasRead, Turn}
 use Rattle.flow.specs.Flow.{takenOf}
 use Rattle.connection.specs.declared.Inbound.{Inbound}
 use Rattle.closing.specs.declared.State.the-variants.{PeerAbortWait}
@@ -231,6 +231,8 @@ module _ (n : ℕ) (a : Bool) (c : Record) where
   reader q out p (heard moved state) = inl refl
   reader q out p reset = inl refl
   reader q out p (sampled h) = inl refl
+  reader q out p (linkHeard f t u) = inl refl
+  reader q out p (linkSent u) = inl refl
 
   pub request-reader : (e : List ℕ) (q : Request) → Reader q (requestTurn n a c e q .answer .says)
   unfolding requestTurn turnOf

@@ -5,9 +5,10 @@
 -- bytes a call touches and sees. `Theorem`, `Progress`, `Dropped`: the claims of specs/Statement.
 -- Of positions: `Places`, `Inbound`, `Journals`, what is said of a slot and its record and element over one turn; `Noted`, `Followed`, over each
 -- call, and all; `HandedOut`, how what is said grows. `Positions`, `Unwritten`: the claims of specs/Positions.
--- `Numbers`: the claim of specs/Numbers. `Gauges`: those of specs/Gauges. `Urgent`, `UrgentEnds`: those of specs/Urgent.
+-- `Numbers`: the claim of specs/Numbers. `Links`: those of specs/Links. `Gauges`: those of specs/Gauges. `Urgent`, `UrgentEnds`: those of specs/Urgent.
 pub mod Lists
 pub mod Effects
+pub mod Links
 pub mod Acted
 pub mod Memory
 pub mod Course

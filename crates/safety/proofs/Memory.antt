@@ -20,7 +20,7 @@ use Rattle.connection.specs.Connection.{effectOf}
 use Rattle.rules.specs.Rules.{Group, Request, send, gather, urgent, place, read, shutdown, close, abort, Call, on, accepted, Turn, turnOf, requestTurn, hearTurn, saysOf, placedIn, Done, does, answer, refuses, putTurn, recordOf, elementIn, linkOf, sizesOk}
 use Rattle.order.proofs.Slots.{slot-in, element-long, Sizes, sizes-in}
 use Rattle.safety.specs.Changes.{InElement, MayChange, by-place, by-open, BytesByPlaceAndOpen}
-use Rattle.safety.proofs.Effects.{Acts, asks, hears, opens, frees, Effect, refuses-it, answers-it, sets-link, samples-it, puts-turn, effect}
+use Rattle.safety.proofs.Effects.{Acts, asks, hears, opens, frees, Effect, refuses-it, links-it, samples-it, puts-turn, effect}
 use Rattle.safety.proofs.Acted.{acts-in, is-sizes, acts-high, acts-long}
 use Rattle.safety.proofs.Lists.{same-byte, splice-none}
 
@@ -179,7 +179,6 @@ bytes-by-place-and-open g c x = go (does g c) refl (effect g c)
 
     go : (d : Done) → does g c ≡ d → Effect g c d → (getElem? (d .group .memory) x ≡ getElem? (g .memory) x) ⊎ MayChange g c x
     go d q (refuses-it n h e) = inl (ap (λ (d : Done). getElem? (d .group .memory) x) e)
-    go d q (answers-it l b p a e) = inl (ap (λ (h : Group). getElem? (h .memory) x) e)
-    go d q (sets-link l up p e) = inl (ap (λ (d : Done). getElem? (d .group .memory) x) e)
+    go d q (links-it k p a e) = inl (ap (λ (h : Group). getElem? (h .memory) x) e)
     go d q (samples-it l ms p z e) = inl (ap (λ (d : Done). getElem? (d .group .memory) x) e)
     go d q (puts-turn k t s a e) = rw e (turned k t s a (q ∙ e))

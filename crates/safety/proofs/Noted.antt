@@ -14,10 +14,12 @@ use borrow.Author.Tests.{eqb-true, eq-eqb, ne-eqb, le-ltb}
 use Rattle.receive.proofs.Laws.{Placeable, place-accepted}
 use Rattle.connection.specs.declared.Opening as Given
 use Rattle.connection.specs.Connection.{effectOf, openedRecord}
-use Rattle.rules.specs.Rules.{accepted, Group, Request, read, on, turnOf, requestTurn, Done, answer, next, refuses, putTurn, recordOf, elementIn, linkOf, send, gather, urgent, place, shutdown, close, abort, Says, saysOf, hearTurn, refusal, Call, Turn, does, openSlot, freeSlot, linkChange, linkMessage, sample, hear, manage, sizesOk, placedIn, Answer}
+use Rattle.rules.specs.Rules.{accepted, Group, Request, read, on, turnOf, requestTurn, Done, answer, next, refuses, putTurn, recordOf, elementIn, linkOf, send, gather, urgent, place, shutdown, close, abort, Says, saysOf, hearTurn, refusal, Call, Turn, does, openSlot, freeSlot, linkChange, linkMessage, linkSend, sample, hear, manage, sizesOk, placedIn, Answer}
 use Rattle.safety.specs.Statement.{acceptedB, OpenAt, ownOf}
 use Rattle.safety.proofs.Invariant.{Sound, sizes}
-use Rattle.safety.proofs.Effects.{opens, open-facts, Acts, asks, hears, frees, Effect, refuses-it, answers-it, sets-link, samples-it, puts-turn, effect}
+use Rattle.safety.proofs.Effects.{opens, open-facts, Acts, asks, hears, frees, Effect, refuses-it, links-it, samples-it, puts-turn, effect}
+use Rattle.linktheorems.specs.Statements.{Call as LinkCall}
+use Rattle.safety.specs.Links.{callOf}
 use Rattle.cursor.specs.declared.Cursor.{Cursor}
 use Rattle.cdc.specs.declared.Message.{Message}
 use Rattle.connection.specs.declared.Record.{Record}
@@ -49,6 +51,13 @@ module _ (d : ℕ) (j : Journal) where
   either true x e = e
   either false x e = refl
 
+  -- a call on the links says nothing of a slot
+  after-links : (k : ℕ) (c : LinkCall) (a : Answer) → afterCall d k j (callOf c) a ≡ j
+  unfolding afterCall
+  after-links k (LinkCall.change l up) a = refl
+  after-links k (LinkCall.message l b) a = refl
+  after-links k (LinkCall.send l i vs) a = refl
+
   pub after-refused : (k : ℕ) (c : Call) (n : ℕ) (out : List ℕ)
       → afterCall d k j c (record { says = refusal n; made = false; message = noMessage; out = out }) ≡ j
   unfolding afterCall
@@ -58,6 +67,7 @@ module _ (d : ℕ) (j : Journal) where
   after-refused k (manage (freeSlot i)) n out = refl
   after-refused k (manage (linkChange l up)) n out = refl
   after-refused k (manage (linkMessage l b)) n out = refl
+  after-refused k (manage (linkSend l i vs)) n out = refl
   after-refused k (manage (sample l ms)) n out = refl
 
 -- WHAT A REQUEST STORES
@@ -307,13 +317,10 @@ module _ (g : Group) (s : Sound g) (c : Call) (i : ℕ) (j : Journal) (own-is : 
       go x q (refuses-it n h e) =
           aside (ap (λ (d : Done). recordOf (d .group) (suc i)) (q ∙ e)) (ap (λ (d : Done). elementIn (d .group) (suc i)) (q ∙ e))
           (said-by (refuses g n (lentOut c)) (q ∙ e) ∙ after-refused (g .N - 4) j (suc i) c n (lentOut c))
-      go x q (answers-it l b p a e) =
+      go x q (links-it k p a e) =
           aside (ap (λ (d : Done). recordOf (d .group) (suc i)) q ∙ ap (λ (h : Group). recordOf h (suc i)) e)
           (ap (λ (d : Done). elementIn (d .group) (suc i)) q ∙ ap (λ (h : Group). elementIn h (suc i)) e)
-          (ap (λ z. afterCall (g .N - 4) (suc i) j z (answer g c)) p)
-      go x q (sets-link l up p e) =
-          aside (ap (λ (d : Done). recordOf (d .group) (suc i)) (q ∙ e)) (ap (λ (d : Done). elementIn (d .group) (suc i)) (q ∙ e))
-          (ap (λ z. afterCall (g .N - 4) (suc i) j z (answer g c)) p)
+          (ap (λ z. afterCall (g .N - 4) (suc i) j z (answer g c)) p ∙ after-links (g .N - 4) j (suc i) k (answer g c))
       go x q (samples-it l ms p y e) =
           aside (ap (λ (d : Done). recordOf (d .group) (suc i)) (q ∙ e)) (ap (λ (d : Done). elementIn (d .group) (suc i)) (q ∙ e))
           (ap (λ z. afterCall (g .N - 4) (suc i) j z (answer g c)) p)

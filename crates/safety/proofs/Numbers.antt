@@ -27,14 +27,16 @@ use Rattle.hear.specs.Hear.{nextB, producerB, consumerB, heardIn, heardRecord, 
 use Rattle.hear.proofs.Laws.{aborted-shut, accepted-is, accepted-reply, shutBy, repliedTo}
 use Rattle.finish.specs.Finish.{resetOf, closingOf, shutdownOf, closeOf, abortOf}
 use Rattle.pieces.specs.Pieces.{piecesOf}
-use Rattle.rules.specs.Rules.{Group, Request, send, gather, urgent, place, read, shutdown, close, abort, openSlot, freeSlot, linkChange, linkMessage, sample, Call, on, hear, manage, Says, refusal, saysOf, Turn, turnOf, requestTurn, hearTurn, Done, does, answer, next, refuses, putTurn, recordOf, elementIn, linkOf, sizesOk, holderOf}
+use Rattle.rules.specs.Rules.{Group, Request, send, gather, urgent, place, read, shutdown, close, abort, openSlot, freeSlot, linkChange, linkMessage, linkSend, sample, Call, on, hear, manage, Says, refusal, saysOf, Turn, turnOf, requestTurn, hearTurn, Done, does, answer, next, refuses, putTurn, recordOf, elementIn, linkOf, sizesOk, holderOf}
 use Rattle.table.specs.Table.{recordAt}
 use Rattle.order.specs.Statement.{leaves}
 use Rattle.order.proofs.Near.{enough}
 use Rattle.order.proofs.Slots.{slot-in, open-in, open-is, record-same}
 use Rattle.safety.specs.Statement.{OpenAt, acceptedB}
 use Rattle.safety.specs.Numbers.{Taken, nothingYet, refusedB, brokenB, sendsA, asked, countsB, withNumber, withMessage, takenAfter, takenFrom, firstNumber, countedFrom, InOrder, NumbersInOrder}
-use Rattle.safety.proofs.Effects.{Acts, asks, hears, opens, frees, Effect, refuses-it, answers-it, sets-link, samples-it, puts-turn, effect}
+use Rattle.safety.proofs.Effects.{Acts, asks, hears, opens, frees, Effect, refuses-it, links-it, samples-it, puts-turn, effect}
+use Rattle.linktheorems.specs.Statements.{Call as LinkCall}
+use Rattle.safety.specs.Links.{callOf}
 use Rattle.safety.proofs.Acted.{acts-slot, acts-in, acts-high}
 use Rattle.safety.proofs.Changes.{one-record}
 use Rattle.safety.proofs.Invariant.{Sound}
@@ -315,6 +317,13 @@ module _ (g : Group) (c : Call) (k : ℕ) (j : Taken) (w : InOrder g k j) where
         after (manage (openSlot l given)) p ∙ ap (λ z. cond (z && acceptedB says) nothingYet j) (ne-eqb l k d)
     none-said (frees p n r) = after (manage (freeSlot l)) p
 
+  -- nor does a call on the links
+  none-linked : (i : LinkCall) → takenAfter g k j (callOf i) says ≡ j
+  unfolding takenAfter
+  none-linked (LinkCall.change l up) = refl
+  none-linked (LinkCall.message l b) = refl
+  none-linked (LinkCall.send l h vs) = refl
+
   -- nor does a refusal
   none-refused : (n : ℕ) (z : Call) → takenAfter g k j z (refusal n) ≡ j
   unfolding takenAfter
@@ -332,6 +341,7 @@ module _ (g : Group) (c : Call) (k : ℕ) (j : Taken) (w : InOrder g k j) where
   none-refused n (manage (freeSlot i)) = refl
   none-refused n (manage (linkChange l up)) = refl
   none-refused n (manage (linkMessage l b)) = refl
+  none-refused n (manage (linkSend l i vs)) = refl
   none-refused n (manage (sample l ms)) = refl
 
   call-in-order : Sound g → After now
@@ -354,11 +364,9 @@ module _ (g : Group) (c : Call) (k : ℕ) (j : Taken) (w : InOrder g k j) where
       go x q (refuses-it n h e) =
           as-it-was (ap (λ (d : Done). takenAfter g k j c (d .answer .says)) (q ∙ e) ∙ none-refused n c)
           (ap (λ (d : Done). recordOf (d .group) k) (q ∙ e))
-      go x q (answers-it l b p a e) =
-          as-it-was (after (manage (linkMessage l b)) p)
+      go x q (links-it i p a e) =
+          as-it-was (after (callOf i) p ∙ none-linked i)
           (ap (λ (d : Done). recordOf (d .group) k) q ∙ ap (λ (h : Group). recordOf h k) e)
-      go x q (sets-link l up p e) =
-          as-it-was (after (manage (linkChange l up)) p) (ap (λ (d : Done). recordOf (d .group) k) (q ∙ e))
       go x q (samples-it l ms p z e) =
           as-it-was (after (manage (sample l ms)) p) (ap (λ (d : Done). recordOf (d .group) k) (q ∙ e))
       go x q (puts-turn l t ok a e) = turned l t (q ∙ e) ok a (ℕ-discrete l k)

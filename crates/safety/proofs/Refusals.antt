@@ -9,8 +9,6 @@ use lib.Seq.{drop-drop, set-getD}
 use Rattle.cdc.specs.declared.Message.{Message}
 use Rattle.cdc.specs.declared.Decoded.{Decoded}
 use Rattle.cdc.specs.declared.Decoded.the-variants.{Good, Malformed}
-use Rattle.llc.specs.declared.Kind.{Kind}
-use Rattle.llc.specs.declared.Kind.the-variants as Kinds
 use Rattle.element.specs.Element.{part, baseOf, elementOf, splice}
 use Rattle.connection.specs.declared.Record.{Record}
 use Rattle.connection.specs.declared.Reply.{Reply}
@@ -24,7 +22,7 @@ use Rattle.hear.specs.Hear.{ruledOf, hearOf, abortedOf, followedOf, acceptedOf}
 use Rattle.finish.specs.Finish.{resetOf, closingOf, shutdownOf, closeOf, abortOf}
 use Rattle.table.specs.Table.{recordAt, withRecord}
 use Rattle.pieces.specs.Pieces.{piecesOf}
-use Rattle.rules.specs.Rules.{Group, Request, send, gather, urgent, place, read, shutdown, close, abort, openSlot, freeSlot, linkChange, linkMessage, sample, Call, on, hear, manage, Says, refusal, accepted, sent, gathered, wasRead, torn, reset, heard, sampled, saysOf, answerInPieces, turnOf, placedIn, readInto, requestTurn, hearTurn, Done, refuses, recordOf, elementIn, linkOf, putTurn, outOf, onDoes, holderOf, hearAt, hearMessage, hearDoes, openDoes, freeDoes, linkDoes, linkAnswer, linkMessageDoes, sampleDoes, does}
+use Rattle.rules.specs.Rules.{Group, Request, send, gather, urgent, place, read, shutdown, close, abort, openSlot, freeSlot, linkChange, linkMessage, linkSend, sample, Call, on, hear, manage, Says, refusal, accepted, sent, gathered, wasRead, torn, reset, heard, sampled, linkHeard, linkSent, saysOf, answerInPieces, turnOf, placedIn, readInto, requestTurn, hearTurn, Done, refuses, recordOf, elementIn, linkOf, putTurn, outOf, onDoes, holderOf, hearAt, hearMessage, hearDoes, openDoes, freeDoes, linkDoes, linkMessageDoes, linkSendDoes, sampleDoes, does}
 use Rattle.safety.specs.Refusals.{lentOut, RefusedKeeps}
 use Rattle.safety.proofs.Gathered.{refused-in}
 
@@ -59,6 +57,8 @@ refusalB torn = false
 refusalB (heard moved state) = false
 refusalB reset = false
 refusalB (sampled q) = false
+refusalB (linkHeard f t u) = false
+refusalB (linkSent u) = false
 
 -- what x does, by F: where it refuses, it does no more than that
 module _ {A : Type 0} (g : Group) (out : List ℕ) (F : A → Done) where
@@ -155,21 +155,15 @@ module _ (g : Group) where
   heard-by (Good m) = let k = holderOf g (m .token) in by-test g [] (λ d. d) (eqb k 0) _ _ (search gives) (hears g k m)
   heard-by Malformed = search gives
 
-  message : (k : Kind) (reply : List ℕ) → Refuses g [] (λ d. d) (linkAnswer g k reply)
-  message Kinds.Malformed reply = search gives
-  message Kinds.Optional reply = search never
-  message Kinds.Named reply = search gives
-  message Kinds.TestRequest reply = search never
-  message Kinds.TestReply reply = search never
-
   call : (c : Call) → Refuses g (lentOut c) (λ d. d) (does g c)
-  unfolding onDoes hearDoes openDoes freeDoes linkDoes linkMessageDoes sampleDoes putTurn
+  unfolding onDoes hearDoes openDoes freeDoes linkDoes linkMessageDoes linkSendDoes sampleDoes putTurn
   call (on k q) = search (by-test, gives, request)
   call (hear b) = search (by-test, gives, heard-by)
   call (manage (openSlot k o)) = search (by-test, gives, never)
   call (manage (freeSlot k)) = search (by-test, gives, never)
   call (manage (linkChange l up)) = search (by-test, gives, never)
-  call (manage (linkMessage l b)) = search (by-test, gives, message)
+  call (manage (linkMessage l b)) = search (by-test, gives, never)
+  call (manage (linkSend l k vs)) = search (by-test, gives, never)
   call (manage (sample l ms)) = search (by-test, gives, never)
 
 pub refused-keeps : RefusedKeeps

@@ -27,7 +27,7 @@ use Rattle.order.specs.Statement.{leaves}
 use Rattle.order.proofs.Slots.{slot-in, open-in, open-is, open-there, record-same}
 use Rattle.safety.specs.Statement.{OpenAt, plainly, urgently}
 use Rattle.safety.specs.Urgent.{Waits, PlaceIsQ, QStays, Nothing, SendsWait, AllAtQ, AlwaysAtQ}
-use Rattle.safety.proofs.Effects.{open-facts, Acts, asks, hears, opens, frees, Effect, refuses-it, answers-it, sets-link, samples-it, puts-turn, effect}
+use Rattle.safety.proofs.Effects.{open-facts, Acts, asks, hears, opens, frees, Effect, refuses-it, links-it, samples-it, puts-turn, effect}
 use Rattle.safety.proofs.Acted.{acts-slot}
 use Rattle.safety.proofs.OnSlot.{on-open, on-was-open}
 use Rattle.safety.proofs.Refusals.{memory-back, table-back}
@@ -187,9 +187,8 @@ module _ (g : Group) (c : Call) (i : ℕ) (there : i < length (g .table)) where
 
       go : (x : Done) → does g c ≡ x → Effect g c x → Left
       go x q (refuses-it n h e) = inl (ap (λ (d : Done). recordOf (d .group) (suc i)) (q ∙ e))
-      go x q (answers-it l b p a e) =
+      go x q (links-it k p a e) =
           inl (ap (λ (d : Done). recordOf (d .group) (suc i)) q ∙ ap (λ (h : Group). recordOf h (suc i)) e)
-      go x q (sets-link l up p e) = inl (ap (λ (d : Done). recordOf (d .group) (suc i)) (q ∙ e))
       go x q (samples-it l ms w p e) = inl (ap (λ (d : Done). recordOf (d .group) (suc i)) (q ∙ e))
       go x q (puts-turn k t s a e) = turned k t (q ∙ e) s a (ℕ-discrete (suc i) k)
 

@@ -16,11 +16,14 @@ use Rattle.closing.specs.declared.State.the-variants.{Closed}
 use Rattle.closing.specs.Closing.{marked}
 use Rattle.element.specs.Element.{baseOf}
 use Rattle.connection.specs.Connection.{zeroRecord}
-use Rattle.table.specs.Table.{withLink}
+use Rattle.linkcalls.specs.Calls.{touched}
+use Rattle.linktheorems.specs.Statements as Link
+use Rattle.linktheorems.specs.Statements.{Call as LinkCall}
 use Rattle.connection.specs.declared.Opening as Given
-use Rattle.rules.specs.Rules.{Group, place, close, openSlot, freeSlot, linkChange, linkMessage, sample, Call, on, hear, manage, refusal, accepted, heard, answer, next, recordOf, holderOf}
+use Rattle.rules.specs.Rules.{Group, place, close, openSlot, freeSlot, linkChange, linkMessage, linkSend, sample, Call, on, hear, manage, refusal, accepted, heard, answer, next, recordOf, holderOf, linksOf}
 use Rattle.order.specs.Statement.{hearer}
 use Rattle.safety.specs.Statement.{OpenAt, InData}
+use Rattle.safety.specs.Links.{callOf}
 
 -- the slot on which a call acts: for hear, the one that has the token; 0: none
 abbrev pub slotOf : Group → Call → ℕ
@@ -30,6 +33,7 @@ slotOf g (manage (openSlot k given)) = k
 slotOf g (manage (freeSlot k)) = k
 slotOf g (manage (linkChange l up)) = 0
 slotOf g (manage (linkMessage l b)) = 0
+slotOf g (manage (linkSend l k vs)) = 0
 slotOf g (manage (sample l ms)) = 0
 
 -- 1. ONE RECORD. Every record but that of the slot acted on stays, in every field. S, N, the table's length and the memory's stay.
@@ -43,16 +47,15 @@ pub record OneTurned (g : Group) (c : Call) (h : Group) : Type 0 where
 abbrev pub OneRecord : Type 0
 OneRecord = (g : Group) (c : Call) → OneTurned g c (next g c)
 
--- 2. LINKS change by link change alone: link change sets one link
-pub record SetsLink (g : Group) (c : Call) : Type 0 where
-  pub link : ℕ
-  pub up : Bool
-  pub is : c ≡ manage (linkChange link up)
-  pub took : answer g c .says ≡ accepted
-  pub sets : next g c .links ≡ withLink (g .links) link up
+-- 2. LINKS change by link change, link message and link send alone, as what they do to them says: one becomes active, or one goes down, or
+-- all four do. The crate linktheorems has the causes (`BecomesActive`, `GoesDown`, `AllGoDown`)
+pub record Touches (g : Group) (c : Call) : Type 0 where
+  pub call : LinkCall
+  pub is : c ≡ callOf call
+  pub touches : next g c .links ≡ touched (linksOf g) (Link.does (linksOf g) call .touch) .active
 
-abbrev pub LinksByLinkChange : Type 0
-LinksByLinkChange = (g : Group) (c : Call) → (next g c .links ≡ g .links) ⊎ SetsLink g c
+abbrev pub LinksByLinkCalls : Type 0
+LinksByLinkCalls = (g : Group) (c : Call) → (next g c .links ≡ g .links) ⊎ Touches g c
 
 -- 3. BYTES. A byte of the memory changes only by an accepted place on its slot that covers it, or by an accepted open of its slot.
 -- Byte x lies in element k: bytes (k-1)N to kN-1

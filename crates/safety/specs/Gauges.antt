@@ -3,29 +3,35 @@
 use Prim.Native.Nat.{ℕ, _+_, _*_, _≤_}
 use mathlib.Core.Path.{_≡_}
 use mathlib.Core.Logic.{_⊎_}
-use mathlib.Core.Bool.{false, _&&_, not, cond}
+use mathlib.Core.Bool.{Bool, true, false, _&&_, not, cond}
 use mathlib.Core.List.{List, [], _∷_, _++_}
 use lib.Dec.{ltb, eqb}
 use lib.Ieee.Exact.{HasValue}
 use lib.ListN.{length}
 use Rattle.gauge.specs.Gauge.{mostMs, clearedOf, sampledOf, healthOf, after, wholeFrom}
 use Rattle.table.specs.Table.{gaugeAt, withGauge}
-use Rattle.rules.specs.Rules.{Group, openSlot, freeSlot, linkChange, linkMessage, sample, Call, on, hear, manage, Says, accepted, sampled, answer, next, Fresh}
+use Rattle.rules.specs.Rules.{Group, openSlot, freeSlot, linkChange, linkMessage, linkSend, sample, Call, on, hear, manage, sampled, answer, next, linksOf, Fresh}
+use Rattle.exchange.specs.declared.Touch.{Touch}
+use Rattle.exchange.specs.declared.Touch.the-variants.{Nothing, Up, Down, All}
+use Rattle.linkcalls.specs.Calls.{touched}
+use Rattle.linktheorems.specs.Statements as Link
+use Rattle.linktheorems.specs.Statements.{Call as LinkCall}
 use Rattle.order.specs.Statement.{leaves}
 use Rattle.safety.specs.Numbers.{refusedB}
+use Rattle.safety.specs.Links.{callOf}
 
--- 1. WHO CHANGES A GAUGE, on any group: an accepted sample of its link, which answers the health that the gauge then has; and an accepted
--- link change that sets its link down, which clears it. `withGauge` is another gauge at one link, and every other as it was
+-- 1. WHO CHANGES A GAUGE, on any group: an accepted sample of its link, which answers the health that the gauge then has; and a call that takes
+-- its link down, which clears it (`touched`). `withGauge` is another gauge at one link, and every other as it was
 pub data Regauges (g : Group) (c : Call) : Type 0 where
   by-sample : (l ms : ℕ) → c ≡ manage (sample l ms) → answer g c .says ≡ sampled (healthOf (sampledOf (gaugeAt (g .gauges) l) ms))
       → next g c .gauges ≡ withGauge (g .gauges) l (sampledOf (gaugeAt (g .gauges) l) ms) → Regauges g c
-  by-link-down : (l : ℕ) → c ≡ manage (linkChange l false) → answer g c .says ≡ accepted
-      → next g c .gauges ≡ withGauge (g .gauges) l clearedOf → Regauges g c
+  by-link-down : (k : LinkCall) → c ≡ callOf k → next g c .gauges ≡ touched (linksOf g) (Link.does (linksOf g) k .touch) .gauges
+      → Regauges g c
 
 abbrev pub GaugesBySampleAndLinkDown : Type 0
 GaugesBySampleAndLinkDown = (g : Group) (c : Call) → (next g c .gauges ≡ g .gauges) ⊎ Regauges g c
 
--- 2. NO CALL OF DOCUMENT 01 READS ONE. Its calls are all but sample
+-- 2. NO CALL OF DOCUMENT 01, LINK SEND AMONG THEM, READS ONE. They are all but sample
 abbrev pub Document01 : Call → Type 0
 Document01 (on k q) = Unit {0}
 Document01 (hear b) = Unit {0}
@@ -33,6 +39,7 @@ Document01 (manage (openSlot k o)) = Unit {0}
 Document01 (manage (freeSlot k)) = Unit {0}
 Document01 (manage (linkChange l up)) = Unit {0}
 Document01 (manage (linkMessage l b)) = Unit {0}
+Document01 (manage (linkSend l k vs)) = Unit {0}
 Document01 (manage (sample l ms)) = ⊥
 
 -- two groups that differ in gauges alone
@@ -41,6 +48,9 @@ pub record SameButGauges (g h : Group) : Type 0 where
   pub same-N : g .N ≡ h .N
   pub same-table : g .table ≡ h .table
   pub same-links : g .links ≡ h .links
+  pub same-role : g .role ≡ h .role
+  pub same-exchange : g .exchange ≡ h .exchange
+  pub same-queue : g .queue ≡ h .queue
   pub same-memory : g .memory ≡ h .memory
 
 -- they answer every such call alike, and it leaves groups that differ in gauges alone
@@ -48,20 +58,31 @@ abbrev pub GaugesUnread : Type 0
 GaugesUnread =
     (g h : Group) (c : Call) → Document01 c → SameButGauges g h → (answer g c ≡ answer h c) × SameButGauges (next g c) (next h c)
 
--- 3. WHAT A GAUGE HOLDS, over any list of calls from any fresh group: the accepted samples of its link since the link was last set down,
--- oldest first. An open does not clear it, nor does a link change that sets the link active
-abbrev pub heardAfter : ℕ → List ℕ → Call → Says → List ℕ
-heardAfter l ns (on k q) says = ns
-heardAfter l ns (hear b) says = ns
-heardAfter l ns (manage (openSlot k o)) says = ns
-heardAfter l ns (manage (freeSlot k)) says = ns
-heardAfter l ns (manage (linkChange k up)) says = cond (eqb k l && not (refusedB says) && not up) [] ns
-heardAfter l ns (manage (linkMessage k b)) says = ns
-heardAfter l ns (manage (sample k ms)) says = cond (eqb k l && not (refusedB says)) (ns ++ ms ∷ []) ns
+-- 3. WHAT A GAUGE HOLDS, over any list of calls from any fresh group: the accepted samples of its link since the link last went down,
+-- oldest first. An open does not clear it, nor does a call by which the link becomes active. Where all four go down, so does l: no other has
+-- a gauge
+abbrev pub downB : Touch → ℕ → Bool
+downB Nothing l = false
+downB (Up k) l = false
+downB (Down k) l = eqb k l
+downB All l = true
+
+abbrev pub unlessDown : Group → ℕ → List ℕ → LinkCall → List ℕ
+unlessDown g l ns k = cond (downB (Link.does (linksOf g) k .touch) l) [] ns
+
+abbrev pub heardAfter : Group → ℕ → List ℕ → Call → List ℕ
+heardAfter g l ns (on k q) = ns
+heardAfter g l ns (hear b) = ns
+heardAfter g l ns (manage (openSlot k o)) = ns
+heardAfter g l ns (manage (freeSlot k)) = ns
+heardAfter g l ns (manage (linkChange k up)) = unlessDown g l ns (LinkCall.change k up)
+heardAfter g l ns (manage (linkMessage k b)) = unlessDown g l ns (LinkCall.message k b)
+heardAfter g l ns (manage (linkSend k kind vs)) = unlessDown g l ns (LinkCall.send k kind vs)
+heardAfter g l ns (manage (sample k ms)) = cond (eqb k l && not (refusedB (answer g (manage (sample k ms)) .says))) (ns ++ ms ∷ []) ns
 
 unfoldable pub heardFrom : Group → ℕ → List ℕ → List Call → List ℕ
 heardFrom g l ns [] = ns
-heardFrom g l ns (c ∷ cs) = heardFrom (next g c) l (heardAfter l ns c (answer g c .says)) cs
+heardFrom g l ns (c ∷ cs) = heardFrom (next g c) l (heardAfter g l ns c) cs
 
 abbrev pub samples : Group → List Call → ℕ → List ℕ
 samples g cs l = heardFrom g l [] cs

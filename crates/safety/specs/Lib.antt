@@ -1,5 +1,6 @@
 pub mod Statement
 pub mod Refusals
+pub mod Links
 pub mod Changes
 pub mod Positions
 pub mod Numbers

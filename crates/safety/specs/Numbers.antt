@@ -11,7 +11,7 @@ use Rattle.cdc.specs.declared.Message.{Message}
 use Rattle.cdc.specs.declared.Decoded.{Decoded}
 use Rattle.cdc.specs.declared.Decoded.the-variants.{Good, Malformed}
 use Rattle.cdc.specs.Cdc.{decodeOf}
-use Rattle.rules.specs.Rules.{Group, Request, send, gather, urgent, place, read, shutdown, close, abort, openSlot, freeSlot, linkChange, linkMessage, sample, Call, on, hear, manage, Says, refusal, accepted, sent, gathered, wasRead, torn, reset, heard, sampled, answer, next, recordOf, holderOf, Fresh}
+use Rattle.rules.specs.Rules.{Group, Request, send, gather, urgent, place, read, shutdown, close, abort, openSlot, freeSlot, linkChange, linkMessage, linkSend, sample, Call, on, hear, manage, Says, refusal, accepted, sent, gathered, wasRead, torn, reset, heard, sampled, linkHeard, linkSent, answer, next, recordOf, holderOf, Fresh}
 use Rattle.order.specs.Statement.{leaves}
 use Rattle.safety.specs.Statement.{OpenAt, acceptedB}
 
@@ -35,6 +35,8 @@ refusedB torn = false
 refusedB (heard moved state) = false
 refusedB reset = false
 refusedB (sampled q) = false
+refusedB (linkHeard f t u) = false
+refusedB (linkSent u) = false
 
 -- we send A where abort is accepted, and where a call answers "torn" or "reset" (a hear of A sends one too, and closes the slot)
 abbrev pub brokenB : Says → Bool
@@ -47,6 +49,8 @@ brokenB torn = true
 brokenB (heard moved state) = false
 brokenB reset = true
 brokenB (sampled q) = false
+brokenB (linkHeard f t u) = false
+brokenB (linkSent u) = false
 
 abbrev pub sendsA : Request → Says → Bool
 sendsA (send b) says = brokenB says
@@ -81,6 +85,7 @@ takenAfter g k j (manage (openSlot i given)) says = cond (eqb i k && acceptedB s
 takenAfter g k j (manage (freeSlot i)) says = j
 takenAfter g k j (manage (linkChange l up)) says = j
 takenAfter g k j (manage (linkMessage l b)) says = j
+takenAfter g k j (manage (linkSend l i vs)) says = j
 takenAfter g k j (manage (sample l ms)) says = j
 
 unfoldable pub takenFrom : Group → ℕ → Taken → List Call → Taken

@@ -19,7 +19,9 @@ use Rattle.cdc.specs.Cdc.{encodeOf, decodeOf}
 use Rattle.gauge.specs.Gauge.{clearedOf}
 use Rattle.connection.specs.declared.Remote.{Remote}
 use Rattle.connection.specs.Connection.{zeroToken, zeroRecord, startCursor}
-use Rattle.rules.specs.Rules.{Group, Request, send, gather, urgent, place, read, shutdown, close, abort, openSlot, freeSlot, linkChange, linkMessage, sample, Call, on, hear, manage, Says, refusal, accepted, sent, gathered, wasRead, torn, reset, heard, sampled, Answer, answer, next, recordOf, elementIn, Fresh}
+use Rattle.exchange.specs.declared.Role.the-variants.{Client}
+use Rattle.exchange.specs.Exchange.{noExchange, emptyQueue}
+use Rattle.rules.specs.Rules.{Group, Request, send, gather, urgent, place, read, shutdown, close, abort, openSlot, freeSlot, linkChange, linkMessage, linkSend, sample, Call, on, hear, manage, Says, refusal, accepted, sent, gathered, wasRead, torn, reset, heard, sampled, linkHeard, linkSent, Answer, answer, next, recordOf, elementIn, Fresh}
 use Rattle.order.specs.Statement.{leaves, answers, At}
 use Rattle.safety.specs.Statement.{OpenAt, acceptedB, Opens}
 
@@ -56,6 +58,8 @@ movedIn torn = 0
 movedIn (heard moved state) = moved
 movedIn reset = 0
 movedIn (sampled q) = 0
+movedIn (linkHeard f t u) = 0
+movedIn (linkSent u) = 0
 
 abbrev pub readIn : Says → ℕ
 readIn (refusal k) = 0
@@ -67,6 +71,8 @@ readIn torn = 0
 readIn (heard moved state) = 0
 readIn reset = 0
 readIn (sampled q) = 0
+readIn (linkHeard f t u) = 0
+readIn (linkSent u) = 0
 
 -- the bytes that a call places, and their offset; of other calls, none
 pub record Placed : Type 0 where
@@ -121,6 +127,7 @@ afterCall d k j (manage (openSlot i given)) a = cond (eqb i k && acceptedB (a .s
 afterCall d k j (manage (freeSlot i)) a = j
 afterCall d k j (manage (linkChange l up)) a = j
 afterCall d k j (manage (linkMessage l b)) a = j
+afterCall d k j (manage (linkSend l i vs)) a = j
 afterCall d k j (manage (sample l ms)) a = j
 
 unfoldable pub journalFrom : ℕ → ℕ → Journal → List Call → List Answer → Journal
@@ -233,7 +240,17 @@ NoOldLap = OfEachSlot StoredAhead × OfEachSlot NotOld
 -- read; then four more are announced and none placed. The read hands out the first four again, at positions that no place wrote
 abbrev pub oneSlot : Group
 oneSlot =
-    record { S = 1; N = 8; table = zeroRecord ∷ []; links = replicate 4 false; gauges = replicate 4 clearedOf; memory = replicate 8 0 }
+    record {
+      S = 1;
+      N = 8;
+      table = zeroRecord ∷ [];
+      links = replicate 4 false;
+      gauges = replicate 4 clearedOf;
+      role = Client;
+      exchange = noExchange;
+      queue = emptyQueue;
+      memory = replicate 8 0;
+    }
 
 -- a message to token 1, with its number, that announces y positions in all
 abbrev pub announces : ℕ → ℕ → Call

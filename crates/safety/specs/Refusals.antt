@@ -12,7 +12,13 @@ use lib.ListN.{length, getD}
 use Rattle.cursor.specs.Cursor.{dataOf, inRange, sameB, goodB, gapOf}
 use Rattle.cdc.specs.declared.Message.{Message}
 use Rattle.cdc.specs.Cdc.{fieldsOf}
-use Rattle.llc.specs.Llc.{unknown, named, cursorMessage, optional, classOf}
+use Rattle.llc.specs.Llc.{unknown, cursorMessage, optional, classOf}
+use Rattle.llcfields.specs.Layouts.{codeOf}
+use Rattle.exchange.specs.declared.Fate.{Fate}
+use Rattle.exchange.specs.declared.Fate.the-variants.{Taken, Queued}
+use Rattle.exchange.specs.declared.Said.{Said}
+use Rattle.exchange.specs.Exchange.{addingB, dueB}
+use Rattle.exchange.specs.Fates.{isFate, fateOf, actsB, maySend}
 use Rattle.closing.specs.declared.Marks.{Marks}
 use Rattle.closing.specs.declared.State.{State}
 use Rattle.closing.specs.declared.State.the-variants.{Active, PeerCloseWait1, PeerCloseWait2, AppCloseWait1, AppCloseWait2, PeerAbortWait, Closed}
@@ -25,7 +31,8 @@ use Rattle.connection.specs.declared.Record.{Record}
 use Rattle.connection.specs.declared.Opening.{Opening}
 use Rattle.connection.specs.Connection.{noMessage, coherentB, sequenceAfter}
 use Rattle.table.specs.Table.{activeB, findFrom}
-use Rattle.rules.specs.Rules.{Group, Request, send, gather, urgent, place, read, shutdown, close, abort, openSlot, freeSlot, linkChange, linkMessage, sample, Call, on, hear, manage, refusal, answer, next, outOf, recordOf, linkOf, holderOf}
+use Rattle.linkcalls.specs.Calls.{heardIn, sentIn}
+use Rattle.rules.specs.Rules.{Group, Request, send, gather, urgent, place, read, shutdown, close, abort, openSlot, freeSlot, linkChange, linkMessage, linkSend, sample, Call, on, hear, manage, refusal, answer, next, outOf, recordOf, linkOf, holderOf, linksOf}
 
 -- EACH NUMBER'S CONDITION, as the page's table has it.
 
@@ -73,6 +80,10 @@ connectionDown g k = not (linkOf g k)
 
 abbrev pub linkDown : Group → ℕ → Bool
 linkDown g l = not (activeB (g .links) l)
+
+-- "not for 01 on the link being added" (request 2026-01)
+abbrev pub messageDown : Group → ℕ → ℕ → Bool
+messageDown g l first = linkDown g l && not (addingB (g .exchange) l && eqb first 0x01)
 
 -- 7: the state forbids: send, urgent or not, after D, C or A sent or C heard; place after A sent or D or C heard; read after C or A sent;
 -- shutdown after D, C or A sent; close after C or A sent; abort after A sent; free outside PeerAbortWait
@@ -173,9 +184,25 @@ zeroOrOut o =
 abbrev pub linkOutside : ℕ → Bool
 linkOutside l = outside 1 4 l
 
--- 14: a named link message other than 07
-abbrev pub otherNamed : List ℕ → Bool
-otherNamed b = classIs b named && not (byteIs b 0 0x07)
+-- 14: the number acted on is outside 1 to 4: "the link field of 01, 02, 03 and 04, but not of an 02 request from the client, an 02 reply
+-- with Z or an 04 with A" (`actsB`); "a dropped or denied message acts on none" (request 2026-01)
+abbrev pub actedOutside : Said → Bool
+actedOutside m = actsB m && outside 1 4 (m .link)
+
+abbrev pub heardFate : Group → ℕ → List ℕ → Fate
+heardFate g l b = fateOf (g .exchange) l (heardIn (linksOf g) b)
+
+abbrev pub messageOutside : Group → ℕ → List ℕ → Bool
+messageOutside g l b =
+    not (classIs b optional)
+    && ((isFate (heardFate g l b) Taken || isFate (heardFate g l b) Queued) && actedOutside (heardIn (linksOf g) b))
+
+-- 15: a message is to be queued and the count is 4 or more; a send is neither due nor allowed by what runs (request 2026-01)
+abbrev pub queueFull : Group → ℕ → List ℕ → Bool
+queueFull g l b = not (classIs b optional) && (isFate (heardFate g l b) Queued && leb 4 (g .queue .count))
+
+abbrev pub sendingBarred : Group → ℕ → Said → Bool
+sendingBarred g l m = not (dueB (g .exchange) l m || maySend (g .exchange) m)
 
 -- 17: a sample is above 60,000 milliseconds (request 2026-10)
 abbrev pub tooLong : ℕ → Bool
@@ -197,8 +224,8 @@ placeTest g k shutdown = []
 placeTest g k close = []
 placeTest g k abort = []
 
--- Connection calls test 1, then 2 (hear: 4, 5), 3, 6, 7, 16, 8, 9. Hear finds the lowest slot with the token and gives no 7. Open: 1, 2, 10, 12, 13,
--- 6, 11. Free: 1, 2, 3, 7. Link change: 13. Link message: 13, 6, length 44, then optional, else 4, 14
+-- Connection calls test 1, then 2 (hear: 4, 5), 3, 6, 7, 16, 8, 9. Hear finds the lowest slot with the token and gives no 7. Open: 1, 2, 10,
+-- 12, 13, 6, 11. Free: 1, 2, 3, 7. Link change: 13. Link message: 13, 6, length 44, then optional, else 4, 14, 15. Link send: 13, 6, 14, 15
 abbrev pub tests : Group → Call → List Test
 tests g (on k q) =
     1 when sizesWrong g
@@ -234,7 +261,16 @@ tests g (manage (freeSlot k)) =
     ∷ 7 when notAborting g k
     ∷ []
 tests g (manage (linkChange l up)) = 13 when linkOutside l ∷ []
-tests g (manage (linkMessage l b)) = 13 when linkOutside l ∷ 6 when linkDown g l ∷ 4 when malformedLink b ∷ 14 when otherNamed b ∷ []
+tests g (manage (linkMessage l b)) =
+    13 when linkOutside l
+    ∷ 6 when messageDown g l (getD b 0 0)
+    ∷ 4 when malformedLink b
+    ∷ 14 when messageOutside g l b
+    ∷ 15 when queueFull g l b
+    ∷ []
+tests g (manage (linkSend l k vs)) =
+    let m = sentIn (linksOf g) k vs in
+    13 when linkOutside l ∷ 6 when messageDown g l (codeOf k) ∷ 14 when actedOutside m ∷ 15 when sendingBarred g l m ∷ []
 tests g (manage (sample l ms)) = 13 when linkOutside l ∷ 6 when linkDown g l ∷ 17 when tooLong ms ∷ []
 
 -- the number of the first test whose condition holds; `none`: none does

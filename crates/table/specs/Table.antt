@@ -7,6 +7,8 @@ use lib.Dec.{leb, eqb}
 use lib.ListN.{length, getD, set}
 use Rattle.gauge.specs.declared.Gauge.{Gauge}
 use Rattle.gauge.specs.Gauge.{clearedOf}
+use Rattle.exchange.specs.declared.Exchange.{Exchange}
+use Rattle.exchange.specs.declared.Queue.{Queue}
 use Rattle.connection.specs.declared.Record.{Record}
 use Rattle.connection.specs.declared.Outcome.{Outcome}
 use Rattle.connection.specs.declared.Reply.the-variants.{Refused}
@@ -91,12 +93,21 @@ unfoldable pub withGauge : List Gauge → ℕ → Gauge → List Gauge
 withGauge gauges zero q = gauges
 withGauge gauges (suc i) q = set gauges i q
 
--- THE LINKS AND THEIR GAUGES: link l active or down; another gauge for it
+-- THE LINKS, THEIR GAUGES AND EXCHANGE: these active and these gauges, beside the same role, exchange and queue
+abbrev pub linksSet : Links → List Bool → List Gauge → Links
+linksSet links active gauges =
+    record { active = active; gauges = gauges; role = links .role; exchange = links .exchange; queue = links .queue }
+
+-- link l active or down; another gauge for it
 abbrev pub activeSet : Links → ℕ → Bool → Links
-activeSet links l up = record { active = withLink (links .active) l up; gauges = links .gauges }
+activeSet links l up = linksSet links (withLink (links .active) l up) (links .gauges)
 
 abbrev pub gaugeSet : Links → ℕ → Gauge → Links
-gaugeSet links l q = record { active = links .active; gauges = withGauge (links .gauges) l q }
+gaugeSet links l q = linksSet links (links .active) (withGauge (links .gauges) l q)
+
+-- another exchange and queue (request 2026-01)
+abbrev pub exchangeSet : Links → Exchange → Queue → Links
+exchangeSet links x q = record { active = links .active; gauges = links .gauges; role = links .role; exchange = x; queue = q }
 
 -- a link change: one that is set down loses its gauge, also where it was down already
 unfoldable pub linkSet : Links → ℕ → Bool → Links

@@ -1,5 +1,6 @@
-// The connection table, lent as a slice of records, and the links with their gauges, by value: sizes, slots, links, the search by token,
-// putting a record back, and what a call on one record answers (document 01, "The memory and the tables", "When the desk says no").
+// The connection table, lent as a slice of records, and the links with their gauges and exchange, by value: sizes, slots, links, the search
+// by token, putting a record back, and what a call on one record answers (document 01, "The memory and the tables", "When the desk says
+// no").
 ghost use mathlib.Core.Path.{_≡_};
 ghost use mathlib.Core.Bool.{cond};
 ghost use Prim.Native.Nat.{ℕ, _+_, _*_, _≤_, _<_};
@@ -9,14 +10,20 @@ ghost use Rattle.table.specs.Table.{foundOf, refusedBy, keptBy, turnedBy
 use connection::Outcome;
 use connection::Record;
 use connection::Reply;
+use exchange::Exchange;
+use exchange::Queue;
+use exchange::Role;
 use gauge::Gauge;
 
 pub const MOST_SLOTS: usize = 255;
 
-// The four links, active or down, and a gauge for each.
+// The four links, active or down, and a gauge for each; our role, the exchange that runs, and the messages that wait for its end.
 pub struct Links {
     pub active: [bool; 4],
     pub gauges: [Gauge; 4],
+    pub role: Role,
+    pub exchange: Exchange,
+    pub queue: Queue,
 }
 
 // What a call answers: what its line names, the message's bytes where one was made (else zeros), and the links that it leaves.

@@ -2,7 +2,6 @@
 use mathlib.Core.Path.{_≡_, refl}
 use Rattle.cursor.specs.Cursor.{inRange, sameB, movedOf, stepOf, turnsOf, distanceOf, goodB, gapOf}
 use Rattle.cdc.specs.Cdc.{highByte, lowByte, encodeOf, num2, num4, cursorOf, flagsOf, fieldsOf, decodeOf}
-use Rattle.llc.specs.Llc.{classOf, namedOf, kindOf, testReplyOf, noReply, answeredOf, receivedOf}
 use Rattle.closing.specs.Closing.{closeStateOf, stateOf, doneSent, closedSent, abortSent, marksHeard}
 use Rattle.flow.specs.Flow.{roomOf, takenOf, firstOf, stretchesOf, windowOf, updateDue}
 use Rattle.element.specs.Element.{part, elementOf, splice, intactB, freshElement, allFree, ringFrom, unread}
@@ -13,14 +12,13 @@ use Rattle.hear.specs.Hear.{ruledOf, nextB, abortedOf, producerB, consumerB, ur
 use Rattle.finish.specs.Finish.{resetOf, closingOf, shutdownForbids, shutdownOf, closeForbids, closeOf, abortOf}
 use Rattle.table.specs.Table.{sizesB, slotB, recordAt, openB, activeB, holdsB, lowest, findFrom, withRecord, withLink}
 use Rattle.connection.specs.Connection.{openedRecord}
-use Rattle.rules.specs.Rules.{turnOf, requestTurn, hearTurn, refuses, putTurn, onDoes, hearAt, hearDoes, openRefusal, openDoes, freeRefusal, freeDoes, linkDoes, linkMessageDoes}
+use Rattle.rules.specs.Rules.{turnOf, requestTurn, hearTurn, refuses, putTurn, onDoes, hearAt, hearDoes, openRefusal, openDoes, freeRefusal, freeDoes, linkDoes}
 use Rattle.vectors.specs.Vectors.{played, found}
 use Rattle.vectors.specs.Urgent.{urgents, UrgentRight}
 
 pub urgent-right : UrgentRight
 unfolding inRange sameB movedOf stepOf turnsOf distanceOf goodB gapOf
     highByte lowByte encodeOf num2 num4 cursorOf flagsOf fieldsOf decodeOf
-    classOf namedOf kindOf testReplyOf noReply answeredOf receivedOf
     closeStateOf stateOf doneSent closedSent abortSent marksHeard
     roomOf takenOf firstOf stretchesOf windowOf updateDue
     part elementOf splice intactB freshElement allFree ringFrom unread
@@ -31,6 +29,5 @@ unfolding inRange sameB movedOf stepOf turnsOf distanceOf goodB gapOf
     shutdownForbids shutdownOf closeForbids closeOf resetOf closingOf abortOf
     sizesB slotB recordAt openB activeB holdsB lowest findFrom withRecord withLink
     turnOf requestTurn hearTurn refuses putTurn onDoes hearAt hearDoes openedRecord openRefusal openDoes freeRefusal freeDoes linkDoes
-    linkMessageDoes
     played found urgents
 urgent-right = refl

@@ -4,7 +4,7 @@ use lib.Ieee.{add, sub, mul, lt, ofInt, ofBits}
 use Rattle.gauge.specs.Gauge.{smoothed, lateAt, sampledOf, healthOf}
 use Rattle.cursor.specs.Cursor.{inRange, sameB, movedOf, stepOf, turnsOf, distanceOf, goodB, gapOf}
 use Rattle.cdc.specs.Cdc.{highByte, lowByte, encodeOf, num2, num4, cursorOf, flagsOf, fieldsOf, decodeOf}
-use Rattle.llc.specs.Llc.{classOf, namedOf, kindOf, testReplyOf, noReply, answeredOf, receivedOf}
+use Rattle.exchange.specs.Exchange.{sortOf, addingB, emptyQueue, runsOver, endsB}
 use Rattle.closing.specs.Closing.{closeStateOf, stateOf, doneSent, closedSent, abortSent, marksHeard}
 use Rattle.flow.specs.Flow.{roomOf, takenOf, firstOf, stretchesOf, windowOf, updateDue}
 use Rattle.element.specs.Element.{part, elementOf, splice, intactB, freshElement, allFree, ringFrom, unread}
@@ -15,14 +15,14 @@ use Rattle.receive.specs.Receive.{placeForbids, mayPlace, placeOf, readForbids,
 use Rattle.hear.specs.Hear.{ruledOf, nextB, abortedOf, producerB, consumerB, urgesB, urgentIn, heardIn, heardOut, heardRecord, answersB, acceptedOf, followedOf, hearOf}
 use Rattle.finish.specs.Finish.{resetOf, closingOf, shutdownForbids, shutdownOf, closeForbids, closeOf, abortOf}
 use Rattle.table.specs.Table.{sizesB, slotB, recordAt, openB, activeB, holdsB, lowest, findFrom, withRecord, withLink, gaugeAt, withGauge, linkSet}
+use Rattle.linkcalls.specs.Calls.{touched, settledOf, changeTouch, changedOf}
 use Rattle.connection.specs.Connection.{openedRecord}
-use Rattle.rules.specs.Rules.{turnOf, requestTurn, hearTurn, refuses, putTurn, onDoes, hearAt, hearDoes, openRefusal, openDoes, freeRefusal, freeDoes, linkDoes, linkMessageDoes, sampleRefusal, sampleDoes}
+use Rattle.rules.specs.Rules.{turnOf, requestTurn, hearTurn, refuses, putTurn, onDoes, hearAt, hearDoes, openRefusal, openDoes, freeRefusal, freeDoes, linkDoes, sampleRefusal, sampleDoes}
 use Rattle.vectors.specs.Vectors.{played, found, vectors, VectorsRight}
 
 pub vectors-right : VectorsRight
 unfolding inRange sameB movedOf stepOf turnsOf distanceOf goodB gapOf
     highByte lowByte encodeOf num2 num4 cursorOf flagsOf fieldsOf decodeOf
-    classOf namedOf kindOf testReplyOf noReply answeredOf receivedOf
     closeStateOf stateOf doneSent closedSent abortSent marksHeard
     roomOf takenOf firstOf stretchesOf windowOf updateDue
     part elementOf splice intactB freshElement allFree ringFrom unread
@@ -34,8 +34,9 @@ unfolding inRange sameB movedOf stepOf turnsOf distanceOf goodB gapOf
     abortedOf producerB consumerB urgesB urgentIn heardIn heardOut heardRecord answersB acceptedOf followedOf ruledOf nextB hearOf
     shutdownForbids shutdownOf closeForbids closeOf resetOf closingOf abortOf
     sizesB slotB recordAt openB activeB holdsB lowest findFrom withRecord withLink gaugeAt withGauge linkSet
+    sortOf addingB emptyQueue runsOver endsB touched settledOf changeTouch changedOf
     turnOf requestTurn hearTurn refuses putTurn onDoes hearAt hearDoes openedRecord openRefusal openDoes freeRefusal freeDoes linkDoes
-    linkMessageDoes sampleRefusal sampleDoes
+    sampleRefusal sampleDoes
     smoothed lateAt sampledOf healthOf add sub mul lt ofInt ofBits
     played found vectors
 vectors-right = refl

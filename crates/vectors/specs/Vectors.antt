@@ -25,12 +25,15 @@ use Rattle.connection.specs.declared.Outbound.{Outbound}
 use Rattle.connection.specs.declared.RToken.{RToken}
 use Rattle.connection.specs.declared.Remote.{Remote}
 use Rattle.connection.specs.declared.Placing.{Placing}
+use Rattle.exchange.specs.declared.Role.the-variants.{Client}
+use Rattle.exchange.specs.Exchange.{noExchange, emptyQueue}
+use Rattle.table.specs.declared.Links.{Links}
 use Rattle.connection.specs.declared.Record.{Record}
 use Rattle.connection.specs.declared.Opening.{Opening}
 use Rattle.connection.specs.Connection.{zeroRecord, zeroToken, noPlace, placeAt, noMarks}
 use Rattle.pieces.specs.Pieces.{Piece}
 use Rattle.table.specs.Table.{gaugeAt}
-use Rattle.rules.specs.Rules.{Group, Request, send, gather, urgent, place, read, shutdown, close, abort, openSlot, freeSlot, linkChange, linkMessage, sample, Call, on, hear, manage, Says, refusal, accepted, sent, gathered, wasRead, torn, reset, heard, sampled, Answer, answer, next, recordOf}
+use Rattle.rules.specs.Rules.{Group, Request, send, gather, urgent, place, read, shutdown, close, abort, openSlot, freeSlot, linkChange, sample, Call, on, hear, manage, Says, refusal, accepted, sent, gathered, wasRead, torn, reset, heard, sampled, linkHeard, linkSent, Answer, answer, next, recordOf, groupOf}
 
 -- WHAT A ROW LAYS. An offset and a wrap number
 abbrev pub cur : ℕ → ℕ → Cursor
@@ -78,9 +81,13 @@ laidOn link own peer r i o m =
 abbrev pub laid : ℕ → ℕ → ℕ → Inbound → Outbound → Marks → Record
 laid own peer size i o m = laidOn 1 own peer (flat size) i o m
 
+-- these links and gauges; no exchange, and none that waits
+abbrev pub linked : List Bool → List Gauge → Links
+linked active gauges = record { active = active; gauges = gauges; role = Client; exchange = noExchange; queue = emptyQueue }
+
 abbrev pub aGroup : ℕ → ℕ → List Record → List ℕ → Group
 aGroup s n table memory =
-    record { S = s; N = n; table = table; links = true ∷ true ∷ false ∷ false ∷ []; gauges = replicate 4 clearedOf; memory = memory }
+    groupOf s n table (linked (true ∷ true ∷ false ∷ false ∷ []) (replicate 4 clearedOf)) memory
 
 -- host A with one connection, R and Q in B's element of N' bytes
 abbrev pub hostA : ℕ → Cursor → Cursor → Group
@@ -173,6 +180,8 @@ named torn = none
 named (heard moved state) = none
 named reset = none
 named (sampled q) = none
+named (linkHeard fields fate up) = none
+named (linkSent up) = none
 
 abbrev pub messageIn : Answer → Option (List ℕ)
 messageIn a = cond (a .made) (some (a .message)) none
@@ -201,7 +210,7 @@ found (plays g l) = plays g (played g l)
 -- WHAT THE WORKED EXAMPLES LAY. A fresh group of one slot; link 1 brought up, and slot 1 opened on it
 abbrev pub freshGroup : ℕ → Group
 freshGroup n =
-    record { S = 1; N = n; table = zeroRecord ∷ []; links = replicate 4 false; gauges = replicate 4 clearedOf; memory = replicate n 0 }
+    groupOf 1 n (zeroRecord ∷ []) (linked (replicate 4 false) (replicate 4 clearedOf)) (replicate n 0)
 
 abbrev pub given : ℕ → ℕ → ℕ → Opening
 given own peer size = record { own = own; peer = peer; link = 1; remote = flat size }
@@ -292,10 +301,6 @@ fromB s l = hears (0xFE2C_0000_0A0B0C0D_0000_0000_00000004_0000_0000_00000004_00
 abbrev pub toB : ℕ → ℕ → Option (List ℕ)
 toB s l = told (0xFE2C_0000_01020304_0000_0000_00000004_0000_0000_00000004_0000 + s * 256 ^ 22 + l)
 
--- a link message by its first two bytes
-abbrev pub begins : ℕ → ℕ → Call
-begins first second = manage (linkMessage 1 (first ∷ second ∷ replicate 42 0))
-
 -- a memory's key and its base; element 3 of one with others on each link
 abbrev pub token : ℕ → ℕ → RToken
 token key base = record { key = key; base = base }
@@ -323,14 +328,7 @@ gauged mean worst count late = record { mean = double mean; worst = double worst
 
 abbrev pub laidGauge : Gauge → Group
 laidGauge q =
-    record {
-      S = 1;
-      N = 8;
-      table = zeroRecord ∷ [];
-      links = true ∷ false ∷ false ∷ false ∷ [];
-      gauges = q ∷ clearedOf ∷ q ∷ clearedOf ∷ [];
-      memory = bytes 8;
-    }
+    groupOf 1 8 (zeroRecord ∷ []) (linked (true ∷ false ∷ false ∷ false ∷ []) (q ∷ clearedOf ∷ q ∷ clearedOf ∷ [])) (bytes 8)
 
 -- a sample's answer
 abbrev pub steady : ℕ → Says
@@ -585,26 +583,6 @@ vectors =
     ∷ plays (hostB 8 (cur 5 0) (cur 4 0) (cur 4 0))
     (gives (on 1 shutdown) accepted (told 0xFE2C_0001_0A0B0C0D_0000_0000_00000004_0000_0000_00000004_0080)
     ∷ gives (on 1 close) reset (told 0xFE2C_0002_0A0B0C0D_0000_0000_00000004_0000_0000_00000004_00A0)
-    ∷ [])
-    -- LINK MESSAGES. The edges of the classes
-    ∷ plays (hostA 8 start start)
-    (gives (begins 0x04 0x2C) (refusal 14) none
-    ∷ gives (begins 0x05 0x2C) (refusal 4) none
-    ∷ gives (begins 0x06 0x2C) (refusal 14) none
-    ∷ gives (begins 0x09 0x2C) (refusal 14) none
-    ∷ gives (begins 0x0A 0x2C) (refusal 4) none
-    ∷ gives (begins 0x7F 0x2C) (refusal 4) none
-    ∷ gives (begins 0x80 0x2C) accepted none
-    ∷ gives (begins 0xBF 0x2C) accepted none
-    ∷ gives (begins 0xC0 0x2C) (refusal 4) none
-    ∷ gives (begins 0xFE 0x2C) (refusal 4) none
-    -- byte 1 is not 2C (optional aside)
-    ∷ gives (begins 0x04 0x2B) (refusal 4) none
-    ∷ gives (begins 0x80 0x2B) accepted none
-    -- TEST LINK is answered with the same 16 bytes; nothing follows a reply
-    ∷ gives (manage (linkMessage 1 (octets 20 0x072C0000_0102030405060708090A0B0C0D0E0F10 ++ replicate 24 0xFF))) accepted
-    (some (octets 20 0x072C0080_0102030405060708090A0B0C0D0E0F10 ++ replicate 24 0))
-    ∷ gives (manage (linkMessage 1 (octets 20 0x072C0080_0102030405060708090A0B0C0D0E0F10 ++ replicate 24 0))) accepted none
     ∷ [])
     -- SAMPLES (request 2026-10). The first, 100, is the mean and the worst; exactly 4 x 100 + 20 is not late; the mean goes to 140
     ∷ plays (laidGauge clearedOf)

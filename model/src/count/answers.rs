@@ -125,15 +125,6 @@ pub(super) fn count_answer(
         } else {
             "link: to down"
         }),
-        (Line::LinkMsg { bytes, .. }, Answer::Reply(reply)) => {
-            let optional = llc_class(bytes[0]) == LlcClass::Optional;
-            cells.hit_if(reply.is_some(), "linkmsg: TEST LINK answered");
-            cells.hit_if(
-                reply.is_none() && !optional,
-                "linkmsg: TEST LINK reply taken",
-            );
-            cells.hit_if(optional, "linkmsg: optional discarded");
-        }
         _ => {}
     }
 }

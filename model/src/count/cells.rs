@@ -57,9 +57,6 @@ impl Cells {
         for name in NOT_NEXT {
             cells.can(format!("refused 16: {name}"));
         }
-        for kind in [1, 2, 3, 4, 6, 8, 9] {
-            cells.can(format!("linkmsg: refused 14, kind {kind:02X}"));
-        }
         for reason in ["length", "unknown first byte", "FE", "byte 1"] {
             cells.can(format!("linkmsg: refused 4, {reason}"));
         }
@@ -84,6 +81,7 @@ impl Cells {
         super::setup::declare(&mut cells);
         super::urgent::declare(&mut cells);
         super::gather::declare(&mut cells);
+        super::links::declare(&mut cells);
         for name in FURTHER {
             cells.can(name.to_string());
         }

@@ -9,6 +9,7 @@ mod answers;
 mod cells;
 mod gather;
 mod gauges;
+mod links;
 mod order;
 mod pool;
 mod refusals;
@@ -23,6 +24,7 @@ use order::{count_order, holding};
 use refusals::count_refusal;
 
 use crate::gauge::Gauge;
+use crate::links::{Exchange, Queue, Role};
 use crate::replay::{lines, skipped, Answer, Line, Replay};
 use crate::smcr::*;
 
@@ -120,18 +122,22 @@ fn count_call(cells: &mut Cells, replay: &mut Replay, line: &Line) {
         length: group.memory.len() as i64,
         links: group.links,
         gauges: group.gauges,
+        role: group.role,
+        exchange: group.exchange,
+        queue: group.queue,
         element_used,
     };
     let answer = replay.execute(line);
     let refusal = refusal(&answer);
     count_order(cells, word, &holding, refusal);
     match refusal {
-        Some(number) => count_refusal(cells, word, number, line, &details),
+        Some(number) => count_refusal(cells, number, line, &details),
         None => count_answer(cells, line, &answer, &replay.group, &details),
     }
     gauges::count(cells, line, &answer, &details, &replay.group);
     urgent::count(cells, line, &answer, &details, &replay.group);
     gather::count(cells, line, &answer, &details, &replay.group);
+    links::count(cells, line, &answer, &details, &replay.group);
 }
 
 fn refusal(answer: &Answer) -> Option<u8> {
@@ -149,6 +155,9 @@ struct Details {
     length: i64,
     links: [bool; LINKS],
     gauges: [Gauge; LINKS],
+    role: Role,
+    exchange: Exchange,
+    queue: Queue,
     element_used: bool,
 }
 
@@ -179,6 +188,10 @@ fn word_of(line: &Line) -> &'static str {
         Line::Settings { .. } => "settings",
         Line::Setup { .. } => "setup",
         Line::Clc { .. } => "clc",
+        Line::LinkSend { .. } => "linksend",
+        Line::Role { .. } => "role",
+        Line::Exchange { .. } => "exchange",
+        Line::Queue { .. } => "queue",
         Line::Sample { .. } => "sample",
         Line::Health { .. } => "health",
         Line::Gauge { .. } => "gauge",

@@ -1,8 +1,8 @@
 //! The order of refusals: which of them hold, and which one is given.
 
 use super::cells::Cells;
-use super::gauges;
 use super::tables::ORDERS;
+use super::{gauges, links};
 use crate::replay::Line;
 use crate::smcr::*;
 
@@ -83,20 +83,8 @@ pub(super) fn holding(group: &Group, line: &Line) -> Vec<u8> {
         }
         Line::Link { link, .. } => hold(!link_in_range(*link), 13),
         Line::Sample { link, milliseconds } => return gauges::holding(group, *link, *milliseconds),
-        Line::LinkMsg { link, bytes } => {
-            hold(!link_in_range(*link), 13);
-            hold(link_down(*link), 6);
-            let class = bytes.first().map(|&first| llc_class(first));
-            let length_wrong = bytes.len() != MESSAGE_BYTES;
-            let optional = class == Some(LlcClass::Optional);
-            let content_wrong = match class {
-                Some(LlcClass::Unknown | LlcClass::Cdc) => true,
-                Some(LlcClass::Named) => bytes.get(1) != Some(&LENGTH_BYTE),
-                _ => false,
-            };
-            hold(length_wrong || (!optional && content_wrong), 4);
-            hold(class == Some(LlcClass::Named) && bytes[0] != TEST_LINK, 14);
-        }
+        Line::LinkMsg { link, bytes } => return links::holding_heard(group, *link, bytes),
+        Line::LinkSend { link, fields } => return links::holding_sent(group, *link, fields),
         _ => {}
     }
     holds

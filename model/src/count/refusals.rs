@@ -3,16 +3,11 @@
 use super::cells::Cells;
 use super::order::{lowest_holder, token_in};
 use super::Details;
+use crate::llc::{llc_class, LlcClass};
 use crate::replay::Line;
 use crate::smcr::*;
 
-pub(super) fn count_refusal(
-    cells: &mut Cells,
-    word: &str,
-    number: u8,
-    line: &Line,
-    before: &Details,
-) {
+pub(super) fn count_refusal(cells: &mut Cells, number: u8, line: &Line, before: &Details) {
     match (number, line) {
         (1, _) => {
             let records = before.table.len() as i64;
@@ -101,9 +96,6 @@ pub(super) fn count_refusal(
             cells.hit_if(last, "open: refused 11, held in slot 255");
         }
         (12, Line::Open { opening }) => count_barred_opening(cells, opening),
-        (14, Line::LinkMsg { bytes, .. }) => {
-            cells.hit(&format!("{word}: refused 14, kind {:02X}", bytes[0]));
-        }
         _ => {}
     }
 }

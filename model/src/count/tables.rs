@@ -14,7 +14,8 @@ pub(super) const ORDERS: &[(&str, &[u8])] = &[
     ("open", &[1, 2, 10, 12, 13, 6, 11]),
     ("free", &[1, 2, 3, 7]),
     ("link", &[13]),
-    ("linkmsg", &[13, 6, 4, 14]),
+    ("linkmsg", &[13, 6, 4, 14, 15]),
+    ("linksend", &[13, 6, 14, 15]),
     ("sample", &[13, 6, 17]),
     ("take", &[3, 18, 19]),
     ("return", &[3, 20]),
@@ -51,7 +52,8 @@ pub(super) const NOT_TESTED: &[(u8, &str)] = &[
     (11, "given by open alone"),
     (12, "given by open alone"),
     (13, "only open and the calls on links name a link"),
-    (14, "given by link message alone"),
+    (14, "only link message and link send act on a link number"),
+    (15, "given by link message and link send alone"),
     (16, "only hear is given a sequence number"),
     (17, "given by sample alone"),
 ];
@@ -73,7 +75,7 @@ pub(super) const NOT_AT_ONCE: &[(&[&str], u8, &[u8], &str)] = &[
         "a slot outside 1 to S counts as none, open or not",
     ),
     (
-        &["open", "linkmsg", "sample"],
+        &["open", "linkmsg", "linksend", "sample"],
         13,
         &[6],
         "a link outside 1 to 4 is neither active nor down",
@@ -296,9 +298,6 @@ pub(super) const FURTHER: &[&str] = &[
     "free: answered",
     "link: to active",
     "link: to down",
-    "linkmsg: TEST LINK answered",
-    "linkmsg: TEST LINK reply taken",
-    "linkmsg: optional discarded",
     "message: sequence 65,535, next 0",
     "message: T moves",
 ];

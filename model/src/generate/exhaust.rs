@@ -1,9 +1,10 @@
 //! What can be gone through one by one: every row of the close marks, every
 //! first byte of a link message, every reserved bit, the soundings of document
 //! 01, the examples of section 4.5.1, scenarios 1 to 6 of section 4.7, the pool,
-//! the gauges and the messages of set-up.
+//! the gauges, the messages of set-up and those of links.
 
-use super::{gauges, message_of, offset_of, pool, setup, writes_of, List};
+use super::{gauges, links, message_of, offset_of, pool, setup, writes_of, List};
+use crate::llc::{LLC_REPLY, TEST_LINK};
 use crate::random::Random;
 use crate::replay::{set_marks, Answer};
 use crate::smcr::*;
@@ -17,6 +18,7 @@ pub fn list(seed: u64) -> Vec<u8> {
     link_message_first_bytes(&mut list, &mut random);
     link_message_reserved_bits(&mut list, &mut random);
     cdc_reserved_bits(&mut list, &mut random);
+    sequence_numbers(&mut list, &mut random);
     whole_example(&mut list, &mut random);
     soundings(&mut list, &mut random);
     window_examples(&mut list, &mut random);
@@ -30,6 +32,7 @@ pub fn list(seed: u64) -> Vec<u8> {
     pool::exhaust(&mut list, &mut random);
     gauges::exhaust(&mut list, &mut random);
     setup::exhaust(&mut list, &mut random);
+    links::exhaust(&mut list, &mut random);
     list.text
 }
 
@@ -162,6 +165,13 @@ fn link_message_first_bytes(list: &mut List, random: &mut Random) {
             bytes[0] = first;
             bytes[1] = second;
             bytes[3] &= !LLC_REPLY;
+            // Some of them begin an exchange or take links down.
+            if !list.replay.group.links[2] {
+                list.link(3, true);
+            }
+            if list.replay.group.exchange.stage != 0 {
+                list.exchange(0, 0, 0);
+            }
             list.link_message(3, bytes);
         }
     }
@@ -170,6 +180,7 @@ fn link_message_first_bytes(list: &mut List, random: &mut Random) {
 /// A TEST LINK whose reserved bits are set one by one, and its reply.
 fn link_message_reserved_bits(list: &mut List, random: &mut Random) {
     list.comment("each reserved bit of a TEST LINK");
+    list.link(3, true);
     let mut base = vec![0; MESSAGE_BYTES];
     base[0] = TEST_LINK;
     base[1] = LENGTH_BYTE;
@@ -226,6 +237,32 @@ fn cdc_reserved_bits(list: &mut List, random: &mut Random) {
         list.hear(bytes);
         list.table();
     }
+}
+
+/// Numbers next, equal, older and too far, around 65,535; with A and after ours.
+fn sequence_numbers(list: &mut List, random: &mut Random) {
+    list.comment("sequence numbers");
+    list.group(1, 12);
+    list.link(1, true);
+    for heard in [0, 1, 65_534, 65_535] {
+        for marks in [0, 32] {
+            for ahead in [1, 0, 2, 65_535, 32_769] {
+                let mut c = resting(12, token(random), token(random), cursor(5, 3));
+                c.heard_sequence = heard;
+                set_marks(&mut c, marks);
+                for abort in [false, true] {
+                    list.record(1, c);
+                    let message = Message {
+                        sequence: heard.wrapping_add(ahead),
+                        abort,
+                        ..message_to(&c)
+                    };
+                    list.hear(message.write().to_vec());
+                }
+            }
+        }
+    }
+    list.table();
 }
 
 /// The whole example: the first message of scenario 1.

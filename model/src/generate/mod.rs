@@ -3,6 +3,7 @@
 pub mod exhaust;
 pub mod gauges;
 pub mod hostile;
+pub mod links;
 pub mod orders;
 pub mod pool;
 pub mod setup;

@@ -5,7 +5,8 @@
 
 use std::collections::VecDeque;
 
-use super::{gauges, message_of, pool, setup, writes_of, List};
+use super::{gauges, links, message_of, pool, setup, writes_of, List};
+use crate::llc::TEST_LINK;
 use crate::random::Random;
 use crate::replay::{Answer, Line, Replay};
 use crate::smcr::*;
@@ -87,6 +88,8 @@ pub struct World {
     random: Random,
     habits: Habits,
     next_token: u32,
+    /// The exchanges of link messages with an end of their own.
+    links: links::Ends,
 }
 
 /// A list of traffic.
@@ -133,6 +136,7 @@ impl World {
         let next_token = random.between(1, 1_000_000_000) as u32;
         let registered =
             [size, far_size].map(|size| Registered::new(&mut random, u64::from(elements * size)));
+        let links = links::Ends::new(&mut list, &mut random);
         let mut world = World {
             list,
             far,
@@ -141,6 +145,7 @@ impl World {
             random,
             habits,
             next_token,
+            links,
         };
         world.pair_up(elements);
         world
@@ -176,7 +181,7 @@ impl World {
         // Slots that belong to no pair stay closed and can be named in error.
         for link in 1..=4 {
             if self.random.chance(4, 5) {
-                self.list.link(link, true);
+                self.links.change_both(&mut self.list, link, true);
             }
         }
     }
@@ -184,11 +189,17 @@ impl World {
     pub fn act(&mut self) {
         match self.random.below(400) {
             0..=1 => self.flap_link(),
-            2..=5 => self.test_link(),
+            2..=3 => self.test_link(),
+            4..=5 => self.bring_links_up(),
             6 if self.habits.looks => self.list.table(),
             7 if self.habits.looks => self.look_at_memory(),
             8 if self.habits.strangers => self.damage(),
             9..=24 if self.habits.noise => self.noise(),
+            49..=60 => {
+                for _ in 0..self.random.between(1, 6) {
+                    self.links.act(&mut self.list, &mut self.random);
+                }
+            }
             25..=32 => gauges::act(&mut self.list, &mut self.random),
             33 if self.habits.beside => setup::act(&mut self.list, &mut self.random),
             34..=48 if self.habits.beside => pool::act(&mut self.list, &mut self.random),
@@ -516,12 +527,21 @@ impl World {
     fn flap_link(&mut self) {
         let link = self.random.between(1, 4) as u8;
         let up = !self.list.replay.group.links[usize::from(link) - 1] || self.random.chance(1, 4);
-        self.list.link(link, up);
+        self.links.change_both(&mut self.list, link, up);
         if !up {
             for _ in 0..self.random.between(0, 12) {
                 self.act_on_pair();
             }
-            self.list.link(link, true);
+            self.links.change_both(&mut self.list, link, true);
+        }
+    }
+
+    /// Links that exchanges took down come up again.
+    fn bring_links_up(&mut self) {
+        for link in 1..=4 {
+            if !self.list.replay.group.links[usize::from(link) - 1] && self.random.chance(3, 4) {
+                self.links.change_both(&mut self.list, link, true);
+            }
         }
     }
 
@@ -530,7 +550,7 @@ impl World {
         let mut bytes = self.random.bytes(MESSAGE_BYTES);
         bytes[0] = *self
             .random
-            .pick(&[TEST_LINK, TEST_LINK, TEST_LINK, 0x80, 0xBF, 0x01]);
+            .pick(&[TEST_LINK, TEST_LINK, TEST_LINK, 0x80, 0xBF, 0x09]);
         bytes[1] = LENGTH_BYTE;
         self.list.link_message(link, bytes);
     }

@@ -2,6 +2,8 @@
 
 use crate::clc::{Clc, NoMessage};
 use crate::gauge::{Gauge, Health};
+use crate::links::{Exchange, LinkAnswer, LinkSent, Queue, Role};
+use crate::llc::Fields;
 use crate::pool::Books;
 use crate::setup::{Due, SetUp, Settings};
 use crate::smcr::*;
@@ -110,6 +112,19 @@ pub enum Line {
     Clc {
         bytes: Vec<u8>,
     },
+    LinkSend {
+        link: u8,
+        fields: Fields,
+    },
+    Role {
+        role: Role,
+    },
+    Exchange {
+        exchange: Exchange,
+    },
+    Queue {
+        queue: Box<Queue>,
+    },
 }
 
 /// Why a line did not parse. The answer is `bad line` for each.
@@ -170,7 +185,8 @@ pub enum Answer {
     Read(ReadAnswer, Vec<u8>),
     Heard(Heard),
     Made(&'static str, Bytes44),
-    Reply(Option<Bytes44>),
+    LinkMsg(LinkAnswer),
+    LinkSent(LinkSent),
     Table,
     Memory { at: usize, count: usize },
     Taken(u32),

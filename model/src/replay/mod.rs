@@ -71,7 +71,7 @@ impl Replay {
             Line::Free { slot } => done("free", group.free(*slot)),
             Line::Link { link, up } => done("link", group.link_change(*link, *up)),
             Line::LinkMsg { link, bytes } => {
-                answered(group.link_message(*link, bytes), Answer::Reply)
+                answered(group.link_message(*link, bytes), Answer::LinkMsg)
             }
             Line::Send { slot, bytes } => answered(group.send(*slot, bytes), Answer::Sent),
             Line::Urgent { slot, bytes } => answered(group.urgent(*slot, bytes), Answer::Urgent),
@@ -136,6 +136,21 @@ impl Replay {
                 answered(set_up(&self.settings, *due, bytes), Answer::SetUp)
             }
             Line::Clc { bytes } => Answer::Clc(Clc::read(bytes)),
+            Line::LinkSend { link, fields } => {
+                answered(group.link_send(*link, fields), Answer::LinkSent)
+            }
+            Line::Role { role } => {
+                group.role = *role;
+                Answer::Word("role")
+            }
+            Line::Exchange { exchange } => {
+                group.exchange = *exchange;
+                Answer::Word("exchange")
+            }
+            Line::Queue { queue } => {
+                group.queue = **queue;
+                Answer::Word("queue")
+            }
             Line::Gauge { link, gauge } => {
                 group.gauges[usize::from(*link) - 1] = *gauge;
                 Answer::Word("gauge")

@@ -3,6 +3,8 @@
 use super::{BadLine, Line, Replay, MAX_RECORDS};
 use crate::clc::{Prefix, MAX_PREFIXES, PREFIX_BYTES};
 use crate::gauge::Gauge;
+use crate::links::{Exchange, Queue, Role, PLACES};
+use crate::llc::{layout, Fields};
 use crate::pool::Books;
 use crate::setup::{Due, Settings};
 use crate::smcr::*;
@@ -133,6 +135,10 @@ const WORDS: &[(&str, &[usize])] = &[
     ("settings", &[26]),
     ("setup", &[3]),
     ("clc", &[2]),
+    ("linksend", &[3]),
+    ("role", &[2]),
+    ("exchange", &[4]),
+    ("queue", &[10]),
 ];
 
 fn word_counts(first: &[u8]) -> Option<&'static [usize]> {
@@ -251,6 +257,23 @@ impl Replay {
             b"clc" => Line::Clc {
                 bytes: hex(words[1])?,
             },
+            b"linksend" => Line::LinkSend {
+                link: number8(words[1])?,
+                fields: fields(words[2])?,
+            },
+            b"role" => Line::Role {
+                role: role(words[1])?,
+            },
+            b"exchange" => Line::Exchange {
+                exchange: Exchange {
+                    stage: number(words[1], 11)? as u8,
+                    v: number8(words[2])?,
+                    w: number8(words[3])?,
+                },
+            },
+            b"queue" => Line::Queue {
+                queue: Box::new(queue(&words)?),
+            },
             b"gauge" => Line::Gauge {
                 link: gauged_link(words[1])?,
                 gauge: Gauge {
@@ -267,6 +290,50 @@ impl Replay {
             _ => return Err(BadLine::Word),
         })
     }
+}
+
+/// "`KK:V1,V2,..`: the kind in two hex digits, then all its values in row order,
+/// decimal."
+fn fields(word: &[u8]) -> Result<Fields, BadLine> {
+    let colon = word.iter().position(|&byte| byte == b':');
+    let colon = colon.ok_or(BadLine::Word)?;
+    let [kind]: [u8; 1] = hex_of(&word[..colon])?;
+    let rows = layout(kind).len();
+    if rows == 0 {
+        return Err(BadLine::Word);
+    }
+    let parts: Vec<&[u8]> = word[colon + 1..].split(|&byte| byte == b',').collect();
+    if parts.len() != rows {
+        return Err(BadLine::WordCount);
+    }
+    let values: Result<Vec<u64>, BadLine> = parts.into_iter().map(number64).collect();
+    Ok(Fields {
+        kind,
+        values: values?,
+    })
+}
+
+fn role(word: &[u8]) -> Result<Role, BadLine> {
+    Role::ALL
+        .into_iter()
+        .find(|role| role.name().as_bytes() == word)
+        .ok_or(BadLine::Word)
+}
+
+/// "M 44 bytes or `-` for 44 zeros."
+fn queue(words: &[&[u8]]) -> Result<Queue, BadLine> {
+    let mut queue = Queue {
+        count: number8(words[1])?,
+        ..Queue::EMPTY
+    };
+    for place in 0..PLACES {
+        queue.places[place].link = number8(words[2 + 2 * place])?;
+        let message = words[3 + 2 * place];
+        if message != b"-" {
+            queue.places[place].bytes = hex_of(message)?;
+        }
+    }
+    Ok(queue)
 }
 
 fn due(word: &[u8]) -> Result<Due, BadLine> {

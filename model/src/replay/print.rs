@@ -4,6 +4,8 @@ use super::parse::marks;
 use super::{Answer, Line, Replay};
 use crate::clc::{Clc, Ends, NoMessage, Prefix};
 use crate::gauge::{Gauge, Health};
+use crate::links::{Exchange, Queue, TakenUp};
+use crate::llc::Fields;
 use crate::setup::{SetUp, Settings};
 use crate::smcr::*;
 
@@ -279,6 +281,36 @@ fn push_gathered(out: &mut Vec<u8>, gathered: &Gathered) {
     push_message(out, gathered.message.as_ref());
 }
 
+fn push_fields(out: &mut Vec<u8>, fields: Option<&Fields>) {
+    let Some(fields) = fields else {
+        return out.push(b'-');
+    };
+    let values: Vec<String> = fields.values.iter().map(u64::to_string).collect();
+    push(out, &format!("{:02X}:{}", fields.kind, values.join(",")));
+}
+
+fn push_taken_up(out: &mut Vec<u8>, taken_up: Option<&TakenUp>) {
+    if let Some(taken_up) = taken_up {
+        push(out, &format!(" then {} ", taken_up.link));
+        push_fields(out, taken_up.fields.as_ref());
+        push(out, &format!(" {}", taken_up.fate.name()));
+    }
+}
+
+fn push_exchange(out: &mut Vec<u8>, exchange: &Exchange) {
+    let Exchange { stage, v, w } = exchange;
+    push(out, &format!("exchange {stage} {v} {w}"));
+}
+
+fn push_queue(out: &mut Vec<u8>, queue: &Queue) {
+    push(out, &format!("queue {}", queue.count));
+    for place in &queue.places {
+        push(out, &format!(" {}", place.link));
+        let zeros = place.bytes == [0; MESSAGE_BYTES];
+        push_hex_word(out, if zeros { &[] } else { &place.bytes });
+    }
+}
+
 impl Replay {
     /// Writes an answer with its line ends, after the call.
     pub fn print_answer(&self, out: &mut Vec<u8>, answer: &Answer) {
@@ -318,9 +350,17 @@ impl Replay {
                 push(out, " message ");
                 push_hex(out, message);
             }
-            Answer::Reply(reply) => {
-                push(out, "linkmsg reply ");
-                push_message(out, reply.as_ref());
+            Answer::LinkMsg(answer) => {
+                push(out, "linkmsg ");
+                push_fields(out, answer.fields.as_ref());
+                push(out, &format!(" {} reply ", answer.fate.name()));
+                push_message(out, answer.reply.as_ref());
+                push_taken_up(out, answer.taken_up.as_ref());
+            }
+            Answer::LinkSent(sent) => {
+                push(out, "linksend ");
+                push_hex(out, &sent.bytes);
+                push_taken_up(out, sent.taken_up.as_ref());
             }
             Answer::Table => {
                 for (index, record) in group.table.iter().enumerate() {
@@ -336,6 +376,10 @@ impl Replay {
                     out.push(b'\n');
                     push_gauge(out, index + 1, gauge);
                 }
+                push(out, &format!("\nrole {}\n", group.role.name()));
+                push_exchange(out, &group.exchange);
+                out.push(b'\n');
+                push_queue(out, &group.queue);
             }
             Answer::Memory { at, count } => {
                 push(out, "memory ");
@@ -436,6 +480,13 @@ pub fn print_line(out: &mut Vec<u8>, line: &Line) {
         }
         Line::Sample { link, milliseconds } => push(out, &format!("sample {link} {milliseconds}")),
         Line::Health { link } => push(out, &format!("health {link}")),
+        Line::LinkSend { link, fields } => {
+            push(out, &format!("linksend {link} "));
+            push_fields(out, Some(fields));
+        }
+        Line::Role { role } => push(out, &format!("role {}", role.name())),
+        Line::Exchange { exchange } => push_exchange(out, exchange),
+        Line::Queue { queue } => push_queue(out, queue),
         Line::Gauge { link, gauge } => push_gauge(out, usize::from(*link), gauge),
     }
 }

@@ -8,8 +8,8 @@ use Rattle.management.proofs.link_change.Tie as tie
 link-ok-requires : tie.Need-link-ok-requires
 link-ok-requires c κs = search needs
 
-set-link-requires : tie.Need-set-link-requires
-set-link-requires c κs = search needs
+change-requires : tie.Need-change-requires
+change-requires c κs = search needs
 
 answered-requires : tie.Need-answered-requires
 answered-requires c κs = search needs
@@ -19,12 +19,12 @@ refuse-requires c κs = search needs
 
 returns : tie.Need-returns
 returns c =
-    let u = c .before in
+    let u = c .before .before in
     let o = u .before .before in
     let a = o .before .args in
     λ g e.
-    change-did (a .links) g e (a .link) (a .up) (u .set-link .result) (c .answered .result)
-    (sym (o .link-ok .ensures) ∙ u .before .if1 .taken) (u .set-link .ensures) (c .answered .ensures)
+    change-did (a .links) g e (a .link) (a .up) (u .change .result) (c .answered .result)
+    (sym (o .link-ok .ensures) ∙ u .before .if1 .taken) (u .change .ensures) (c .answered .ensures)
 
 returns-2 : tie.Need-returns-2
 returns-2 c =
@@ -39,7 +39,7 @@ link-change-spec =
     tie.close
     (tie.spec
     link-ok-requires
-    set-link-requires
+    change-requires
     answered-requires
     refuse-requires
     returns

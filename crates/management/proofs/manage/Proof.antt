@@ -29,59 +29,43 @@ kept-requires c κs = search needs
 enum-known-call-4 : tie.Need-enum-known-call-4
 enum-known-call-4 c = search needs
 
-link-message-requires : tie.Need-link-message-requires
-link-message-requires c κs = search needs
-
-kept-requires-2 : tie.Need-kept-requires-2
-kept-requires-2 c κs = search needs
-
-enum-known-call-5 : tie.Need-enum-known-call-5
-enum-known-call-5 c = search needs
-
 sample-requires : tie.Need-sample-requires
 sample-requires c κs = search needs
 
-kept-requires-3 : tie.Need-kept-requires-3
-kept-requires-3 c κs = search needs
+kept-requires-2 : tie.Need-kept-requires-2
+kept-requires-2 c κs = search needs
 
 same-length : tie.Need-same-length
 same-length c = search needs
 
 returns : tie.Need-returns
 returns c =
-    let a = c .before .before .before .before .before .before .before .before .before .args in
+    let a = c .before .before .before .before .before .before .before .before .args in
     by-management (c .before .before .before .before .before .call .given .1) (a .s) (a .n) (now (a .mem)) (c .before .before .«open» .last .1 .1 .0) (a .count) (a .links) (a .holder) (a .rec)
-    (now (a .bytes)) (c .before .before .«open» .result) (c .before .before .«open» .ensures)
+    (c .before .before .«open» .result) (c .before .before .«open» .ensures)
 
 same-length-2 : tie.Need-same-length-2
 same-length-2 c = search needs
 
 returns-2 : tie.Need-returns-2
 returns-2 c =
-    let a = c .before .before .before .before .before .before .before .args in
+    let a = c .before .before .before .before .before .before .args in
     by-management (c .before .before .before .call2 .given .1) (a .s) (a .n) (now (a .mem)) (now (a .mem)) (a .count) (a .links) (a .holder) (a .rec)
-    (now (a .bytes)) (c .free .result) (λ t h k e. c .free .ensures t h e)
+    (c .free .result) (λ t h k e. c .free .ensures t h e)
 
 returns-3 : tie.Need-returns-3
 returns-3 c =
-    let a = c .before .before .before .before .before .before .before .args in
+    let a = c .before .before .before .before .before .before .args in
     by-management (c .before .before .before .call3 .given .1) (a .s) (a .n) (now (a .mem)) (now (a .mem)) (a .count) (a .links) (a .holder) (a .rec)
-    (now (a .bytes)) (c .kept .result)
+    (c .kept .result)
     (links-did _ _ _ _ _ _ _ _ _ _ (c .before .link-change .ensures) _ (c .kept .ensures))
 
 returns-4 : tie.Need-returns-4
 returns-4 c =
-    let a = c .before .before .before .before .before .before .before .args in
+    let a = c .before .before .before .before .before .before .args in
     by-management (c .before .before .before .call4 .given .1) (a .s) (a .n) (now (a .mem)) (now (a .mem)) (a .count) (a .links) (a .holder) (a .rec)
-    (now (a .bytes)) (c .kept2 .result)
-    (links-did _ _ _ _ _ _ _ _ _ _ (c .before .link-message .ensures) _ (c .kept2 .ensures))
-
-returns-5 : tie.Need-returns-5
-returns-5 c =
-    let a = c .before .before .before .before .before .before .before .args in
-    by-management (c .before .before .before .call5 .given .1) (a .s) (a .n) (now (a .mem)) (now (a .mem)) (a .count) (a .links) (a .holder) (a .rec)
-    (now (a .bytes)) (c .kept3 .result)
-    (links-did _ _ _ _ _ _ _ _ _ _ (c .before .sample .ensures) _ (c .kept3 .ensures))
+    (c .kept2 .result)
+    (links-did _ _ _ _ _ _ _ _ _ _ (c .before .sample .ensures) _ (c .kept2 .ensures))
 
 pub manage-spec : {M : Type 1} → statement M
 manage-spec =
@@ -95,15 +79,11 @@ manage-spec =
     link-change-requires
     kept-requires
     enum-known-call-4
-    link-message-requires
-    kept-requires-2
-    enum-known-call-5
     sample-requires
-    kept-requires-3
+    kept-requires-2
     same-length
     returns
     same-length-2
     returns-2
     returns-3
-    returns-4
-    returns-5)
+    returns-4)

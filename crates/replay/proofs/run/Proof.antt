@@ -28,7 +28,10 @@ act-requires : tie.Need-act-requires Inv-loop μ-loop
 act-requires c κs = search needs
 
 loop-less : tie.Need-loop-less Inv-loop μ-loop
-loop-less c = search needs
+loop-less c =
+    let parse =
+    c .before .before .before .before .before .before .before .before .before .before .before .before .before .before .before in
+    search (needs, parse .parse .ensures, parse .before .before .before .before .if1 .taken)
 
 loop-again : tie.Need-loop-again Inv-loop μ-loop
 loop-again c =

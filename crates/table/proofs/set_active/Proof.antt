@@ -2,6 +2,7 @@
 use mathlib.Core.Path.{sym}
 use native.Mathlib.Omega.{arith}
 use borrow.Author.Needs.{needs}
+use Rattle.table.specs.Table.{linksSet}
 use Rattle.table.proofs.Laws.{links-length, with-link-low, with-link-in, with-link-out}
 use Rattle.table.proofs.set_active.Statement.{statement}
 use Rattle.table.proofs.set_active.Tie as tie
@@ -9,14 +10,14 @@ use Rattle.table.proofs.set_active.Tie as tie
 returns : tie.Need-returns
 returns c =
     let a = c .before .args in
-    sym (λ i. record { active = with-link-low (a .links .active) (a .link) (a .up) (c .if1 .taken) i; gauges = a .links .gauges })
+    sym (λ i. linksSet (a .links) (with-link-low (a .links .active) (a .link) (a .up) (c .if1 .taken) i) (a .links .gauges))
 
 returns-2 : tie.Need-returns-2
 returns-2 c =
     let b = c .before .before in
     let a = b .args in
     let l = links-length (a .links) _ (b .good .0) in
-    sym (λ i. record { active = with-link-out (a .links .active) (a .link) (a .up) (omega arith) i; gauges = a .links .gauges })
+    sym (λ i. linksSet (a .links) (with-link-out (a .links .active) (a .link) (a .up) (omega arith) i) (a .links .gauges))
 
 sub-i : tie.Need-sub-i
 sub-i c = search needs
@@ -27,7 +28,7 @@ element-write-next c = search needs
 returns-3 : tie.Need-returns-3
 returns-3 c =
     let a = c .before .before .args in
-    sym (λ i. record { active = with-link-in (a .links .active) (a .link) (a .up) (omega arith) i; gauges = a .links .gauges })
+    sym (λ i. linksSet (a .links) (with-link-in (a .links .active) (a .link) (a .up) (omega arith) i) (a .links .gauges))
 
 pub set-active-spec : {M : Type 1} → statement M
 set-active-spec = tie.close (tie.spec returns returns-2 sub-i element-write-next returns-3)

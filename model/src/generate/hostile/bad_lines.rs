@@ -196,6 +196,31 @@ impl Bench {
             .iter()
             .map(|text| text.to_string())
             .collect()
+        } else if word == "FIELDS" {
+            [
+                "",
+                "07",
+                "07:",
+                "07:0,1",
+                "07:0,1,2,3",
+                "07:0,1,2,",
+                "07:,1,2",
+                "07:0,1,18446744073709551616",
+                "07:0,1,18446744073709551615",
+                "07:00,01,02",
+                "7:0,1,2",
+                "007:0,1,2",
+                "05:0,1,2",
+                "FE:0,1,2",
+                "0g:0,1,2",
+                "07:0,1,-",
+                "07:0;1;2",
+                "07,0,1,2",
+                "-",
+                "04:0,0,0,1,0",
+            ]
+            .map(str::to_string)
+            .to_vec()
         } else if word == "PLACE" {
             [
                 "",
@@ -222,6 +247,8 @@ impl Bench {
         } else if !word.contains('=') {
             [
                 "",
+                "server",
+                "Server",
                 "None",
                 "proposal",
                 "Proposal ",
@@ -289,7 +316,7 @@ impl Bench {
 
 /// A good line of each kind: words with their largest value and a value that is
 /// good here, HEX, HEX of just so many bytes, or an urgent place.
-const FORMS: [&str; 30] = [
+const FORMS: [&str; 34] = [
     "group 4294967295=2 4294967295=16 1048704=32",
     "group 4294967295=2 4294967295=16 1048704=32 300=2",
     "open 4294967295=2 4294967295=7 4294967295=8 255=1 4294967295=16 4294967295=1 4294967295=0 \
@@ -328,6 +355,10 @@ const FORMS: [&str; 30] = [
      18446744073709551615=0 4294967295=0 18446744073709551615=0",
     "setup none HEX",
     "clc HEX",
+    "linksend 255=1 FIELDS",
+    "role client",
+    "exchange 11=0 255=1 255=2",
+    "queue 255=0 255=0 HEX*44 255=0 HEX*44 255=0 HEX*44 255=0 HEX*44",
 ];
 
 /// The largest value and the good value of a number's word.
@@ -346,6 +377,7 @@ fn value(word: &str) -> String {
         Some((_, given)) => given.to_string(),
         None if word == "HEX" => "C0FFEE".to_string(),
         None if word == "PLACE" => "-".to_string(),
+        None if word == "FIELDS" => "07:0,1,2".to_string(),
         None if word.starts_with("HEX*") => "00".repeat(bytes_word(word)),
         None => word.to_string(),
     }

@@ -14,7 +14,7 @@ mod records;
 mod tables;
 mod urgent;
 
-use super::{gauges, pool, setup, List};
+use super::{gauges, links, pool, setup, List};
 use crate::random::Random;
 use crate::smcr::*;
 
@@ -40,6 +40,7 @@ pub fn list(seed: u64, count: Option<usize>) -> Vec<u8> {
         Bench::pairs_of_open,
         Bench::pairs_of_free,
         Bench::pairs_of_link_message,
+        Bench::pairs_of_link_send,
         Bench::wrong_sizes,
         Bench::strange_slots,
         Bench::many_elements,
@@ -62,6 +63,7 @@ pub fn list(seed: u64, count: Option<usize>) -> Vec<u8> {
         |bench| pool::hostile(&mut bench.list, &mut bench.random),
         |bench| gauges::hostile(&mut bench.list, &mut bench.random),
         |bench| setup::hostile(&mut bench.list, &mut bench.random),
+        |bench| links::hostile(&mut bench.list, &mut bench.random),
         Bench::bad_lines,
         Bench::long_lines,
     ];

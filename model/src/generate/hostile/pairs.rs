@@ -4,6 +4,9 @@
 use super::calls::{allowing_marks, forbidding_marks, SlotCall, SLOT_CALLS};
 use super::records::{highest_base, with_marks};
 use super::Bench;
+use crate::links::{Queue, Role};
+use crate::llc::*;
+use crate::replay::Line;
 use crate::smcr::*;
 
 impl Bench {
@@ -278,11 +281,11 @@ impl Bench {
         self.look();
     }
 
-    /// Pairs among 13, 6, 4 and 14, in groups whose sizes may be wrong: link
-    /// change and link message do not look at them.
+    /// Pairs among 13, 6, 4, 14 and 15, in groups whose sizes may be wrong: the
+    /// calls on links do not look at them.
     pub(super) fn pairs_of_link_message(&mut self) {
-        for spoiled in subsets(&[13, 6, 4, 14]) {
-            for _ in 0..5 {
+        for spoiled in subsets(&[13, 6, 4, 14, 15]) {
+            for _ in 0..4 {
                 self.spoiled_link_message(&spoiled);
             }
         }
@@ -298,45 +301,122 @@ impl Bench {
                 self.list.link_message(2, bytes);
             }
         }
+        // On the link being added 6 is not given for a first byte 01.
+        for length in [0, 1, 43, 44, 45] {
+            for first in [0x01, 0x02] {
+                for stage in [0, 2, 5] {
+                    self.list.link(3, false);
+                    self.list.exchange(stage, 1, 3);
+                    let mut bytes = self.random.bytes(length);
+                    if length > 0 {
+                        bytes[0] = first;
+                    }
+                    self.list.link_message(3, bytes);
+                }
+            }
+        }
     }
 
-    fn spoiled_link_message(&mut self, spoiled: &[u8]) {
-        let has = |number: u8| spoiled.contains(&number);
+    /// A group and links for a call on a link; the link comes back.
+    fn linked_group(&mut self, down: bool, outside: bool) -> u8 {
         let (elements, size) = self.small_sizes();
         match self.random.below(4) {
             0 => self.nearly_right_group(elements, size),
             1 => self.list.group_of(0, 0, 0),
             _ => self.list.group(elements, size),
         }
-        let mut link = self.random.between(1, 4) as u8;
-        self.links_around(link, !has(6), 2);
-        if has(13) {
-            link = *self.random.pick(&[0, 5, 255]);
-            let up = self.random.chance(1, 2);
-            self.list.link(link, up);
+        let link = self.random.between(1, 4) as u8;
+        self.links_around(link, !down, 2);
+        if !outside {
+            return link;
         }
-        let mut bytes = self.random.bytes(MESSAGE_BYTES);
-        bytes[0] = TEST_LINK;
-        bytes[1] = LENGTH_BYTE;
-        if has(14) {
-            bytes[0] = *self.random.pick(&[1, 2, 3, 4, 6, 8, 9]);
-        }
+        let outside = *self.random.pick(&[0, 5, 255]);
+        let up = self.random.chance(1, 2);
+        self.list.link(outside, up);
+        outside
+    }
+
+    fn spoiled_link_message(&mut self, spoiled: &[u8]) {
+        let has = |number: u8| spoiled.contains(&number);
+        let link = self.linked_group(has(6), has(13));
+        let w = self.random.between(1, 4) as u8;
+        let mut bytes = if has(14) || has(15) {
+            // An 04 from a client, which a server queues while anything runs.
+            self.list.role(Role::Server);
+            let stage = *self.random.pick(&[1, 4, 5, 7, 11]);
+            self.list
+                .exchange(stage, self.random.between(1, 4) as u8, w);
+            let outside = *self.random.pick(&[0, 5, 255]);
+            let named = if has(14) { outside } else { u64::from(w) };
+            let fields = Fields::zero(DELETE_LINK).with("link", named);
+            let count = if has(15) {
+                *self.random.pick(&[4, 5, 255])
+            } else {
+                *self.random.pick(&[0, 1, 3])
+            };
+            let queue = Box::new(Queue {
+                count,
+                ..Queue::EMPTY
+            });
+            self.list.add(Line::Queue { queue });
+            fields.write().to_vec()
+        } else {
+            let mut bytes = self.random.bytes(MESSAGE_BYTES);
+            bytes[0] = TEST_LINK;
+            bytes[1] = LENGTH_BYTE;
+            bytes
+        };
         if has(4) {
             match self.random.below(5) {
-                0 => bytes[1] = *self.random.pick(&[0x00, 0x2B, 0x2D, 0xFF]),
-                1 => {
+                0 | 1 => bytes[1] = *self.random.pick(&[0x00, 0x2B, 0x2D, 0xFF]),
+                2 => {
                     bytes.pop();
                 }
-                2 => bytes.push(0),
-                3 if !has(14) => {
+                3 => bytes.push(0),
+                _ if has(14) || has(15) => bytes[1] = 0xAC,
+                _ => {
                     bytes[0] = *self
                         .random
                         .pick(&[0x00, 0x05, 0x0A, 0x7F, 0xC0, 0xFE, 0xFF])
                 }
-                _ => bytes.truncate(1),
             }
         }
         self.list.link_message(link, bytes);
+        self.look();
+    }
+
+    /// Pairs among 13, 6, 14 and 15.
+    pub(super) fn pairs_of_link_send(&mut self) {
+        for spoiled in subsets(&[13, 6, 14, 15]) {
+            for _ in 0..5 {
+                self.spoiled_link_send(&spoiled);
+            }
+        }
+    }
+
+    fn spoiled_link_send(&mut self, spoiled: &[u8]) {
+        let has = |number: u8| spoiled.contains(&number);
+        let link = self.linked_group(has(6), has(13));
+        let role = *self.random.pick(&Role::ALL);
+        self.list.role(role);
+        let w = self.random.between(1, 4);
+        let outside = *self.random.pick(&[0, 5, 255]);
+        let named = if has(14) { outside } else { w as u64 };
+        let fields = if has(15) {
+            // A reply unasked, or a request while another exchange runs.
+            let stage = *self.random.pick(&[0, 6, 11]);
+            self.list.exchange(stage, link, 0);
+            match self.random.below(3) {
+                0 => Fields::zero(CONFIRM_LINK),
+                1 => Fields::zero(ADD_LINK_CONTINUATION).with("R", 1),
+                _ => Fields::zero(ADD_LINK).with("R", 1),
+            }
+        } else if role == Role::Client {
+            Fields::zero(DELETE_LINK)
+        } else {
+            Fields::zero(ADD_LINK)
+        };
+        self.list.link_send(link, fields.with("link", named));
         self.look();
     }
 }

@@ -4,6 +4,7 @@
 use super::calls::{allowing_marks, SlotCall, SLOT_CALLS};
 use super::records::{broken_records, resting_message, with_marks};
 use super::Bench;
+use crate::llc::TEST_LINK;
 use crate::replay::set_marks;
 use crate::smcr::*;
 

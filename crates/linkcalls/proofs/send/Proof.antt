@@ -1,0 +1,60 @@
+-- `linkcalls::send` meets its contract. Assumes nothing.
+use borrow.Author.Tests.{eq-eqb, ne-eqb}
+use Rattle.linkcalls.specs.Calls.{sentOf, noReply}
+use mathlib.Core.Path.{sym, _∙_}
+use borrow.Author.Needs.{needs}
+use Rattle.linkcalls.proofs.send.Statement.{statement}
+use Rattle.linkcalls.proofs.send.Tie as tie
+
+reduce-requires : tie.Need-reduce-requires
+reduce-requires c κs = search needs
+
+what-is-said-requires : tie.Need-what-is-said-requires
+what-is-said-requires c κs = search needs
+
+due-requires : tie.Need-due-requires
+due-requires c κs = search needs
+
+send-refusal-requires : tie.Need-send-refusal-requires
+send-refusal-requires c κs = search needs
+
+write-requires : tie.Need-write-requires
+write-requires c κs = search needs
+
+sent-work-requires : tie.Need-sent-work-requires
+sent-work-requires c κs = search needs
+
+keep-requires : tie.Need-keep-requires
+keep-requires c κs = search needs
+
+returns : tie.Need-returns
+unfolding sentOf noReply
+returns c =
+    let r = c .before .before .before .before .before .before .reduce .ensures in
+    let m = c .before .before .before .before .before .what-is-said .ensures in
+    let d = c .before .before .before .before .due .ensures in
+    let e = simp (d, m, r) at (c .before .before .before .send-refusal .ensures) in
+    simp (eq-eqb _ 0 (sym e ∙ c .if1 .taken), c .before .sent-work .ensures, c .before .before .write .ensures, d, m, r)
+
+returns-2 : tie.Need-returns-2
+unfolding sentOf noReply
+returns-2 c =
+    let r = c .before .before .before .before .before .before .before .reduce .ensures in
+    let m = c .before .before .before .before .before .before .what-is-said .ensures in
+    let d = c .before .before .before .before .before .due .ensures in
+    let e = simp (d, m, r) at (c .before .before .before .before .send-refusal .ensures) in
+    simp (← e, ne-eqb _ 0 (c .before .if1 .left), c .keep .ensures)
+
+pub send-spec : {M : Type 1} → statement M
+send-spec =
+    tie.close
+    (tie.spec
+    reduce-requires
+    what-is-said-requires
+    due-requires
+    send-refusal-requires
+    write-requires
+    sent-work-requires
+    keep-requires
+    returns
+    returns-2)

@@ -1,0 +1,59 @@
+-- Request 2026-01. Link change, link message and link send are the group's calls on its links, with their gauges, role, exchange and queue:
+-- what the crate linktheorems says of these calls on links holds of them on groups. All other calls leave the links as they are, but that a
+-- sample changes a gauge, and look neither at role, exchange nor queue. Claims about the rules that every contract cites (`answer`, `next`).
+-- proofs/Links proves each. Assumes nothing.
+use Prim.Native.Nat.{ℕ}
+use mathlib.Core.Path.{_≡_}
+use mathlib.Core.Logic.{_⊎_}
+use mathlib.Core.List.{List}
+use Rattle.linktheorems.specs.Statements as Link
+use Rattle.linktheorems.specs.Statements.{Call as LinkCall}
+use Rattle.rules.specs.Rules.{Group, Management, openSlot, freeSlot, linkChange, linkMessage, linkSend, sample, Call, on, hear, manage, answer, next, linksOf, withLinks}
+
+-- the desk call that a call on links is
+abbrev pub deskOf : LinkCall → Management
+deskOf (LinkCall.change l up) = linkChange l up
+deskOf (LinkCall.message l b) = linkMessage l b
+deskOf (LinkCall.send l k vs) = linkSend l k vs
+
+abbrev pub callOf : LinkCall → Call
+callOf k = manage (deskOf k)
+
+-- 1. It leaves the group as it was, with the links that it leaves of them, refused or not
+abbrev pub LinkCallsLeave : Type 0
+LinkCallsLeave = (g : Group) (k : LinkCall) → next g (callOf k) ≡ withLinks g (Link.next (linksOf g) k)
+
+-- 2. Every other call leaves the links, the role, the exchange and the queue
+pub record KeepsLinks (g h : Group) : Type 0 where
+  pub same-links : h .links ≡ g .links
+  pub same-role : h .role ≡ g .role
+  pub same-exchange : h .exchange ≡ g .exchange
+  pub same-queue : h .queue ≡ g .queue
+
+abbrev pub OthersKeep : Type 0
+OthersKeep = (g : Group) (c : Call) → KeepsLinks g (next g c) ⊎ ((k : LinkCall) × (c ≡ callOf k))
+
+-- 3. and reads neither role, exchange nor queue
+abbrev pub Other : Call → Type 0
+Other (on k q) = Unit {0}
+Other (hear b) = Unit {0}
+Other (manage (openSlot k o)) = Unit {0}
+Other (manage (freeSlot k)) = Unit {0}
+Other (manage (linkChange l up)) = ⊥
+Other (manage (linkMessage l b)) = ⊥
+Other (manage (linkSend l k vs)) = ⊥
+Other (manage (sample l ms)) = Unit {0}
+
+-- two groups that differ in these alone
+pub record SameButExchange (g h : Group) : Type 0 where
+  pub same-S : g .S ≡ h .S
+  pub same-N : g .N ≡ h .N
+  pub same-table : g .table ≡ h .table
+  pub same-links : g .links ≡ h .links
+  pub same-gauges : g .gauges ≡ h .gauges
+  pub same-memory : g .memory ≡ h .memory
+
+-- they answer every such call alike, and it leaves groups that differ in these alone
+abbrev pub ExchangeUnread : Type 0
+ExchangeUnread =
+    (g h : Group) (c : Call) → Other c → SameButExchange g h → (answer g c ≡ answer h c) × SameButExchange (next g c) (next h c)
