@@ -1,6 +1,6 @@
 #!/bin/sh
-# Times calls over a lent table. No call is exported yet: a table can be lent from C only if its structs are `#[repr(C)]`. So the crates are
-# copied to target/calls, the attribute is set there, and group_c, beside this script, is proved with them and built. Takes some minutes.
+# Times calls over a lent table, and the send of a head and a body. The crates are copied to target/calls, and group_c, beside this script,
+# which calls `group::make` without flat structs, is proved with them and built. Takes some minutes.
 # The files of group_c end in .in, since it is no crate that crates.txt lists.
 set -eu
 cd "$(dirname "$0")/../.."
@@ -18,10 +18,6 @@ rm -rf "$copy"/crates/*/must-fail
     for name in $below; do grep "^$name:" crates.txt; done
     echo "group_c: $below"
 } >"$copy/crates.txt"
-for name in cursor:Cursor closing:Side closing:Marks connection:Identity connection:RToken connection:Remote connection:Urgent \
-    connection:Inbound connection:Outbound connection:Record; do
-    sed -i "s/^pub struct ${name#*:} {/#[repr(C)]\n&/" "$copy/crates/${name%:*}/src/lib.rt"
-done
 (cd "$copy" && tools/walk group_c group_call && tools/walk group_c group_gather && rt staticlib group_c) >target/calls.log 2>&1 || {
     tail -20 target/calls.log
     exit 1

@@ -4,12 +4,14 @@ ghost use Prim.Native.Nat.{_≤_, _<_};
 ghost use Rattle.closing.specs.Closing.{weightOf, packedOf, numberOf, closeStateOf, stateAt, stateOf, firstOf, doneSent, closedSent, abortSent, marksHeard};
 
 // One side's marks: D done writing, C closed.
+#[repr(C)]
 pub struct Side {
     pub done: bool,
     pub closed: bool,
 }
 
 // `first`: ours came first, set with our first D or C if none was heard. `abort`: A sent.
+#[repr(C)]
 pub struct Marks {
     pub sent: Side,
     pub heard: Side,

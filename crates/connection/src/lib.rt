@@ -29,6 +29,7 @@ pub const MOST_INDEX: u32 = 255;
 pub const MOST_ADDRESS: u64 = 18446744073709551615;
 
 // Who the connection is: closed or open by its mark, both alert tokens, its link from 1 to 4.
+#[repr(C)]
 pub struct Identity {
     pub opened: bool,
     pub own: u32,
@@ -37,6 +38,7 @@ pub struct Identity {
 }
 
 // The peer's memory as one link reaches it (RFC 7609's RToken): its key, and the address of its first byte.
+#[repr(C)]
 pub struct RToken {
     pub key: u32,
     pub base: u64,
@@ -44,6 +46,7 @@ pub struct RToken {
 
 // What is fixed at open about the peer: its element has `size` bytes (N') and is number `index` of its memory; and that memory, link by
 // link.
+#[repr(C)]
 pub struct Remote {
     pub size: u32,
     pub index: u32,
@@ -54,6 +57,7 @@ pub struct Remote {
 }
 
 // An urgent place: whether one stands, and where. All zeros where none does.
+#[repr(C)]
 pub struct Urgent {
     pub standing: bool,
     pub place: Cursor,
@@ -61,6 +65,7 @@ pub struct Urgent {
 
 // What comes in, in our own element: P the peer's producer as last heard, C our consumer, T the consumer last told; the last sequence
 // number heard; B and R of the last message heard; the urgent place.
+#[repr(C)]
 pub struct Inbound {
     pub producer: Cursor,
     pub consumer: Cursor,
@@ -73,6 +78,7 @@ pub struct Inbound {
 
 // What goes out, in the peer's element: Q our producer, R the peer's consumer as last heard; the next sequence number; our present B;
 // the urgent place of our own sends.
+#[repr(C)]
 pub struct Outbound {
     pub producer: Cursor,
     pub consumer: Cursor,
@@ -81,6 +87,7 @@ pub struct Outbound {
     pub urgent: Urgent,
 }
 
+#[repr(C)]
 pub struct Record {
     pub id: Identity,
     pub remote: Remote,
@@ -90,6 +97,7 @@ pub struct Record {
 }
 
 // What open is given for a connection: both alert tokens, its link, and what is fixed about the peer.
+#[repr(C)]
 pub struct Opening {
     pub own: u32,
     pub peer: u32,
@@ -98,6 +106,7 @@ pub struct Opening {
 }
 
 // Bytes for the card to write: the peer's memory key and an address, a start in the bytes sent, and a length.
+#[repr(C)]
 pub struct Placing {
     pub key: u32,
     pub address: u64,

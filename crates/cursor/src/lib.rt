@@ -3,6 +3,7 @@ ghost use mathlib.Core.Path.{_≡_};
 ghost use Prim.Native.Nat.{_+_, _≤_, _<_};
 ghost use Rattle.cursor.specs.Cursor.{dataOf, inRange, sameB, turnsOf, leadOf, goodB, gapOf, nextWrap, movedOf, stepOf};
 
+#[repr(C)]
 pub struct Cursor {
     pub offset: u32,
     pub wrap: u16,

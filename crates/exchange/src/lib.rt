@@ -14,6 +14,7 @@ pub enum Role {
 }
 
 // v: the link it is run over; w: the link it names. Stage 0: none runs.
+#[repr(C)]
 pub struct Exchange {
     pub stage: u8,
     pub v: u8,
@@ -21,12 +22,14 @@ pub struct Exchange {
 }
 
 // A message that waits, as it was heard.
+#[repr(C)]
 pub struct Waiting {
     pub link: u8,
     pub bytes: [u8; 44],
 }
 
 // Oldest first.
+#[repr(C)]
 pub struct Queue {
     pub count: u8,
     pub places: [Waiting; 4],

@@ -8,6 +8,7 @@ ghost use Rattle.gauge.specs.Gauge.{mostMs, clearedOf, smoothed, lateAt,
 
 // The mean and the worst answer time, how many samples there are (eight stands for eight or more), and whether the latest one was late.
 // Any values may be handed in.
+#[repr(C)]
 pub struct Gauge {
     pub mean: f64,
     pub worst: f64,

@@ -9,6 +9,7 @@ ghost use Rattle.setup.specs.Setup.{takenB, answeredOf, heardOf, setupOf
 use clc::Kind;
 use clc::Message;
 
+#[repr(C)]
 pub struct Settings {
     // N, our element size
     pub size: u32,
@@ -48,6 +49,7 @@ pub enum Due {
 }
 
 // The arguments of an open.
+#[repr(C)]
 pub struct Arguments {
     pub slot: u8,
     pub own: u32,

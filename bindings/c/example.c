@@ -1,0 +1,279 @@
+/* Two ends of one connection in one program: they open, one sends, the other places, hears, reads and closes. What a network card and a
+ * network would do, carry() does: it places the bytes and hands over the messages. */
+#include <stdio.h>
+#include <stdlib.h>
+#include <string.h>
+
+#include "fordlinnet.h"
+
+enum { SLOTS = 3, SIZE = 64, SLOT = 3, LINK = 1 };
+
+struct end {
+    const char *name;
+    uint8_t memory[SLOTS * SIZE];
+    struct fordlinnet_record table[SLOTS];
+    struct fordlinnet_group group;
+    uint32_t token;
+    uint32_t key;
+    uint64_t base;
+};
+
+static struct end left = {.name = "left", .token = 5, .key = 70, .base = 0x10000};
+static struct end right = {.name = "right", .token = 6, .key = 80, .base = 0x20000};
+
+static void expect(int met, const char *what) {
+    if (met) return;
+    printf("not as expected: %s\n", what);
+    exit(1);
+}
+
+static void open_towards(struct end *me, const struct end *peer) {
+    struct fordlinnet_rtoken there = {.key = peer->key, .base = peer->base};
+    struct fordlinnet_remote remote = {.size = SIZE, .index = SLOT, .link1 = there, .link2 = there, .link3 = there, .link4 = there};
+    struct fordlinnet_opening opening = {.own = me->token, .peer = peer->token, .link = LINK, .remote = remote};
+    struct fordlinnet_answer a;
+
+    me->group.s = SLOTS;
+    me->group.n = SIZE;
+    me->group.memory = me->memory;
+    me->group.memory_length = sizeof me->memory;
+    me->group.table = me->table;
+    me->group.table_length = SLOTS;
+    fordlinnet_fresh(&me->group, me == &left);
+
+    a = fordlinnet_open(&me->group, SLOT, opening);
+    expect(a.said == FORDLINNET_REFUSED && a.refusal == FORDLINNET_LINK_DOWN, "open is refused while the link is down");
+    a = fordlinnet_link_change(&me->group, LINK, true);
+    expect(a.said == FORDLINNET_ACCEPTED && me->group.links.active[LINK - 1], "the link is active");
+    a = fordlinnet_open(&me->group, SLOT, opening);
+    expect(a.said == FORDLINNET_ACCEPTED && me->table[SLOT - 1].id.opened, "the slot is open");
+    printf("%s: slot %d is open\n", me->name, SLOT);
+}
+
+/* The offset in the peer's element that a placing's address means. */
+static uint32_t offset_at(const struct end *peer, uint32_t key, uint64_t address) {
+    expect(key == peer->key, "the peer's key");
+    return (uint32_t)(address - peer->base - (SLOT - 1) * SIZE);
+}
+
+static void place(struct end *peer, uint32_t key, uint64_t address, const uint8_t *bytes, uint32_t length) {
+    struct fordlinnet_answer a = fordlinnet_place(&peer->group, SLOT, offset_at(peer, key, address), bytes, length);
+    expect(a.said == FORDLINNET_ACCEPTED, "the bytes are placed");
+    printf("%s: %u bytes are placed\n", peer->name, (unsigned)length);
+}
+
+/* What the card and the network do: the bytes first, then the message. */
+static void carry(struct end *peer, struct fordlinnet_answer a, const uint8_t *bytes) {
+    if (a.placings > 0) place(peer, a.first.key, a.first.address, bytes + a.first.start, a.first.len);
+    if (a.placings > 1) place(peer, a.second.key, a.second.address, bytes + a.second.start, a.second.len);
+    if (a.made) {
+        struct fordlinnet_answer h = fordlinnet_hear(&peer->group, a.message, sizeof a.message);
+        expect(h.said == FORDLINNET_HEARD, "the message is heard");
+        printf("%s: heard, the producer moved by %u, state %u\n", peer->name, (unsigned)h.moved, (unsigned)h.state);
+        if (h.made) carry(peer == &left ? &right : &left, h, bytes);
+    }
+}
+
+static void read_all(struct end *me, const char *wanted) {
+    uint8_t out[32];
+    struct fordlinnet_answer a;
+    memset(out, '.', sizeof out);
+    a = fordlinnet_read(&me->group, SLOT, out, sizeof out);
+    expect(a.said == FORDLINNET_WAS_READ && a.n == strlen(wanted) && memcmp(out, wanted, a.n) == 0, wanted);
+    expect(a.n == sizeof out || out[a.n] == '.', "out beyond n stays");
+    printf("%s: read %u bytes, \"%.*s\"\n", me->name, (unsigned)a.n, (int)a.n, (const char *)out);
+    carry(me == &left ? &right : &left, a, out);
+}
+
+static const uint8_t *text(const char *s) { return (const uint8_t *)s; }
+
+/* A head and a body as if joined; the pieces are asked for one at a time. */
+static void gather(struct end *me, struct end *peer, const char *head, const char *body) {
+    struct fordlinnet_gathered g = fordlinnet_gather(&me->group, SLOT, text(head), strlen(head), text(body), strlen(body));
+    uint32_t k = 0, count = 0;
+    expect(g.answer.said == FORDLINNET_GATHERED && g.answer.n == strlen(head) + strlen(body), "all bytes are taken");
+    for (;;) {
+        struct fordlinnet_piece p =
+            fordlinnet_next_piece(text(head), strlen(head), text(body), strlen(body), g.found, g.answer.n, k);
+        if (p.len == 0) break;
+        place(peer, p.key, p.address, text(p.buffer == FORDLINNET_HEAD ? head : body) + p.start, p.len);
+        k += p.len;
+        count++;
+    }
+    expect(k == g.answer.n && count <= 3, "the pieces are n bytes, in three pieces at most");
+    carry(peer, g.answer, text(""));
+}
+
+static void pool_and_gauge(void) {
+    struct fordlinnet_books books = fordlinnet_pool_free();
+    struct fordlinnet_pool_answer a = fordlinnet_pool_take(books, 4), b = fordlinnet_pool_take(a.books, 2), c;
+    struct fordlinnet_answer s;
+    struct fordlinnet_view v;
+    expect(a.said == FORDLINNET_BLOCK && a.start == 0 && b.said == FORDLINNET_BLOCK && b.start == 4, "two blocks");
+    c = fordlinnet_pool_return(b.books, 0, 2);
+    expect(c.said == FORDLINNET_REFUSED && c.refusal == FORDLINNET_NOT_GIVEN_OUT, "another size is not returned");
+    c = fordlinnet_pool_return(b.books, 0, 4);
+    expect(c.said == FORDLINNET_RETURNED && c.books.sizes[0] == 0 && c.books.sizes[4] == 2, "a block is returned");
+
+    expect(fordlinnet_view_link(left.group.links, LINK).health == FORDLINNET_UNHEARD, "a link with no sample");
+    s = fordlinnet_sample(&left.group, LINK, 12);
+    expect(s.said == FORDLINNET_SAMPLED && s.health == FORDLINNET_STEADY && s.mean == 12, "a steady link");
+    s = fordlinnet_sample(&left.group, LINK, 90);
+    v = fordlinnet_view_link(left.group.links, LINK);
+    expect(s.health == FORDLINNET_LATE && v.health == FORDLINNET_LATE && v.shown == 2 && v.mean == 21.75 && v.worst == 90, "a late link");
+    printf("left: link %d is late, mean %g, worst %g\n", LINK, v.mean, v.worst);
+}
+
+/* The client's Proposal, the server's Accept, the client's Confirm: both ends then have the arguments of an open. */
+static void set_up(void) {
+    struct fordlinnet_settings client = {.size = 65536, .mask = {255, 255, 255, 0}, .masklen = 24, .slot = 3, .own = 5, .link = LINK};
+    struct fordlinnet_settings server = {.size = 65536, .mask = {255, 255, 255, 0}, .masklen = 24, .slot = 2, .own = 6, .link = LINK};
+    struct fordlinnet_setup_answer proposal = fordlinnet_setup(client, FORDLINNET_DUE_NOTHING, 0, 0);
+    struct fordlinnet_setup_answer accept = fordlinnet_setup(server, FORDLINNET_DUE_PROPOSAL, proposal.message, proposal.count);
+    struct fordlinnet_setup_answer confirm = fordlinnet_setup(client, FORDLINNET_DUE_ACCEPT, accept.message, accept.count);
+    struct fordlinnet_setup_answer last = fordlinnet_setup(server, FORDLINNET_DUE_CONFIRM, confirm.message, confirm.count);
+    expect(proposal.said == FORDLINNET_ANSWERED && !proposal.opens && accept.said == FORDLINNET_ANSWERED, "a Proposal, an Accept");
+    expect(confirm.opens && confirm.arguments.token == 6 && confirm.arguments.index == 2, "the client may open");
+    expect(last.opens && last.count == 0 && fordlinnet_opening_of(last.arguments).peer == 5, "the server may open");
+    expect(fordlinnet_setup(client, 9, 0, 0).said == FORDLINNET_UNKNOWN, "no such message due");
+    last = fordlinnet_setup(client, FORDLINNET_DUE_ACCEPT, proposal.message, proposal.count);
+    expect(last.said == FORDLINNET_REFUSED && last.refusal == FORDLINNET_SETUP_NOT_DUE, "a Proposal is not due");
+    printf("set-up: %zu, %zu and %zu bytes\n", proposal.count, accept.count, confirm.count);
+}
+
+/* What the network does with a link message. */
+static struct fordlinnet_link_answer cross(struct end *peer, uint8_t link, struct fordlinnet_link_answer a) {
+    struct fordlinnet_link_answer h;
+    expect(a.made, "a link message is made");
+    h = fordlinnet_link_message(&peer->group, link, a.message, sizeof a.message);
+    expect(h.said == FORDLINNET_LINK_HEARD, "a link message is heard");
+    printf("%s: link message %u over link %u, fate %u, stage %u\n", peer->name, (unsigned)h.fields.kind, (unsigned)link, (unsigned)h.fate,
+           (unsigned)h.links.exchange.stage);
+    return h;
+}
+
+static struct fordlinnet_link_answer say(struct end *me, uint8_t link, struct fordlinnet_fields fields) {
+    struct fordlinnet_link_answer a = fordlinnet_link_send(&me->group, link, fields);
+    expect(a.said == FORDLINNET_LINK_SENT && a.made && a.message[0] == fields.kind, "a link message is sent");
+    return a;
+}
+
+/* TEST LINK is answered by a reply. The server adds link 2: ADD LINK and its reply over link 1, CONFIRM LINK and its reply over link 2. A
+ * DELETE LINK that the client asks for meanwhile waits, and is taken up when link 2 is active. */
+static void link_messages(void) {
+    struct fordlinnet_fields test = {FORDLINNET_TEST_LINK, {0, 7, 8}};
+    struct fordlinnet_fields add = {FORDLINNET_ADD_LINK, {0, 0, 0, 0xA1, 1, 2, 9, 2, 3, 4}};
+    struct fordlinnet_fields added = {FORDLINNET_ADD_LINK, {1, 0, 0, 0xB1, 3, 4, 8, 2, 3, 5}};
+    struct fordlinnet_fields confirm = {FORDLINNET_CONFIRM_LINK, {0, 0xA1, 1, 2, 9, 2, 6, 4}};
+    struct fordlinnet_fields confirmed = {FORDLINNET_CONFIRM_LINK, {1, 0xB1, 3, 4, 8, 2, 7, 4}};
+    struct fordlinnet_fields remove = {FORDLINNET_DELETE_LINK, {0, 0, 1, 2, 0}};
+    struct fordlinnet_fields no_kind = {5, {0}};
+    struct fordlinnet_link_answer a, h;
+
+    a = say(&left, LINK, test);
+    h = cross(&right, LINK, a);
+    expect(h.made && h.message[3] == 0x80 && h.fields.values[1] == 7 && h.fields.values[2] == 8, "a reply to TEST LINK");
+    a = fordlinnet_link_message(&right.group, LINK, a.message, 43);
+    expect(a.said == FORDLINNET_REFUSED && a.refusal == FORDLINNET_MALFORMED && !a.made, "43 bytes are no link message");
+    a = fordlinnet_link_send(&left.group, LINK, no_kind);
+    expect(a.said == FORDLINNET_UNKNOWN && !a.made, "05 is no named kind");
+    a = fordlinnet_link_send(&right.group, LINK, added);
+    expect(a.said == FORDLINNET_REFUSED && a.refusal == FORDLINNET_BARRED, "a reply that nobody asked for");
+
+    cross(&right, LINK, say(&left, LINK, add));
+    a = fordlinnet_link_send(&left.group, 2, confirm);
+    expect(a.said == FORDLINNET_REFUSED && a.refusal == FORDLINNET_BARRED, "CONFIRM LINK before the reply to ADD LINK");
+    h = cross(&left, LINK, say(&right, LINK, remove));
+    expect(h.fate == FORDLINNET_QUEUED && left.group.links.queue.count == 1, "a DELETE LINK waits");
+    cross(&left, LINK, say(&right, LINK, added));
+    cross(&right, 2, say(&left, 2, confirm));
+    a = say(&right, 2, confirmed);
+    expect(right.group.links.active[1], "link 2 is active at the client");
+    h = cross(&left, 2, a);
+    expect(left.group.links.active[1] && left.group.links.exchange.stage == 0, "link 2 is active at the server");
+    expect(h.up.some && h.up.link == LINK && h.up.fields.kind == FORDLINNET_DELETE_LINK && h.up.fate == FORDLINNET_TAKEN,
+           "the DELETE LINK is taken up");
+    expect(left.group.links.queue.count == 0, "none waits");
+    printf("link 2 is active; a DELETE LINK is taken up\n");
+}
+
+/* A connection that is aborted is freed. */
+static void abort_and_free(void) {
+    struct fordlinnet_answer a;
+    open_towards(&left, &right);
+    a = fordlinnet_free(&left.group, SLOT);
+    expect(a.refusal == FORDLINNET_STATE_FORBIDS, "an active connection is not freed");
+    a = fordlinnet_abort(&left.group, SLOT);
+    expect(a.said == FORDLINNET_ACCEPTED && a.made, "A is sent");
+    a = fordlinnet_free(&left.group, SLOT);
+    expect(a.said == FORDLINNET_ACCEPTED && !a.made && !left.table[SLOT - 1].id.opened, "an aborted one is");
+    printf("left: aborted and freed\n");
+}
+
+/* A close with unread bytes resets the connection; an element whose eye catcher is damaged is torn. */
+static void reset_and_torn(void) {
+    struct fordlinnet_answer a;
+    open_towards(&left, &right);
+    open_towards(&right, &left);
+    carry(&right, fordlinnet_send(&left.group, SLOT, text("unread"), 6), text("unread"));
+    a = fordlinnet_close(&right.group, SLOT);
+    expect(a.said == FORDLINNET_RESET && a.made, "unread bytes");
+    left.memory[(SLOT - 1) * SIZE] ^= 1;
+    a = fordlinnet_read(&left.group, SLOT, 0, 0);
+    expect(a.said == FORDLINNET_TORN && a.made, "a damaged eye catcher");
+    a = fordlinnet_hear(&left.group, a.message, 43);
+    expect(a.said == FORDLINNET_REFUSED && a.refusal == FORDLINNET_MALFORMED, "43 bytes are no message");
+    printf("right: reset; left: torn\n");
+}
+
+int main(void) {
+    struct fordlinnet_answer a;
+    static struct fordlinnet_record before[SLOTS];
+
+    open_towards(&left, &right);
+    open_towards(&right, &left);
+
+    a = fordlinnet_send(&left.group, SLOT, text("a chart"), 7);
+    expect(a.said == FORDLINNET_SENT && a.n == 7 && a.placings == 1 && a.made, "seven bytes are sent");
+    carry(&right, a, text("a chart"));
+    read_all(&right, "a chart");
+
+    /* of 60 data bytes 54 are used once these are read: of the next the head's first six lie before the element's end, the rest wraps */
+    gather(&left, &right, "head of 20 bytes ...", "and a body of 27 bytes ....");
+    read_all(&right, "head of 20 bytes ...and a body o");
+    read_all(&right, "f 27 bytes ....");
+    gather(&left, &right, "a wrap in the head, ", "an end");
+    read_all(&right, "a wrap in the head, an end");
+
+    a = fordlinnet_urgent_send(&right.group, SLOT, text("!"), 1);
+    expect(a.said == FORDLINNET_SENT && a.n == 1, "an urgent byte");
+    carry(&left, a, text("!"));
+    read_all(&left, "!");
+
+    /* an unknown number changes nothing */
+    memcpy(before, left.table, sizeof before);
+    a = fordlinnet_call(&left.group, fordlinnet_command_of(99, SLOT), 0, 0, 0, 0);
+    expect(a.said == FORDLINNET_UNKNOWN && !a.made && memcmp(before, left.table, sizeof before) == 0, "an unknown number");
+
+    pool_and_gauge();
+    set_up();
+    link_messages();
+
+    a = fordlinnet_shutdown(&left.group, SLOT);
+    expect(a.said == FORDLINNET_ACCEPTED && a.made, "D is sent");
+    carry(&right, a, 0);
+    a = fordlinnet_send(&left.group, SLOT, text("x"), 1);
+    expect(a.refusal == FORDLINNET_STATE_FORBIDS, "no send after D");
+    a = fordlinnet_close(&right.group, SLOT);
+    expect(a.said == FORDLINNET_ACCEPTED && a.made, "C is sent");
+    carry(&left, a, 0);
+    a = fordlinnet_close(&left.group, SLOT);
+    expect(a.said == FORDLINNET_ACCEPTED && a.made, "C is sent");
+    carry(&right, a, 0);
+    expect(!left.table[SLOT - 1].id.opened && !right.table[SLOT - 1].id.opened, "both slots are closed");
+    printf("both ends are closed\n");
+
+    abort_and_free();
+    reset_and_torn();
+    return 0;
+}

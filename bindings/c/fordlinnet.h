@@ -1,0 +1,667 @@
+/*
+ * Fordlinnet, the SMC-R core (RFC 7609): the proved calls for C and C++. x86-64 Linux; link with libexports.a (`rt staticlib exports`).
+ *
+ * A group is S elements of N bytes of receive memory, a table of S records, and four links with a gauge each, our role, the exchange of
+ * link messages that runs, and those that wait for its end. The caller owns all of it and lends it to every call (struct
+ * fordlinnet_group); no call keeps a pointer, allocates, or knows a group beyond what it is lent. Every call comes back, whatever numbers,
+ * bytes, records and memory it is lent. Asked of the caller is only what C's types cannot say:
+ *
+ *   - a pointer is valid for its length, and not null even where that is 0; a table's is aligned as its struct is;
+ *   - memory, table and out bytes overlap neither each other nor bytes lent for reading, and no other thread touches them meanwhile;
+ *   - a bool handed in, in a record or in links too, is 0 or 1.
+ *
+ * A refused call leaves memory, table, links and out bytes as they were, and its answer has said == FORDLINNET_REFUSED and the number in
+ * refusal. What a message's bytes are for (made == true: 44 bytes in message) is the caller's: they go to the peer over the
+ * connection's link, and a link message's reply over the link that it came from.
+ */
+#ifndef FORDLINNET_H
+#define FORDLINNET_H
+
+#include <stdbool.h>
+#include <stddef.h>
+#include <stdint.h>
+
+#ifdef __cplusplus
+extern "C" {
+#endif
+
+/* THE NUMBERS */
+
+/* What a command asks (fordlinnet_command.number). Any other number: the answer says FORDLINNET_UNKNOWN, and nothing changes. */
+enum {
+    FORDLINNET_OPEN = 1,         /* slot, opening */
+    FORDLINNET_FREE = 2,         /* slot */
+    FORDLINNET_LINK_CHANGE = 3,  /* link, up */
+    FORDLINNET_SAMPLE = 4,       /* link, ms */
+    FORDLINNET_SEND = 5,         /* slot; bytes */
+    FORDLINNET_URGENT_SEND = 6,  /* slot; bytes */
+    FORDLINNET_PLACE = 7,        /* slot, offset; bytes */
+    FORDLINNET_READ = 8,         /* slot; out */
+    FORDLINNET_SHUTDOWN = 9,     /* slot */
+    FORDLINNET_CLOSE = 10,       /* slot */
+    FORDLINNET_ABORT = 11,       /* slot */
+    FORDLINNET_HEAR = 12         /* bytes */
+};
+
+/* What an answer says, and the fields that then hold something; all others are zero. In every answer of a group's call `links` holds the
+ * links as they are now, and `message` the 44 bytes where `made`. */
+enum {
+    FORDLINNET_UNKNOWN = 0,   /* the number handed in is none of those above (set-up: of the messages due) */
+    FORDLINNET_REFUSED = 1,   /* refusal */
+    FORDLINNET_ACCEPTED = 2,  /* nothing beside the message, where one is made */
+    FORDLINNET_SENT = 3,      /* n bytes taken; placings: 0, 1 or 2 of first and second */
+    FORDLINNET_GATHERED = 4,  /* n bytes taken; ask fordlinnet_piece for the pieces */
+    FORDLINNET_WAS_READ = 5,  /* n bytes now stand at the front of out */
+    FORDLINNET_TORN = 6,      /* read: the eye catcher is damaged; an abort message is made */
+    FORDLINNET_HEARD = 7,     /* moved: how far the peer's producer moved; state */
+    FORDLINNET_RESET = 8,     /* close with unread bytes; an abort message is made */
+    FORDLINNET_SAMPLED = 9,   /* health; mean where steady or late; worst where late */
+    FORDLINNET_BLOCK = 10,    /* pool: the block given out starts at unit start */
+    FORDLINNET_RETURNED = 11, /* pool: the block's units are free */
+    FORDLINNET_ANSWERED = 12, /* set-up: see fordlinnet_setup_answer */
+    FORDLINNET_LINK_HEARD = 13, /* link message: see fordlinnet_link_answer */
+    FORDLINNET_LINK_SENT = 14   /* link send: the same */
+};
+
+/* The refusals of a group's calls and of the pool's, each given exactly when: */
+enum {
+    FORDLINNET_WRONG_SIZES = 1,    /* S, N, the memory's length or the table's is wrong */
+    FORDLINNET_NOT_OPEN = 2,       /* slot outside 1 to S, or closed (for open: outside only) */
+    FORDLINNET_INCOHERENT = 3,     /* the open record is not coherent; pool: books with blocks that overlap, leave the pool, have another
+                                      size or start off a multiple of theirs */
+    FORDLINNET_MALFORMED = 4,      /* bytes are not 44; byte 0 is not FE (hear), or unknown or FE (link message); byte 1 is not 2C
+                                      (optional link messages aside) */
+    FORDLINNET_NO_TOKEN = 5,       /* no open slot has the token, or it is 0 */
+    FORDLINNET_LINK_DOWN = 6,      /* the connection's or named link is down; not for 01 on the link being added */
+    FORDLINNET_STATE_FORBIDS = 7,  /* the state forbids: a send of any kind after D, C or A sent or C heard; place after A sent or D or C
+                                      heard; read after C or A sent; shutdown after D, C or A sent; close after C or A sent; abort after A
+                                      sent; free outside PeerAbortWait */
+    FORDLINNET_CURSOR_RULE = 8,    /* a cursor rule of hear is broken */
+    FORDLINNET_NOT_FREE = 9,       /* a placed byte is outside the data or not free */
+    FORDLINNET_ALREADY_OPEN = 10,  /* open: slot already open */
+    FORDLINNET_TOKEN_HELD = 11,    /* open: own token held by another open slot */
+    FORDLINNET_BAD_OPENING = 12,   /* open: a zero token, N' or the index out of range, or an element whose last byte would pass the top of
+                                      64 bits on any link */
+    FORDLINNET_NO_LINK = 13,       /* link number outside 1 to 4 */
+    FORDLINNET_CARRIED_LINK = 14,  /* a carried link number acted on is outside 1 to 4 */
+    FORDLINNET_BARRED = 15,        /* a fifth queued message, or a link send barred or replying unasked */
+    FORDLINNET_NOT_NEXT = 16,      /* hear: the sequence number is not the last heard plus one; messages with A, and any after A was sent,
+                                      are exempt */
+    FORDLINNET_NO_SAMPLE = 17,     /* sample: above 60,000 milliseconds */
+    FORDLINNET_NO_SIZE = 18,       /* pool: not 1, 2, 4, 8, 16, 32 or 64 units */
+    FORDLINNET_NO_BLOCK = 19,      /* pool: no block of that size is wholly free and starts at a multiple of it */
+    FORDLINNET_NOT_GIVEN_OUT = 20  /* pool: not given out in that place and size */
+};
+
+/* The refusals of set-up, which has numbers of its own. */
+enum {
+    FORDLINNET_SETUP_NO_CODE = 1,   /* our element size has no code */
+    FORDLINNET_SETUP_NO_MESSAGE = 2, /* the bytes are no message of A.2 */
+    FORDLINNET_SETUP_NOT_DUE = 3    /* a message not due, Decline aside */
+};
+
+/* The states of a connection (RFC 7609, Figure 22). */
+enum {
+    FORDLINNET_ACTIVE = 0,
+    FORDLINNET_PEER_CLOSE_WAIT_1 = 1,
+    FORDLINNET_PEER_CLOSE_WAIT_2 = 2,
+    FORDLINNET_APP_CLOSE_WAIT_1 = 3,
+    FORDLINNET_APP_CLOSE_WAIT_2 = 4,
+    FORDLINNET_PEER_ABORT_WAIT = 5,
+    FORDLINNET_CLOSED = 6
+};
+
+/* The health of a link; 0 in an answer that names none. */
+enum {
+    FORDLINNET_UNHEARD = 1, /* no sample */
+    FORDLINNET_STEADY = 2,  /* mean */
+    FORDLINNET_LATE = 3     /* mean, worst */
+};
+
+/* The kinds of link messages, each its byte 0; 0 where none is named. Their values stand in the order of RFC 7609, A.3, R first:
+ * see struct fordlinnet_fields. */
+enum {
+    FORDLINNET_CONFIRM_LINK = 1,              /* R, mac, gid1, gid2, qp, link, user, max */
+    FORDLINNET_ADD_LINK = 2,                  /* R, Z, reason, mac, gid1, gid2, qp, link, mtu, psn */
+    FORDLINNET_ADD_LINK_CONTINUATION = 3,     /* R, link, num, ref1, key1, addr1, ref2, key2, addr2 */
+    FORDLINNET_DELETE_LINK = 4,               /* R, A, O, link, reason */
+    FORDLINNET_CONFIRM_RKEY = 6,              /* R, Z, C, num, key, addr, link1, key1, addr1, link2, key2, addr2 */
+    FORDLINNET_TEST_LINK = 7,                 /* R, user1, user2 */
+    FORDLINNET_CONFIRM_RKEY_CONTINUATION = 8, /* R, Z, num, link1, key1, addr1, link2, key2, addr2, link3, key3, addr3 */
+    FORDLINNET_DELETE_RKEY = 9                /* R, Z, count, mask, key1 to key8 */
+};
+
+/* The fate of a link message; 0 where none is named. */
+enum { FORDLINNET_TAKEN = 1, FORDLINNET_QUEUED = 2, FORDLINNET_DENIED = 3, FORDLINNET_DROPPED = 4 };
+
+/* The message due in set-up. */
+enum {
+    FORDLINNET_DUE_NOTHING = 0, /* the client's start; the bytes are not looked at */
+    FORDLINNET_DUE_PROPOSAL = 1,
+    FORDLINNET_DUE_ACCEPT = 2,
+    FORDLINNET_DUE_CONFIRM = 3
+};
+
+/* The buffer of a piece. */
+enum { FORDLINNET_HEAD = 0, FORDLINNET_BODY = 1 };
+
+/* THE STRUCTS, as the proved side has them */
+
+/* A cursor: an offset in an element, 4 to N-1, and a wrap number. */
+struct fordlinnet_cursor {
+    uint32_t offset;
+    uint16_t wrap;
+};
+
+/* One side's close marks: D done writing, C closed. */
+struct fordlinnet_side {
+    bool done;
+    bool closed;
+};
+
+struct fordlinnet_marks {
+    struct fordlinnet_side sent;
+    struct fordlinnet_side heard;
+    bool first; /* ours came first */
+    bool abort; /* A sent */
+};
+
+/* Whether the slot is open, both alert tokens, and the connection's link, 1 to 4. */
+struct fordlinnet_identity {
+    bool opened;
+    uint32_t own;
+    uint32_t peer;
+    uint8_t link;
+};
+
+/* The peer's memory on one link: its key, and the address of its first byte. */
+struct fordlinnet_rtoken {
+    uint32_t key;
+    uint64_t base;
+};
+
+/* The peer's element: N' bytes (8 to 65,540), number `index` (1 to 255) of its memory, and that memory on each link. */
+struct fordlinnet_remote {
+    uint32_t size;
+    uint32_t index;
+    struct fordlinnet_rtoken link1;
+    struct fordlinnet_rtoken link2;
+    struct fordlinnet_rtoken link3;
+    struct fordlinnet_rtoken link4;
+};
+
+/* An urgent place, one byte beyond the urgent bytes; all zeros where none stands. */
+struct fordlinnet_urgent {
+    bool standing;
+    struct fordlinnet_cursor place;
+};
+
+/* In our element: P the peer's producer as last heard, C our consumer, T the consumer last told; the last sequence number heard; B and R of
+ * the last message heard; the urgent place. */
+struct fordlinnet_inbound {
+    struct fordlinnet_cursor producer;
+    struct fordlinnet_cursor consumer;
+    struct fordlinnet_cursor told;
+    uint16_t last;
+    bool blocked;
+    bool request;
+    struct fordlinnet_urgent urgent;
+};
+
+/* In the peer's element: Q our producer, R the peer's consumer as last heard; the next sequence number; our present B; the urgent place. */
+struct fordlinnet_outbound {
+    struct fordlinnet_cursor producer;
+    struct fordlinnet_cursor consumer;
+    uint16_t next;
+    bool blocked;
+    struct fordlinnet_urgent urgent;
+};
+
+/* A slot of the table. All zeros is a closed one. Read it freely; calls test every open record that they are lent. */
+struct fordlinnet_record {
+    struct fordlinnet_identity id;
+    struct fordlinnet_remote remote;
+    struct fordlinnet_inbound inbound;
+    struct fordlinnet_outbound outbound;
+    struct fordlinnet_marks marks;
+};
+
+/* A link's gauge: mean and worst answer time in milliseconds, how many samples (8: eight or more), whether the latest was late. */
+struct fordlinnet_gauge {
+    double mean;
+    double worst;
+    uint8_t count;
+    bool late;
+};
+
+/* The exchange of link messages that runs: its stage, 0 where none runs, the link that it is run over, and the link that it names. */
+struct fordlinnet_exchange {
+    uint8_t stage;
+    uint8_t v;
+    uint8_t w;
+};
+
+/* A link message that waits for the exchange's end, as it was heard, and the link that it came over. */
+struct fordlinnet_waiting {
+    uint8_t link;
+    uint8_t bytes[44];
+};
+
+/* Those that wait, oldest first. */
+struct fordlinnet_queue {
+    uint8_t count;
+    struct fordlinnet_waiting places[4];
+};
+
+/* The four links, active or down, and their gauges; link l is entry l - 1. Our role, exchange and queue. */
+struct fordlinnet_links {
+    bool active[4];
+    struct fordlinnet_gauge gauges[4];
+    bool server; /* false: we are the client */
+    struct fordlinnet_exchange exchange;
+    struct fordlinnet_queue queue;
+};
+
+/* What open is given. */
+struct fordlinnet_opening {
+    uint32_t own;
+    uint32_t peer;
+    uint8_t link;
+    struct fordlinnet_remote remote;
+};
+
+/* One of the calls by its number; what the number does not name is not looked at. */
+struct fordlinnet_command {
+    uint32_t number;
+    uint32_t slot;
+    uint32_t offset;
+    uint32_t ms;
+    uint8_t link;
+    bool up;
+    struct fordlinnet_opening opening;
+};
+
+/* Bytes for the card to write: the peer's memory key and an address, a start in the bytes sent, and a length. */
+struct fordlinnet_placing {
+    uint32_t key;
+    uint64_t address;
+    uint32_t start;
+    uint32_t len;
+};
+
+/* The answer of a group's call; what `said` does not name is zero. */
+struct fordlinnet_answer {
+    uint32_t said;
+    uint32_t refusal;
+    uint32_t n;
+    uint32_t state;
+    uint64_t moved;
+    uint32_t health;
+    uint32_t placings; /* how many of first and second */
+    struct fordlinnet_placing first;
+    struct fordlinnet_placing second;
+    double mean;
+    double worst;
+    bool made;
+    uint8_t message[44]; /* zeros where none is made */
+    struct fordlinnet_links links;
+};
+
+/* A link message's kind and values, in the order above; the rest is zero. Of a value only as many bits are written as its field has. */
+struct fordlinnet_fields {
+    uint8_t kind;
+    uint64_t values[12];
+};
+
+/* A message taken up from the queue, where `some`: the link that it came over, its fate and its fields. */
+struct fordlinnet_taken_up {
+    bool some;
+    uint8_t link;
+    uint32_t fate;
+    struct fordlinnet_fields fields;
+};
+
+/* The answer of link message and link send; what `said` does not name is zero. Link message names its fate and its fields, and the reply
+ * where one is made; both name a message taken up when an exchange ends. */
+struct fordlinnet_link_answer {
+    uint32_t said; /* FORDLINNET_UNKNOWN, FORDLINNET_REFUSED, FORDLINNET_LINK_HEARD or FORDLINNET_LINK_SENT */
+    uint32_t refusal;
+    uint32_t fate;
+    struct fordlinnet_fields fields;
+    struct fordlinnet_taken_up up;
+    bool made;
+    uint8_t message[44]; /* zeros where none is made */
+    struct fordlinnet_links links;
+};
+
+/* The answer of a gather, and the record as the call found it, by which fordlinnet_piece cuts the pieces. */
+struct fordlinnet_gathered {
+    struct fordlinnet_answer answer;
+    struct fordlinnet_record found;
+};
+
+/* A piece for the card to write: `len` bytes from `start` of the head or of the body, to a key and an address. */
+struct fordlinnet_piece {
+    uint32_t buffer;
+    uint32_t start;
+    uint32_t len;
+    uint32_t key;
+    uint64_t address;
+};
+
+/* What a console shows of a link: the health, and how many numbers stand behind it, the mean, then the worst. */
+struct fordlinnet_view {
+    uint32_t health;
+    uint32_t shown;
+    double mean;
+    double worst;
+};
+
+/* The books of a pool of 64 units: entry u is the size of the block given out that starts at unit u, 0 where none starts. */
+struct fordlinnet_books {
+    uint8_t sizes[64];
+};
+
+struct fordlinnet_pool_answer {
+    uint32_t said; /* FORDLINNET_REFUSED, FORDLINNET_BLOCK or FORDLINNET_RETURNED */
+    uint32_t refusal;
+    uint32_t start;
+    struct fordlinnet_books books; /* as they are now */
+};
+
+/* Our settings for set-up. */
+struct fordlinnet_settings {
+    uint32_t size; /* N, our element size */
+    uint8_t peer[8];
+    uint8_t gid[16];
+    uint8_t mac[6];
+    uint8_t mask[4];
+    uint8_t masklen;
+    uint8_t count;
+    uint8_t prefixes[136]; /* eight times a prefix of 16 bytes and its length */
+    bool first;
+    uint32_t qp;
+    uint8_t mtu;
+    uint32_t psn;
+    uint32_t key;
+    uint64_t base;
+    uint8_t slot;
+    uint32_t own;
+    uint8_t link;
+    uint32_t key1; /* the peer's memory on the other links; that on `link` is heard */
+    uint64_t base1;
+    uint32_t key2;
+    uint64_t base2;
+    uint32_t key3;
+    uint64_t base3;
+    uint32_t key4;
+    uint64_t base4;
+};
+
+/* The arguments of an open. */
+struct fordlinnet_arguments {
+    uint8_t slot;
+    uint32_t own;
+    uint32_t token;
+    uint8_t link;
+    uint32_t size;
+    uint8_t index;
+    uint32_t key1;
+    uint64_t base1;
+    uint32_t key2;
+    uint64_t base2;
+    uint32_t key3;
+    uint64_t base3;
+    uint32_t key4;
+    uint64_t base4;
+};
+
+/* The answer of set-up. Where said == FORDLINNET_ANSWERED: the message to send is the first `count` bytes of `message`, none where that is
+ * 0; `arguments` are an open's where `opens`; `diagnosis` is a decline's, ours or the peer's, where `declined`. */
+struct fordlinnet_setup_answer {
+    uint32_t said; /* FORDLINNET_UNKNOWN, FORDLINNET_REFUSED or FORDLINNET_ANSWERED */
+    uint32_t refusal;
+    bool opens;
+    bool declined;
+    uint32_t diagnosis;
+    size_t count;
+    struct fordlinnet_arguments arguments;
+    uint8_t message[188];
+};
+
+/* THE PROVED FUNCTIONS */
+
+/* Makes the call that the command names. Every call of a connection and of management but gather, link message and link send;
+ * below each has a function of its own. */
+struct fordlinnet_answer fordlinnet_make(uint32_t s, uint32_t n, uint8_t *memory, size_t memory_length, struct fordlinnet_record *table,
+                                         size_t table_length, struct fordlinnet_links links, struct fordlinnet_command command,
+                                         const uint8_t *bytes, size_t bytes_length, uint8_t *out, size_t out_length);
+
+/* Sends a head and a body as if joined, head first. */
+struct fordlinnet_gathered fordlinnet_make_gather(uint32_t s, uint32_t n, const uint8_t *memory, size_t memory_length,
+                                                  struct fordlinnet_record *table, size_t table_length, struct fordlinnet_links links,
+                                                  uint32_t slot, const uint8_t *head, size_t head_length, const uint8_t *body,
+                                                  size_t body_length);
+
+/* The next piece of a gather that took n bytes and found `found`, where the pieces before it held k bytes. After the last comes one with
+ * len == 0, at the new Q. Ask with k = 0 first, then add each piece's len. */
+struct fordlinnet_piece fordlinnet_next_piece(const uint8_t *head, size_t head_length, const uint8_t *body, size_t body_length,
+                                              struct fordlinnet_record found, uint32_t n, uint32_t k);
+
+/* Link message and link send, which see the links alone. A kind that is none of the messages': the answer says FORDLINNET_UNKNOWN, and
+ * nothing changes. */
+struct fordlinnet_link_answer fordlinnet_make_link_message(struct fordlinnet_links links, uint8_t link, const uint8_t *bytes,
+                                                           size_t bytes_length);
+struct fordlinnet_link_answer fordlinnet_make_link_send(struct fordlinnet_links links, uint8_t link, struct fordlinnet_fields fields);
+
+/* What a console shows of a link; of a number outside 1 to 4 as of a link with no sample. */
+struct fordlinnet_view fordlinnet_view_link(struct fordlinnet_links links, uint8_t link);
+
+/* A fresh group's: a closed record (all zeros), and links that are down with cleared gauges, no exchange and none that
+ * waits, in either role. Its memory is zeros. */
+struct fordlinnet_record fordlinnet_closed_record(void);
+struct fordlinnet_links fordlinnet_links_down(bool server);
+
+/* The pool: books with nothing given out; taking a block of 1, 2, 4, 8, 16, 32 or 64 units, refused with 3, 18, 19; returning one, refused
+ * with 3, 20. */
+struct fordlinnet_books fordlinnet_pool_free(void);
+struct fordlinnet_pool_answer fordlinnet_pool_take(struct fordlinnet_books books, uint32_t units);
+struct fordlinnet_pool_answer fordlinnet_pool_return(struct fordlinnet_books books, uint32_t start, uint32_t units);
+
+/* Setting up a connection: keeps nothing. */
+struct fordlinnet_setup_answer fordlinnet_make_setup(struct fordlinnet_settings settings, uint32_t due, const uint8_t *bytes,
+                                                     size_t bytes_length);
+
+/* For a binding's test: each struct filled so that field i, counted from 1 through structs and arrays as they are declared (an array of
+ * bytes is one field), has i in its lowest and its highest byte (each byte of an array), is i as a double, or as a bool is whether `one`
+ * is i. */
+struct fordlinnet_record fordlinnet_shape_record(uint32_t one);
+struct fordlinnet_links fordlinnet_shape_links(uint32_t one);
+struct fordlinnet_command fordlinnet_shape_command(uint32_t one);
+struct fordlinnet_answer fordlinnet_shape_answer(uint32_t one);
+struct fordlinnet_link_answer fordlinnet_shape_link_answer(uint32_t one);
+struct fordlinnet_gathered fordlinnet_shape_gathered(uint32_t one);
+struct fordlinnet_piece fordlinnet_shape_piece(void);
+struct fordlinnet_view fordlinnet_shape_view(void);
+struct fordlinnet_pool_answer fordlinnet_shape_pool_answer(void);
+struct fordlinnet_settings fordlinnet_shape_settings(uint32_t one);
+struct fordlinnet_setup_answer fordlinnet_shape_setup_answer(uint32_t one);
+
+/* EACH CALL UNDER ITS OWN NAME */
+
+/* A group: what every call is lent. The caller fills it; `links` is brought up to date by each call. */
+struct fordlinnet_group {
+    uint32_t s;                      /* elements and slots, 1 to 255 */
+    uint32_t n;                      /* bytes of an element, 8 to 65,540 */
+    uint8_t *memory;                 /* s x n bytes: element k is its slot's, from byte (k - 1) x n */
+    size_t memory_length;
+    struct fordlinnet_record *table; /* s records: slot k is entry k - 1 */
+    size_t table_length;
+    struct fordlinnet_links links;
+};
+
+/* A fresh group, as client or as server: every slot closed, every link down, no exchange, memory all zeros. */
+static inline void fordlinnet_fresh(struct fordlinnet_group *g, bool server) {
+    size_t i;
+    for (i = 0; i < g->table_length; i++) g->table[i] = fordlinnet_closed_record();
+    for (i = 0; i < g->memory_length; i++) g->memory[i] = 0;
+    g->links = fordlinnet_links_down(server);
+}
+
+static inline struct fordlinnet_command fordlinnet_command_of(uint32_t number, uint32_t slot) {
+    struct fordlinnet_command c;
+    unsigned char *p = (unsigned char *)&c;
+    size_t i;
+    for (i = 0; i < sizeof c; i++) p[i] = 0;
+    c.number = number;
+    c.slot = slot;
+    return c;
+}
+
+static inline struct fordlinnet_answer fordlinnet_call(struct fordlinnet_group *g, struct fordlinnet_command c, const uint8_t *bytes,
+                                                       size_t length, uint8_t *out, size_t room) {
+    uint8_t none[1] = {0}, nowhere[1] = {0};
+    struct fordlinnet_answer a =
+        fordlinnet_make(g->s, g->n, g->memory, g->memory_length, g->table, g->table_length, g->links, c, length ? bytes : none, length,
+                        room ? out : nowhere, room);
+    g->links = a.links;
+    return a;
+}
+
+/* Management */
+
+/* Opens a closed slot: zeroes its element, writes the eye catcher. Refused with 1, 2, 10, 12, 13, 6, 11, tested in this order. */
+static inline struct fordlinnet_answer fordlinnet_open(struct fordlinnet_group *g, uint32_t slot, struct fordlinnet_opening opening) {
+    struct fordlinnet_command c = fordlinnet_command_of(FORDLINNET_OPEN, slot);
+    c.opening = opening;
+    return fordlinnet_call(g, c, 0, 0, 0, 0);
+}
+
+/* Closes a slot in PeerAbortWait. Refused with 1, 2, 3, 7. */
+static inline struct fordlinnet_answer fordlinnet_free(struct fordlinnet_group *g, uint32_t slot) {
+    return fordlinnet_call(g, fordlinnet_command_of(FORDLINNET_FREE, slot), 0, 0, 0, 0);
+}
+
+/* Sets a link, active or down; one that goes down loses its gauge, and ends an exchange that it is part of. Refused with 13. */
+static inline struct fordlinnet_answer fordlinnet_link_change(struct fordlinnet_group *g, uint8_t link, bool up) {
+    struct fordlinnet_command c = fordlinnet_command_of(FORDLINNET_LINK_CHANGE, 0);
+    c.link = link;
+    c.up = up;
+    return fordlinnet_call(g, c, 0, 0, 0, 0);
+}
+
+/* Takes a link message's bytes: its fate by the exchange that runs, the reply where one is due at once, what it does to the links.
+ * Refused with 13, 6, 4, 14, 15. */
+static inline struct fordlinnet_link_answer fordlinnet_link_message(struct fordlinnet_group *g, uint8_t link, const uint8_t *bytes,
+                                                                    size_t length) {
+    uint8_t none[1] = {0};
+    struct fordlinnet_link_answer a = fordlinnet_make_link_message(g->links, link, length ? bytes : none, length);
+    g->links = a.links;
+    return a;
+}
+
+/* Makes a link message's bytes, of its kind and values. Refused with 13, 6, 14, 15. */
+static inline struct fordlinnet_link_answer fordlinnet_link_send(struct fordlinnet_group *g, uint8_t link,
+                                                                 struct fordlinnet_fields fields) {
+    struct fordlinnet_link_answer a = fordlinnet_make_link_send(g->links, link, fields);
+    g->links = a.links;
+    return a;
+}
+
+/* Hands a link's gauge an answer time of TEST LINK in milliseconds. Refused with 13, 6, 17. */
+static inline struct fordlinnet_answer fordlinnet_sample(struct fordlinnet_group *g, uint8_t link, uint32_t ms) {
+    struct fordlinnet_command c = fordlinnet_command_of(FORDLINNET_SAMPLE, 0);
+    c.link = link;
+    c.ms = ms;
+    return fordlinnet_call(g, c, 0, 0, 0, 0);
+}
+
+/* A connection's. Each tests 1, then 2 (hear: 4, 5), 3, 6, 7, 16, 8, 9. */
+
+/* Takes as many bytes as the peer has room for, and none while an urgent place of our own sends stands; the card is to write the placings
+ * before the message goes out. Refused with 1, 2, 3, 6, 7. */
+static inline struct fordlinnet_answer fordlinnet_send(struct fordlinnet_group *g, uint32_t slot, const uint8_t *bytes, size_t length) {
+    return fordlinnet_call(g, fordlinnet_command_of(FORDLINNET_SEND, slot), bytes, length, 0, 0);
+}
+
+/* A send whose end is the urgent place if all bytes are taken. Refused as a send. */
+static inline struct fordlinnet_answer fordlinnet_urgent_send(struct fordlinnet_group *g, uint32_t slot, const uint8_t *bytes,
+                                                              size_t length) {
+    return fordlinnet_call(g, fordlinnet_command_of(FORDLINNET_URGENT_SEND, slot), bytes, length, 0, 0);
+}
+
+/* Sends a head and a body as if joined. Refused as a send of the joined bytes. */
+static inline struct fordlinnet_gathered fordlinnet_gather(struct fordlinnet_group *g, uint32_t slot, const uint8_t *head,
+                                                           size_t head_length, const uint8_t *body, size_t body_length) {
+    uint8_t none[1] = {0};
+    struct fordlinnet_gathered a =
+        fordlinnet_make_gather(g->s, g->n, g->memory, g->memory_length, g->table, g->table_length, g->links, slot,
+                               head_length ? head : none, head_length, body_length ? body : none, body_length);
+    g->links = a.answer.links;
+    return a;
+}
+
+/* What the card does for the peer: stores bytes at an offset of the element. Refused with 1, 2, 3, 6, 7, 9. */
+static inline struct fordlinnet_answer fordlinnet_place(struct fordlinnet_group *g, uint32_t slot, uint32_t offset, const uint8_t *bytes,
+                                                        size_t length) {
+    struct fordlinnet_command c = fordlinnet_command_of(FORDLINNET_PLACE, slot);
+    c.offset = offset;
+    return fordlinnet_call(g, c, bytes, length, 0, 0);
+}
+
+/* Copies the first unread bytes to out, as many as it has room for; the rest of out stays. Refused with 1, 2, 3, 6, 7. */
+static inline struct fordlinnet_answer fordlinnet_read(struct fordlinnet_group *g, uint32_t slot, uint8_t *out, size_t room) {
+    return fordlinnet_call(g, fordlinnet_command_of(FORDLINNET_READ, slot), 0, 0, out, room);
+}
+
+/* Takes a message from the peer, for the slot whose token it carries. Refused with 1, 4, 5, 3, 6, 16, 8. */
+static inline struct fordlinnet_answer fordlinnet_hear(struct fordlinnet_group *g, const uint8_t *bytes, size_t length) {
+    return fordlinnet_call(g, fordlinnet_command_of(FORDLINNET_HEAR, 0), bytes, length, 0, 0);
+}
+
+/* Sends D, done writing. Refused with 1, 2, 3, 6, 7. */
+static inline struct fordlinnet_answer fordlinnet_shutdown(struct fordlinnet_group *g, uint32_t slot) {
+    return fordlinnet_call(g, fordlinnet_command_of(FORDLINNET_SHUTDOWN, slot), 0, 0, 0, 0);
+}
+
+/* Sends C, and closes the slot if C was heard; with unread bytes it resets the connection instead. Refused with 1, 2, 3, 6, 7. */
+static inline struct fordlinnet_answer fordlinnet_close(struct fordlinnet_group *g, uint32_t slot) {
+    return fordlinnet_call(g, fordlinnet_command_of(FORDLINNET_CLOSE, slot), 0, 0, 0, 0);
+}
+
+/* Sends A. Refused with 1, 2, 3, 6, 7. */
+static inline struct fordlinnet_answer fordlinnet_abort(struct fordlinnet_group *g, uint32_t slot) {
+    return fordlinnet_call(g, fordlinnet_command_of(FORDLINNET_ABORT, slot), 0, 0, 0, 0);
+}
+
+/* The message to send, an open's arguments and a diagnosis, or a refusal: of our settings, the message due and the peer's bytes. */
+static inline struct fordlinnet_setup_answer fordlinnet_setup(struct fordlinnet_settings settings, uint32_t due, const uint8_t *bytes,
+                                                              size_t length) {
+    uint8_t none[1] = {0};
+    return fordlinnet_make_setup(settings, due, length ? bytes : none, length);
+}
+
+/* Set-up's arguments as open takes them, beside their slot. */
+static inline struct fordlinnet_opening fordlinnet_opening_of(struct fordlinnet_arguments a) {
+    struct fordlinnet_opening o;
+    o.own = a.own;
+    o.peer = a.token;
+    o.link = a.link;
+    o.remote.size = a.size;
+    o.remote.index = a.index;
+    o.remote.link1.key = a.key1;
+    o.remote.link1.base = a.base1;
+    o.remote.link2.key = a.key2;
+    o.remote.link2.base = a.base2;
+    o.remote.link3.key = a.key3;
+    o.remote.link3.base = a.base3;
+    o.remote.link4.key = a.key4;
+    o.remote.link4.base = a.base4;
+    return o;
+}
+
+#ifdef __cplusplus
+}
+#endif
+
+#endif

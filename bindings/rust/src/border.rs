@@ -1,0 +1,495 @@
+//! The border: the proved functions as the archive exports them, and the only `unsafe` of the crate.
+//!
+//! The proved side asks nothing of the numbers and bytes that it is handed. What it does ask is C's: pointers that are not null and are
+//! valid for their lengths, buffers that do not overlap, and bools that are 0 or 1. Rust's own types keep all of this, and whoever
+//! implements [`Memory`] by hand promises it.
+
+use crate::{Links, Opening, Placing, Record, Role};
+use std::marker::PhantomData;
+
+#[cfg(test)]
+mod shapes;
+
+/// Memory that a group can be lent: S elements of N bytes.
+///
+/// Vectors, boxed slices, arrays and borrowed slices are such memory. [`SharedMemory`] is for memory that others write too, as a card does.
+///
+/// # Safety
+///
+/// The pointer is not null and valid for reading and writing as many bytes as the length says while the value is borrowed, and
+/// overlaps neither the table nor the bytes and buffers that are lent with it.
+pub unsafe trait Memory {
+    /// Where the bytes begin, and how many there are.
+    fn parts(&mut self) -> (*mut u8, usize);
+}
+
+// SAFETY: a slice's pointer is not null, and a mutable borrow of it is alone.
+unsafe impl Memory for [u8] {
+    fn parts(&mut self) -> (*mut u8, usize) {
+        (self.as_mut_ptr(), self.len())
+    }
+}
+
+// SAFETY: as for a slice.
+unsafe impl Memory for Vec<u8> {
+    fn parts(&mut self) -> (*mut u8, usize) {
+        (self.as_mut_ptr(), self.len())
+    }
+}
+
+// SAFETY: as for a slice.
+unsafe impl<const LENGTH: usize> Memory for [u8; LENGTH] {
+    fn parts(&mut self) -> (*mut u8, usize) {
+        (self.as_mut_ptr(), LENGTH)
+    }
+}
+
+// SAFETY: as for what is borrowed.
+unsafe impl<M: Memory + ?Sized> Memory for &mut M {
+    fn parts(&mut self) -> (*mut u8, usize) {
+        (**self).parts()
+    }
+}
+
+// SAFETY: as for what is boxed.
+unsafe impl<M: Memory + ?Sized> Memory for Box<M> {
+    fn parts(&mut self) -> (*mut u8, usize) {
+        (**self).parts()
+    }
+}
+
+/// Memory that others write too: a mapping that the peer's process shares, or memory that a card writes.
+///
+/// No Rust reference to its bytes is ever made. The proofs are about memory that nobody else writes while a call runs. A peer that keeps
+/// the rules writes only free bytes, and a call reads the eye catcher and bytes that were announced, so that they hold beside such a peer
+/// as well; the messages carry the order. Nothing is proved about a peer that writes bytes while they are read.
+#[derive(Debug)]
+pub struct SharedMemory<'a> {
+    start: *mut u8,
+    length: usize,
+    kept: PhantomData<&'a ()>,
+}
+
+impl<'a> SharedMemory<'a> {
+    /// Memory at an address.
+    ///
+    /// # Safety
+    ///
+    /// `start` is not null and valid for reading and writing `length` bytes during `'a`; none of the slices lent to the group's calls
+    /// overlaps them, and no reference to any of them is held while a call runs.
+    pub unsafe fn new(start: *mut u8, length: usize) -> SharedMemory<'a> {
+        SharedMemory { start, length, kept: PhantomData }
+    }
+}
+
+// SAFETY: the bytes belong to no thread, and a call has the value alone.
+unsafe impl Send for SharedMemory<'_> {}
+
+// SAFETY: promised to `new`.
+unsafe impl Memory for SharedMemory<'_> {
+    fn parts(&mut self) -> (*mut u8, usize) {
+        (self.start, self.length)
+    }
+}
+
+/// What a command asks.
+#[derive(Clone, Copy)]
+#[repr(u32)]
+pub(crate) enum Number {
+    Open = 1,
+    Free = 2,
+    LinkChange = 3,
+    Sample = 4,
+    Send = 5,
+    UrgentSend = 6,
+    Place = 7,
+    Read = 8,
+    Shutdown = 9,
+    Close = 10,
+    Abort = 11,
+    Hear = 12,
+}
+
+/// What an answer says, as far as it is looked at.
+pub(crate) mod said {
+    pub const REFUSED: u32 = 1;
+    pub const SENT: u32 = 3;
+    pub const GATHERED: u32 = 4;
+    pub const WAS_READ: u32 = 5;
+    pub const TORN: u32 = 6;
+    pub const HEARD: u32 = 7;
+    pub const RESET: u32 = 8;
+    pub const LINK_HEARD: u32 = 13;
+    pub const LINK_SENT: u32 = 14;
+}
+
+/// The buffer of a piece; the body is any other.
+pub(crate) const HEAD: u32 = 0;
+
+/// The health of a link; any other number is a link that was not heard.
+pub(crate) mod health {
+    pub const STEADY: u32 = 2;
+    pub const LATE: u32 = 3;
+}
+
+/// Any one call but gather, link message and link send, with its numbers.
+#[derive(Clone, Copy, Default)]
+#[cfg_attr(test, derive(Debug, PartialEq))]
+#[repr(C)]
+pub(crate) struct Command {
+    pub number: u32,
+    pub slot: u32,
+    pub offset: u32,
+    pub ms: u32,
+    pub link: u8,
+    pub up: bool,
+    pub opening: Opening,
+}
+
+/// The answer of a group's call; what `said` does not name is zero.
+#[derive(Clone, Copy)]
+#[cfg_attr(test, derive(Debug, PartialEq))]
+#[repr(C)]
+pub(crate) struct Answer {
+    pub said: u32,
+    pub refusal: u32,
+    pub n: u32,
+    pub state: u32,
+    pub moved: u64,
+    pub health: u32,
+    pub placings: u32,
+    pub both: [Placing; 2],
+    pub mean: f64,
+    pub worst: f64,
+    pub made: bool,
+    pub message: [u8; 44],
+    pub links: Links,
+}
+
+/// The answer of a gather, and the record that it found.
+#[derive(Clone, Copy)]
+#[cfg_attr(test, derive(Debug, PartialEq))]
+#[repr(C)]
+pub(crate) struct GatheredAnswer {
+    pub answer: Answer,
+    pub found: Record,
+}
+
+/// A link message's kind, by its first byte, and its values in row order; kind 0 and zeros are none.
+#[derive(Clone, Copy)]
+#[cfg_attr(test, derive(Debug, PartialEq))]
+#[repr(C)]
+pub(crate) struct RawFields {
+    pub kind: u8,
+    pub values: [u64; 12],
+}
+
+/// A message taken up from the queue; zeros where none was.
+#[derive(Clone, Copy)]
+#[cfg_attr(test, derive(Debug, PartialEq))]
+#[repr(C)]
+pub(crate) struct RawTakenUp {
+    pub some: bool,
+    pub link: u8,
+    pub fate: u32,
+    pub fields: RawFields,
+}
+
+/// The answer of link message and link send.
+#[derive(Clone, Copy)]
+#[cfg_attr(test, derive(Debug, PartialEq))]
+#[repr(C)]
+pub(crate) struct RawLinkAnswer {
+    pub said: u32,
+    pub refusal: u32,
+    pub fate: u32,
+    pub fields: RawFields,
+    pub up: RawTakenUp,
+    pub made: bool,
+    pub message: [u8; 44],
+    pub links: Links,
+}
+
+/// A part of the head (buffer 0) or of the body (1), and where it goes.
+#[derive(Clone, Copy)]
+#[cfg_attr(test, derive(Debug, PartialEq))]
+#[repr(C)]
+pub(crate) struct RawPiece {
+    pub buffer: u32,
+    pub start: u32,
+    pub len: u32,
+    pub key: u32,
+    pub address: u64,
+}
+
+/// What a console shows of a link.
+#[derive(Clone, Copy)]
+#[cfg_attr(test, derive(Debug, PartialEq))]
+#[repr(C)]
+pub(crate) struct View {
+    pub health: u32,
+    pub shown: u32,
+    pub mean: f64,
+    pub worst: f64,
+}
+
+/// The pool's books.
+#[derive(Clone, Copy)]
+#[cfg_attr(test, derive(Debug, PartialEq))]
+#[repr(C)]
+pub(crate) struct RawBooks {
+    pub sizes: [u8; 64],
+}
+
+/// The answer of a call on the pool's books.
+#[derive(Clone, Copy)]
+#[cfg_attr(test, derive(Debug, PartialEq))]
+#[repr(C)]
+pub(crate) struct PoolAnswer {
+    pub said: u32,
+    pub refusal: u32,
+    pub start: u32,
+    pub books: RawBooks,
+}
+
+/// Our settings for set-up, in the proved side's layout.
+#[derive(Clone, Copy)]
+#[cfg_attr(test, derive(Debug, PartialEq))]
+#[repr(C)]
+pub(crate) struct RawSettings {
+    pub size: u32,
+    pub peer: [u8; 8],
+    pub gid: [u8; 16],
+    pub mac: [u8; 6],
+    pub mask: [u8; 4],
+    pub masklen: u8,
+    pub count: u8,
+    pub prefixes: [u8; 136],
+    pub first: bool,
+    pub qp: u32,
+    pub mtu: u8,
+    pub psn: u32,
+    pub key: u32,
+    pub base: u64,
+    pub slot: u8,
+    pub own: u32,
+    pub link: u8,
+    pub key1: u32,
+    pub base1: u64,
+    pub key2: u32,
+    pub base2: u64,
+    pub key3: u32,
+    pub base3: u64,
+    pub key4: u32,
+    pub base4: u64,
+}
+
+/// The arguments of an open, as set-up gives them.
+#[derive(Clone, Copy)]
+#[cfg_attr(test, derive(Debug, PartialEq))]
+#[repr(C)]
+pub(crate) struct Arguments {
+    pub slot: u8,
+    pub own: u32,
+    pub token: u32,
+    pub link: u8,
+    pub size: u32,
+    pub index: u8,
+    pub key1: u32,
+    pub base1: u64,
+    pub key2: u32,
+    pub base2: u64,
+    pub key3: u32,
+    pub base3: u64,
+    pub key4: u32,
+    pub base4: u64,
+}
+
+/// The answer of set-up.
+#[derive(Clone, Copy)]
+#[cfg_attr(test, derive(Debug, PartialEq))]
+#[repr(C)]
+pub(crate) struct SetupAnswer {
+    pub said: u32,
+    pub refusal: u32,
+    pub opens: bool,
+    pub declined: bool,
+    pub diagnosis: u32,
+    pub count: usize,
+    pub arguments: Arguments,
+    pub message: [u8; 188],
+}
+
+extern "C" {
+    fn fordlinnet_make(
+        s: u32,
+        n: u32,
+        memory: *mut u8,
+        memory_length: usize,
+        table: *mut Record,
+        table_length: usize,
+        links: Links,
+        command: Command,
+        bytes: *const u8,
+        bytes_length: usize,
+        out: *mut u8,
+        out_length: usize,
+    ) -> Answer;
+
+    fn fordlinnet_make_gather(
+        s: u32,
+        n: u32,
+        memory: *const u8,
+        memory_length: usize,
+        table: *mut Record,
+        table_length: usize,
+        links: Links,
+        slot: u32,
+        head: *const u8,
+        head_length: usize,
+        body: *const u8,
+        body_length: usize,
+    ) -> GatheredAnswer;
+
+    fn fordlinnet_next_piece(
+        head: *const u8,
+        head_length: usize,
+        body: *const u8,
+        body_length: usize,
+        found: Record,
+        n: u32,
+        k: u32,
+    ) -> RawPiece;
+
+    fn fordlinnet_make_link_message(links: Links, link: u8, bytes: *const u8, bytes_length: usize) -> RawLinkAnswer;
+    fn fordlinnet_make_link_send(links: Links, link: u8, fields: RawFields) -> RawLinkAnswer;
+    fn fordlinnet_view_link(links: Links, link: u8) -> View;
+    fn fordlinnet_closed_record() -> Record;
+    fn fordlinnet_links_down(server: bool) -> Links;
+    fn fordlinnet_pool_free() -> RawBooks;
+    fn fordlinnet_pool_take(books: RawBooks, units: u32) -> PoolAnswer;
+    fn fordlinnet_pool_return(books: RawBooks, start: u32, units: u32) -> PoolAnswer;
+    fn fordlinnet_make_setup(settings: RawSettings, due: u32, bytes: *const u8, bytes_length: usize) -> SetupAnswer;
+}
+
+/// What a group lends to every call, its links aside.
+pub(crate) struct Lent<'a, M: ?Sized> {
+    pub s: u32,
+    pub n: u32,
+    pub memory: &'a mut M,
+    pub table: &'a mut [Record],
+}
+
+/// Makes any one call but gather, link message and link send. The links are brought up to date.
+#[inline]
+pub(crate) fn make<M: Memory + ?Sized>(lent: Lent<'_, M>, links: &mut Links, command: Command, bytes: &[u8], out: &mut [u8]) -> Answer {
+    let (memory, length) = lent.memory.parts();
+    // SAFETY: slices and `Memory` give pointers that are valid for their lengths and not null; mutable borrows do not overlap.
+    let answer = unsafe {
+        fordlinnet_make(
+            lent.s,
+            lent.n,
+            memory,
+            length,
+            lent.table.as_mut_ptr(),
+            lent.table.len(),
+            *links,
+            command,
+            bytes.as_ptr(),
+            bytes.len(),
+            out.as_mut_ptr(),
+            out.len(),
+        )
+    };
+    *links = answer.links;
+    answer
+}
+
+/// Sends a head and a body as if joined.
+#[inline]
+pub(crate) fn gather<M: Memory + ?Sized>(lent: Lent<'_, M>, links: &mut Links, slot: u32, head: &[u8], body: &[u8]) -> GatheredAnswer {
+    let (memory, length) = lent.memory.parts();
+    // SAFETY: as in `make`.
+    let gathered = unsafe {
+        fordlinnet_make_gather(
+            lent.s,
+            lent.n,
+            memory,
+            length,
+            lent.table.as_mut_ptr(),
+            lent.table.len(),
+            *links,
+            slot,
+            head.as_ptr(),
+            head.len(),
+            body.as_ptr(),
+            body.len(),
+        )
+    };
+    *links = gathered.answer.links;
+    gathered
+}
+
+/// The next piece of a gather that took n bytes, where the pieces before held k.
+pub(crate) fn piece(head: &[u8], body: &[u8], found: &Record, n: u32, k: u32) -> RawPiece {
+    // SAFETY: the pointers are those of slices.
+    unsafe { fordlinnet_next_piece(head.as_ptr(), head.len(), body.as_ptr(), body.len(), *found, n, k) }
+}
+
+/// Takes a link message's bytes.
+pub(crate) fn link_message(links: &mut Links, link: u8, bytes: &[u8]) -> RawLinkAnswer {
+    // SAFETY: values, and a slice's pointer.
+    let answer = unsafe { fordlinnet_make_link_message(*links, link, bytes.as_ptr(), bytes.len()) };
+    *links = answer.links;
+    answer
+}
+
+/// Sends a link message.
+pub(crate) fn link_send(links: &mut Links, link: u8, fields: RawFields) -> RawLinkAnswer {
+    // SAFETY: values alone.
+    let answer = unsafe { fordlinnet_make_link_send(*links, link, fields) };
+    *links = answer.links;
+    answer
+}
+
+/// What a console shows of a link.
+pub(crate) fn view(links: &Links, link: u8) -> View {
+    // SAFETY: values alone.
+    unsafe { fordlinnet_view_link(*links, link) }
+}
+
+/// A closed slot's record.
+pub(crate) fn closed_record() -> Record {
+    // SAFETY: values alone.
+    unsafe { fordlinnet_closed_record() }
+}
+
+/// A fresh group's links.
+pub(crate) fn links_down(role: Role) -> Links {
+    // SAFETY: values alone.
+    unsafe { fordlinnet_links_down(role == Role::Server) }
+}
+
+/// Books with nothing given out.
+pub(crate) fn pool_free() -> RawBooks {
+    // SAFETY: values alone.
+    unsafe { fordlinnet_pool_free() }
+}
+
+/// Takes a block from the pool.
+pub(crate) fn pool_take(books: RawBooks, units: u32) -> PoolAnswer {
+    // SAFETY: values alone.
+    unsafe { fordlinnet_pool_take(books, units) }
+}
+
+/// Returns a block to the pool.
+pub(crate) fn pool_return(books: RawBooks, start: u32, units: u32) -> PoolAnswer {
+    // SAFETY: values alone.
+    unsafe { fordlinnet_pool_return(books, start, units) }
+}
+
+/// Sets up a connection.
+pub(crate) fn setup(settings: &RawSettings, due: u32, bytes: &[u8]) -> SetupAnswer {
+    // SAFETY: values, and a slice's pointer.
+    unsafe { fordlinnet_make_setup(*settings, due, bytes.as_ptr(), bytes.len()) }
+}

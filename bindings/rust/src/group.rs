@@ -1,0 +1,489 @@
+//! A group, and its calls.
+
+use crate::border::{self, health, said, Answer, Command, Lent, Memory, Number};
+use crate::{
+    Closed, Exchange, Gathered, Health, Heard, LinkFields, LinkHeard, LinkSent, Links, Message, Opening, Placings, Queue, Read, Record,
+    Refusal, Role, Sent, State,
+};
+use std::borrow::BorrowMut;
+
+/// A group: a memory of S elements of N bytes, a table of S records, and four links with what link messages need.
+///
+/// It owns all three ([`Group::fresh`]), or borrows any of them ([`Group::lend`]): the memory is any [`Memory`], the table anything
+/// that gives a slice of records, the links a [`Links`] or a borrowed one. Slots and elements count from 1, links from 1 to 4.
+///
+/// Any numbers, bytes and tables may be handed in at any time. Every call comes back, and does its work or gives one [`Refusal`]; a refused
+/// call has changed nothing. Messages are for the caller to carry, placings for the card to write.
+#[derive(Clone, Debug, PartialEq)]
+pub struct Group<M = Vec<u8>, T = Vec<Record>, L = Links> {
+    s: u32,
+    n: u32,
+    memory: M,
+    table: T,
+    links: L,
+}
+
+impl Group {
+    /// The most elements that a group has.
+    pub const MOST_ELEMENTS: u32 = 255;
+    /// The least and the most bytes of an element.
+    pub const ELEMENT_SIZES: std::ops::RangeInclusive<u32> = 8..=65_540;
+
+    /// A fresh group of its own, as a client: every slot closed, every link down, memory all zeros.
+    ///
+    /// # Errors
+    ///
+    /// [`Refusal::Sizes`] where S is not from 1 to 255 or N not from 8 to 65,540.
+    ///
+    /// ```
+    /// use fordlinnet::{Group, Refusal};
+    ///
+    /// let mut group = Group::fresh(16, 65_540)?;
+    /// assert_eq!(group.memory().len(), 16 * 65_540);
+    /// assert_eq!(group.shutdown(1), Err(Refusal::Slot));
+    /// # Ok::<(), Refusal>(())
+    /// ```
+    pub fn fresh(s: u32, n: u32) -> Result<Group, Refusal> {
+        Group::fresh_as(Role::Client, s, n)
+    }
+
+    /// A fresh group as a server, and all else as [`Group::fresh`].
+    ///
+    /// # Errors
+    ///
+    /// As [`Group::fresh`].
+    ///
+    /// ```
+    /// use fordlinnet::{Group, Role};
+    ///
+    /// let (client, server) = (Group::fresh(1, 64)?, Group::fresh_server(1, 64)?);
+    /// assert_eq!((client.role(), server.role()), (Role::Client, Role::Server));
+    /// # Ok::<(), fordlinnet::Refusal>(())
+    /// ```
+    pub fn fresh_server(s: u32, n: u32) -> Result<Group, Refusal> {
+        Group::fresh_as(Role::Server, s, n)
+    }
+
+    fn fresh_as(role: Role, s: u32, n: u32) -> Result<Group, Refusal> {
+        if !(1..=Group::MOST_ELEMENTS).contains(&s) || !Group::ELEMENT_SIZES.contains(&n) {
+            return Err(Refusal::Sizes);
+        }
+        let memory = vec![0; s as usize * n as usize];
+        let table = vec![border::closed_record(); s as usize];
+        Ok(Group { s, n, memory, table, links: border::links_down(role) })
+    }
+}
+
+impl<M, T, L> Group<M, T, L> {
+    /// A group of parts that somebody lends, whatever they hold. Wrong sizes are not tested here: every call on a slot does.
+    ///
+    /// ```
+    /// use fordlinnet::{Group, Links, Record, Refusal};
+    ///
+    /// let mut memory = vec![0; 2 * 1000];
+    /// let mut table = [Record::default(); 2];
+    /// let mut links = Links::default();
+    /// let mut group = Group::lend(2, 1000, &mut memory[..], &mut table[..], &mut links);
+    /// group.link_change(1, true)?;
+    /// assert!(links.active[0]);
+    /// # Ok::<(), Refusal>(())
+    /// ```
+    pub fn lend(s: u32, n: u32, memory: M, table: T, links: L) -> Group<M, T, L> {
+        Group { s, n, memory, table, links }
+    }
+
+    /// S, the elements and slots.
+    pub fn elements(&self) -> u32 {
+        self.s
+    }
+
+    /// N, the bytes of an element.
+    pub fn element_size(&self) -> u32 {
+        self.n
+    }
+
+    /// The memory.
+    pub fn memory(&self) -> &M {
+        &self.memory
+    }
+
+    /// The memory, to be changed: a card writes there.
+    pub fn memory_mut(&mut self) -> &mut M {
+        &mut self.memory
+    }
+
+    /// The table, to be changed: nothing bars a stranger's records.
+    pub fn table_mut(&mut self) -> &mut T {
+        &mut self.table
+    }
+
+    /// The links, to be changed; [`Group::link_change`] is the call.
+    pub fn links_mut(&mut self) -> &mut L {
+        &mut self.links
+    }
+
+    /// The memory, the table and the links.
+    pub fn into_parts(self) -> (M, T, L) {
+        (self.memory, self.table, self.links)
+    }
+}
+
+impl<M, T, L> Group<M, T, L>
+where
+    T: AsRef<[Record]>,
+    L: BorrowMut<Links>,
+{
+    /// The table.
+    pub fn table(&self) -> &[Record] {
+        self.table.as_ref()
+    }
+
+    /// The record of a slot; `None` for a slot that the table does not have.
+    pub fn record(&self, slot: u32) -> Option<&Record> {
+        self.table.as_ref().get((slot as usize).checked_sub(1)?)
+    }
+
+    /// The links and their gauges, the role, the exchange and the queue.
+    pub fn links(&self) -> &Links {
+        self.links.borrow()
+    }
+
+    /// Our role.
+    pub fn role(&self) -> Role {
+        self.links().role
+    }
+
+    /// The exchange of link messages that runs.
+    pub fn exchange(&self) -> &Exchange {
+        &self.links().exchange
+    }
+
+    /// The link messages that wait for it to end.
+    pub fn queue(&self) -> &Queue {
+        &self.links().queue
+    }
+
+    /// What a console shows of a link; of a number outside 1 to 4 as of a link with no sample.
+    pub fn health(&self, link: u8) -> Health {
+        let view = border::view(self.links.borrow(), link);
+        health_of(view.health, view.mean, view.worst)
+    }
+}
+
+/// The calls of management.
+impl<M, T, L> Group<M, T, L>
+where
+    M: Memory,
+    T: AsMut<[Record]>,
+    L: BorrowMut<Links>,
+{
+    /// Opens a closed slot: zeroes its element, writes the eye catcher, and lays down a record whose cursors are all at the beginning.
+    ///
+    /// # Errors
+    ///
+    /// Tested in this order: [`Sizes`](Refusal::Sizes), [`Slot`](Refusal::Slot), [`AlreadyOpen`](Refusal::AlreadyOpen),
+    /// [`Opening`](Refusal::Opening), [`LinkNumber`](Refusal::LinkNumber), [`LinkDown`](Refusal::LinkDown),
+    /// [`TokenHeld`](Refusal::TokenHeld).
+    pub fn open(&mut self, slot: u32, opening: &Opening) -> Result<(), Refusal> {
+        let command = Command { opening: *opening, ..command(Number::Open, slot) };
+        refused(&self.call(command, &[], &mut []))
+    }
+
+    /// Closes a slot in [`State::PeerAbortWait`].
+    ///
+    /// # Errors
+    ///
+    /// [`Sizes`](Refusal::Sizes), [`Slot`](Refusal::Slot), [`Incoherent`](Refusal::Incoherent), [`State`](Refusal::State).
+    pub fn free(&mut self, slot: u32) -> Result<(), Refusal> {
+        refused(&self.call(command(Number::Free, slot), &[], &mut []))
+    }
+
+    /// Sets a link, active or down. One that goes down loses its gauge; an exchange that is run over it ends, and the queue is emptied.
+    ///
+    /// # Errors
+    ///
+    /// [`LinkNumber`](Refusal::LinkNumber).
+    pub fn link_change(&mut self, link: u8, up: bool) -> Result<(), Refusal> {
+        let command = Command { link, up, ..command(Number::LinkChange, 0) };
+        refused(&self.call(command, &[], &mut []))
+    }
+
+    /// Hands a link's gauge an answer time of TEST LINK, in milliseconds.
+    ///
+    /// # Errors
+    ///
+    /// [`LinkNumber`](Refusal::LinkNumber), [`LinkDown`](Refusal::LinkDown), [`Sample`](Refusal::Sample).
+    ///
+    /// ```
+    /// use fordlinnet::{Group, Health};
+    ///
+    /// let mut group = Group::fresh(1, 64)?;
+    /// group.link_change(1, true)?;
+    /// assert_eq!(group.sample(1, 10)?, Health::Steady(10.0));
+    /// assert_eq!(group.sample(1, 90)?, Health::Late(20.0, 90.0));
+    /// # Ok::<(), fordlinnet::Refusal>(())
+    /// ```
+    pub fn sample(&mut self, link: u8, milliseconds: u32) -> Result<Health, Refusal> {
+        let command = Command { link, ms: milliseconds, ..command(Number::Sample, 0) };
+        let answer = self.call(command, &[], &mut []);
+        refused(&answer)?;
+        Ok(health_of(answer.health, answer.mean, answer.worst))
+    }
+}
+
+/// The two calls of link messages: further links, and memory keys. They read neither the memory nor the table.
+///
+/// A server with link 1 active adds link 2. The lines of [`Group::link_message`]'s answer say what became of what is heard; what needs an
+/// address or a key of ours goes out by [`Group::link_send`].
+///
+/// ```
+/// use fordlinnet::{Fate, Group, LinkFields, LinkKind, Row};
+///
+/// let (mut server, mut client) = (Group::fresh_server(1, 64)?, Group::fresh(1, 64)?);
+/// for group in [&mut server, &mut client] {
+///     group.link_change(1, true)?;
+/// }
+/// let add = LinkFields::new(LinkKind::AddLink).with(Row::Link, 2).with(Row::Mtu, 5);
+/// let confirm = LinkFields::new(LinkKind::ConfirmLink).with(Row::Link, 2);
+///
+/// let request = server.link_send(1, &add)?.message; // with our MAC, GID, queue pair and PSN
+/// assert_eq!(client.link_message(1, &request)?.fate, Fate::Taken);
+/// let reply = client.link_send(1, &add.with(Row::R, 1))?.message;
+/// assert_eq!(server.link_message(1, &reply)?.fate, Fate::Taken);
+/// let request = server.link_send(2, &confirm)?.message; // over the link being added
+/// assert_eq!(client.link_message(2, &request)?.fate, Fate::Taken);
+/// let reply = client.link_send(2, &confirm.with(Row::R, 1))?.message;
+/// assert_eq!(server.link_message(2, &reply)?.fate, Fate::Taken);
+///
+/// assert!(server.links().active[1] && client.links().active[1]);
+/// assert_eq!(server.exchange().sort(), None);
+/// # Ok::<(), fordlinnet::Refusal>(())
+/// ```
+impl<M, T, L> Group<M, T, L>
+where
+    L: BorrowMut<Links>,
+{
+    /// Takes a link message's bytes. A reply that is made is to be sent back on the link.
+    ///
+    /// A message is taken if it is due in the exchange that runs; else exchange and message decide (RFC 7609, 3.5.5.3). Where the exchange
+    /// ends, the oldest of the queue is taken up.
+    ///
+    /// # Errors
+    ///
+    /// Tested in this order: [`LinkNumber`](Refusal::LinkNumber), [`LinkDown`](Refusal::LinkDown), [`Malformed`](Refusal::Malformed),
+    /// [`CarriedLink`](Refusal::CarriedLink), [`Barred`](Refusal::Barred).
+    ///
+    /// ```
+    /// use fordlinnet::{Fate, Group, LinkKind};
+    ///
+    /// let mut group = Group::fresh(1, 64)?;
+    /// group.link_change(2, true)?;
+    /// let mut request = [0; 44];
+    /// request[..6].copy_from_slice(&[0x07, 0x2C, 0, 0, 0xAB, 0xCD]);
+    /// let heard = group.link_message(2, &request)?;
+    /// assert_eq!((heard.fields.map(|fields| fields.kind()), heard.fate), (Some(LinkKind::TestLink), Fate::Taken));
+    /// let reply = heard.reply.expect("a request is answered");
+    /// assert_eq!(reply[..6], [0x07, 0x2C, 0, 0x80, 0xAB, 0xCD]);
+    /// # Ok::<(), fordlinnet::Refusal>(())
+    /// ```
+    pub fn link_message(&mut self, link: u8, bytes: &[u8]) -> Result<LinkHeard, Refusal> {
+        let answer = border::link_message(self.links.borrow_mut(), link, bytes);
+        if answer.said == said::REFUSED {
+            return Err(crate::refusal::given(answer.refusal));
+        }
+        Ok(LinkHeard::given(&answer))
+    }
+
+    /// Sends a link message: the answer has its bytes, to go out on the link. Values are cut to their rows' bits.
+    ///
+    /// # Errors
+    ///
+    /// Tested in this order: [`LinkNumber`](Refusal::LinkNumber), [`LinkDown`](Refusal::LinkDown),
+    /// [`CarriedLink`](Refusal::CarriedLink), [`Barred`](Refusal::Barred).
+    ///
+    /// ```
+    /// use fordlinnet::{Group, LinkFields, LinkKind, Refusal, Row};
+    ///
+    /// let mut group = Group::fresh(1, 64)?;
+    /// group.link_change(1, true)?;
+    /// let test = LinkFields::new(LinkKind::TestLink).with(Row::User1, 0x0102_0304_0506_0708);
+    /// let sent = group.link_send(1, &test)?;
+    /// assert_eq!(sent.message[..12], [0x07, 0x2C, 0, 0, 1, 2, 3, 4, 5, 6, 7, 8]);
+    /// let unasked = LinkFields::new(LinkKind::DeleteRkey).with(Row::R, 1);
+    /// assert_eq!(group.link_send(1, &unasked), Err(Refusal::Barred));
+    /// # Ok::<(), Refusal>(())
+    /// ```
+    pub fn link_send(&mut self, link: u8, fields: &LinkFields) -> Result<LinkSent, Refusal> {
+        let answer = border::link_send(self.links.borrow_mut(), link, fields.raw());
+        if answer.said == said::REFUSED {
+            return Err(crate::refusal::given(answer.refusal));
+        }
+        Ok(LinkSent::given(&answer))
+    }
+}
+
+/// The calls of a connection. Each tests [`Sizes`](Refusal::Sizes), [`Slot`](Refusal::Slot), [`Incoherent`](Refusal::Incoherent),
+/// [`LinkDown`](Refusal::LinkDown) and, hear aside, [`State`](Refusal::State) first, in this order.
+impl<M, T, L> Group<M, T, L>
+where
+    M: Memory,
+    T: AsMut<[Record]>,
+    L: BorrowMut<Links>,
+{
+    /// Sends bytes: as many as the peer has room for are taken. The card is to write the placings, then the message is to be carried.
+    ///
+    /// # Errors
+    ///
+    /// [`State`](Refusal::State) after D, C or A sent or C heard; and what every call tests.
+    pub fn send(&mut self, slot: u32, bytes: &[u8]) -> Result<Sent, Refusal> {
+        sent(&self.call(command(Number::Send, slot), bytes, &mut []))
+    }
+
+    /// Sends urgent bytes. Taken whole, they hold back later sends until the peer has read them.
+    ///
+    /// # Errors
+    ///
+    /// As [`Group::send`].
+    pub fn urgent_send(&mut self, slot: u32, bytes: &[u8]) -> Result<Sent, Refusal> {
+        sent(&self.call(command(Number::UrgentSend, slot), bytes, &mut []))
+    }
+
+    /// Sends a head and a body as if joined, head first. Its pieces are parts of the two, never copies.
+    ///
+    /// # Errors
+    ///
+    /// As [`Group::send`] of the joined bytes.
+    ///
+    /// ```
+    /// # use fordlinnet::{Group, Opening, RToken, Remote};
+    /// # let mut group = Group::fresh(1, 64)?;
+    /// # group.link_change(1, true)?;
+    /// # let rtokens = [RToken { key: 7, base: 4096 }; 4];
+    /// # group.open(1, &Opening { own: 5, peer: 6, link: 1, remote: Remote { size: 64, index: 1, rtokens } })?;
+    /// let sent = group.gather(1, b"head", b"and the body")?;
+    /// let joined: Vec<u8> = sent.pieces().flat_map(|piece| piece.bytes.to_vec()).collect();
+    /// assert_eq!(joined, b"headand the body");
+    /// # Ok::<(), fordlinnet::Refusal>(())
+    /// ```
+    pub fn gather<'a>(&mut self, slot: u32, head: &'a [u8], body: &'a [u8]) -> Result<Gathered<'a>, Refusal> {
+        let lent = Lent { s: self.s, n: self.n, memory: &mut self.memory, table: self.table.as_mut() };
+        let gathered = border::gather(lent, self.links.borrow_mut(), slot, head, body);
+        let answer = &gathered.answer;
+        refused(answer)?;
+        debug_assert_eq!(answer.said, said::GATHERED);
+        Ok(Gathered::new(head, body, gathered.found, answer.n, made(answer)))
+    }
+
+    /// What the card does for the peer: stores bytes at an offset of the slot's element. Only where no card does it.
+    ///
+    /// # Errors
+    ///
+    /// [`State`](Refusal::State) after A sent or D or C heard; [`Placing`](Refusal::Placing); and what every call tests.
+    pub fn place(&mut self, slot: u32, offset: u32, bytes: &[u8]) -> Result<(), Refusal> {
+        let command = Command { offset, ..command(Number::Place, slot) };
+        refused(&self.call(command, bytes, &mut []))
+    }
+
+    /// Reads the first unread bytes, as many as `out` has room for. A message made is the window update that the peer waits for.
+    ///
+    /// # Errors
+    ///
+    /// [`State`](Refusal::State) after C or A sent; and what every call tests.
+    pub fn read(&mut self, slot: u32, out: &mut [u8]) -> Result<Read, Refusal> {
+        let answer = self.call(command(Number::Read, slot), &[], out);
+        refused(&answer)?;
+        if answer.said == said::TORN {
+            return Ok(Read::Torn { message: Message::made(answer.message) });
+        }
+        debug_assert_eq!(answer.said, said::WAS_READ);
+        Ok(Read::Bytes { count: answer.n as usize, message: made(&answer) })
+    }
+
+    /// Takes a message from the peer, for the slot whose token it carries.
+    ///
+    /// # Errors
+    ///
+    /// Tested in this order: [`Sizes`](Refusal::Sizes), [`Malformed`](Refusal::Malformed), [`Token`](Refusal::Token),
+    /// [`Incoherent`](Refusal::Incoherent), [`LinkDown`](Refusal::LinkDown), [`Sequence`](Refusal::Sequence),
+    /// [`CursorRule`](Refusal::CursorRule).
+    pub fn hear(&mut self, bytes: &[u8]) -> Result<Heard, Refusal> {
+        let answer = self.call(command(Number::Hear, 0), bytes, &mut []);
+        refused(&answer)?;
+        debug_assert_eq!(answer.said, said::HEARD);
+        Ok(Heard { moved: answer.moved, state: State::ALL[answer.state as usize], message: made(&answer) })
+    }
+
+    /// Sends D: we are done writing.
+    ///
+    /// # Errors
+    ///
+    /// [`State`](Refusal::State) after D, C or A sent; and what every call tests.
+    pub fn shutdown(&mut self, slot: u32) -> Result<Message, Refusal> {
+        told(&self.call(command(Number::Shutdown, slot), &[], &mut []))
+    }
+
+    /// Sends C; the slot is closed where C was heard. With unread bytes it sends A instead: nothing is dropped in silence.
+    ///
+    /// # Errors
+    ///
+    /// [`State`](Refusal::State) after C or A sent; and what every call tests.
+    pub fn close(&mut self, slot: u32) -> Result<Closed, Refusal> {
+        let answer = self.call(command(Number::Close, slot), &[], &mut []);
+        refused(&answer)?;
+        let message = Message::made(answer.message);
+        Ok(if answer.said == said::RESET { Closed::Reset(message) } else { Closed::InOrder(message) })
+    }
+
+    /// Sends A. The slot then waits for the peer's A, or for [`Group::free`].
+    ///
+    /// # Errors
+    ///
+    /// [`State`](Refusal::State) after A sent; and what every call tests.
+    pub fn abort(&mut self, slot: u32) -> Result<Message, Refusal> {
+        told(&self.call(command(Number::Abort, slot), &[], &mut []))
+    }
+
+    #[inline]
+    fn call(&mut self, command: Command, bytes: &[u8], out: &mut [u8]) -> Answer {
+        let lent = Lent { s: self.s, n: self.n, memory: &mut self.memory, table: self.table.as_mut() };
+        border::make(lent, self.links.borrow_mut(), command, bytes, out)
+    }
+}
+
+fn command(number: Number, slot: u32) -> Command {
+    Command { number: number as u32, slot, ..Command::default() }
+}
+
+#[inline]
+fn refused(answer: &Answer) -> Result<(), Refusal> {
+    if answer.said == said::REFUSED {
+        return Err(crate::refusal::given(answer.refusal));
+    }
+    Ok(())
+}
+
+fn made(answer: &Answer) -> Option<Message> {
+    answer.made.then(|| Message::made(answer.message))
+}
+
+/// Of a call that always makes a message.
+fn told(answer: &Answer) -> Result<Message, Refusal> {
+    refused(answer)?;
+    debug_assert!(answer.made);
+    Ok(Message::made(answer.message))
+}
+
+fn sent(answer: &Answer) -> Result<Sent, Refusal> {
+    refused(answer)?;
+    debug_assert_eq!(answer.said, said::SENT);
+    let placings = Placings::new(answer.both, answer.placings as usize);
+    Ok(Sent { taken: answer.n as usize, placings, message: made(answer) })
+}
+
+fn health_of(number: u32, mean: f64, worst: f64) -> Health {
+    match number {
+        health::STEADY => Health::Steady(mean),
+        health::LATE => Health::Late(mean, worst),
+        _ => Health::Unheard,
+    }
+}

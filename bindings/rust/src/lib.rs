@@ -1,0 +1,88 @@
+//! The proved core of SMC-R (RFC 7609, Shared Memory Communications over RDMA), called from Rust.
+//!
+//! Fordlinnet keeps the cursors, messages, window updates, closing and aborting of connections whose peers write straight into each
+//! other's memory. It is written in Rattle, and every function of it is proved to meet its contract. This crate is ordinary Rust around
+//! the proved archive: it owns or borrows what a call is lent, and turns answers into enums and structs. It has no dependency.
+//!
+//! # In ten lines
+//!
+//! Two groups in one process, with a copy in place of the card:
+//!
+//! ```
+//! use fordlinnet::{Group, Opening, RToken, Remote};
+//!
+//! let (mut ours, mut theirs) = (Group::fresh(1, 10_000)?, Group::fresh(1, 10_000)?);
+//! let remote = Remote { size: 10_000, index: 1, rtokens: [RToken { key: 7, base: 0 }; 4] };
+//! for (group, own, peer) in [(&mut ours, 5, 6), (&mut theirs, 6, 5)] {
+//!     group.link_change(1, true)?;
+//!     group.open(1, &Opening { own, peer, link: 1, remote })?;
+//! }
+//! let sent = ours.send(1, b"depths in metres")?;
+//! for placing in &sent.placings {
+//!     theirs.place(1, placing.address as u32, placing.of(b"depths in metres"))?; // what the card does
+//! }
+//! let heard = theirs.hear(sent.message.unwrap().as_ref())?;
+//! let mut out = [0; 64];
+//! let read = theirs.read(1, &mut out)?;
+//! assert_eq!((heard.moved, &out[..read.count()]), (16, &b"depths in metres"[..]));
+//! # Ok::<(), fordlinnet::Refusal>(())
+//! ```
+//!
+//! # What there is
+//!
+//! - A [`Group`] has S elements of N bytes of memory, a table of S [`Record`]s, and four [`Links`]. [`Group::fresh`] owns them,
+//!   [`Group::lend`] borrows them; memory that a peer or a card writes is a [`SharedMemory`].
+//! - A connection is a slot of the table. [`Group::open`] makes one, of what [`set_up`] settled over TCP or the caller knows.
+//! - [`Group::send`], [`Group::urgent_send`] and [`Group::gather`] take bytes. They answer with [`Placing`]s, which the card writes into
+//!   the peer's memory, and a [`Message`], which is then carried to the peer. The order matters: the message announces the bytes.
+//! - [`Group::hear`] takes the peer's message, [`Group::read`] the bytes that it announced. Read answers with a message where the peer is
+//!   to be told of the room.
+//! - [`Group::shutdown`], [`Group::close`] and [`Group::abort`] end it; [`Group::free`] closes a slot after an abort. The marks sent and
+//!   heard name the [`State`].
+//! - [`Group::link_change`] and [`Group::sample`] keep the links and their [`Health`]. [`Group::link_message`] takes the peer's link
+//!   messages and [`Group::link_send`] makes ours: further links and memory keys, in one [`Exchange`] at a time. [`Books`] are a pool's.
+//!
+//! # What is promised
+//!
+//! Any bytes, numbers and tables may be handed in at any time. Every call comes back. It does its work, or gives one [`Refusal`], exactly
+//! when the list says so; a refused call has changed nothing that it was lent. That, and what each answer is, is proved of the archive;
+//! this crate is tested against it and against a second program, and its only `unsafe` is where it meets the archive.
+//!
+//! # The message is the order
+//!
+//! Between two processes the placings must be seen before the message that announces them. Write the bytes, then a release fence, then
+//! the message to the socket; on the other side the message, an acquire fence, then hear and read. `examples/plate` does so.
+//!
+//! # Building
+//!
+//! `rt staticlib exports` at the top of the repository proves the archive and leaves it in `target/staticlib`, where the build script
+//! looks; `FORDLINNET_LIB` names another directory.
+
+#![warn(missing_docs)]
+#![deny(unsafe_code, unsafe_op_in_unsafe_fn)]
+
+mod answer;
+#[allow(unsafe_code)]
+mod border;
+mod gather;
+mod group;
+mod link;
+mod message;
+mod pool;
+mod record;
+mod refusal;
+mod setup;
+
+pub use answer::{Closed, Health, Heard, Placing, Placings, Read, Sent, State};
+pub use border::{Memory, SharedMemory};
+pub use gather::{Gathered, Piece, Pieces};
+pub use group::Group;
+pub use link::{Fate, LinkFields, LinkHeard, LinkKind, LinkSent, Row, TakenUp};
+pub use message::{Flags, Message};
+pub use pool::Books;
+pub use record::{
+    Cursor, Exchange, Gauge, Identity, Inbound, Links, Marks, Opening, Outbound, Queue, RToken, Record, Remote, Role, Side, Sort, Urgent,
+    Waiting,
+};
+pub use refusal::Refusal;
+pub use setup::{set_up, Due, Prefix, SetUp, SetUpRefusal, Settings};

@@ -1,0 +1,119 @@
+//! The same calls on a group that owns its parts, on one that borrows them, and on one over memory that others write.
+
+use fordlinnet::{
+    Closed, Exchange, Fate, Group, LinkFields, LinkKind, Links, Memory, Opening, RToken, Read, Record, Refusal, Remote, Role, Row,
+    SharedMemory, State, TakenUp,
+};
+use std::borrow::BorrowMut;
+
+const N: u32 = 100;
+
+fn opening(own: u32, peer: u32) -> Opening {
+    Opening { own, peer, link: 3, remote: Remote { size: N, index: 1, rtokens: [RToken { key: 9, base: 1000 }; 4] } }
+}
+
+/// Sends from slot 1 of the group to its slot 2 and back, closes, and says all that was answered.
+fn story<M, T, L>(group: &mut Group<M, T, L>) -> Result<String, Refusal>
+where
+    M: Memory,
+    T: AsMut<[Record]> + AsRef<[Record]>,
+    L: BorrowMut<Links>,
+{
+    let mut said = String::new();
+    group.link_change(3, true)?;
+    group.open(1, &opening(5, 6))?;
+    group.open(2, &opening(6, 5))?;
+    for round in 0..7_u8 {
+        let bytes = vec![round; 60];
+        let sent = group.send(1, &bytes)?;
+        for placing in &sent.placings {
+            group.place(2, (placing.address - 1000) as u32, placing.of(&bytes))?;
+        }
+        let heard = group.hear(sent.message.expect("bytes were taken").as_ref())?;
+        let mut out = [0xA5; 80];
+        let read = group.read(2, &mut out)?;
+        said += &format!("{sent:?} {heard:?} {read:?} {out:?}\n");
+        if let Read::Bytes { message: Some(update), .. } = read {
+            said += &format!("{:?}\n", group.hear(update.as_ref())?);
+        }
+    }
+    let ours = group.close(1)?;
+    let heard = group.hear(ours.message().as_ref())?;
+    assert_eq!(heard.state, State::AppCloseWait1);
+    assert_eq!(group.record(2).map(|record| record.marks.state()), Some(heard.state));
+    let theirs = group.close(2)?;
+    assert!(matches!(theirs, Closed::InOrder(_)) && !group.table()[1].id.opened);
+    assert_eq!(group.hear(theirs.message().as_ref())?.state, State::Closed);
+    assert_eq!(group.read(1, &mut []), Err(Refusal::Slot));
+    Ok(said)
+}
+
+#[test]
+fn owned_borrowed_and_shared() -> Result<(), Refusal> {
+    let mut owned = Group::fresh(2, N)?;
+    let said = story(&mut owned)?;
+    assert_eq!(said.lines().filter(|line| line.starts_with("Heard")).count(), 7, "every read frees a tenth, with less than half free");
+
+    let (mut memory, mut table, mut links) = (vec![0; 2 * N as usize], [Record::default(); 2], Links::default());
+    assert_eq!(story(&mut Group::lend(2, N, &mut memory[..], &mut table[..], &mut links))?, said);
+    assert_eq!((&memory, &table[..], &links), (owned.memory(), owned.table(), owned.links()));
+
+    memory.fill(0);
+    (table, links) = Default::default();
+    // SAFETY: the vector outlives the group and is not used beside it.
+    let shared = unsafe { SharedMemory::new(memory.as_mut_ptr(), memory.len()) };
+    assert_eq!(story(&mut Group::lend(2, N, shared, &mut table[..], links))?, said);
+    assert_eq!(&memory, owned.memory());
+    Ok(())
+}
+
+#[test]
+fn wrong_parts_are_refused() {
+    let mut table = [Record::default(); 3];
+    let mut group = Group::lend(2, N, [0; 2 * N as usize], &mut table[..], Links::default());
+    assert_eq!(group.open(1, &opening(5, 6)), Err(Refusal::Sizes));
+    assert_eq!(Group::fresh(256, N).err(), Some(Refusal::Sizes));
+    assert_eq!(Group::fresh(1, 65_541).err(), Some(Refusal::Sizes));
+    let text = Refusal::Sizes.to_string();
+    assert_eq!(text, "refusal 1: S, N, the memory's length or the table's is wrong");
+}
+
+fn bytes_of(parts: &[(usize, &[u8])]) -> [u8; 44] {
+    let mut bytes = [0; 44];
+    for (at, part) in parts {
+        bytes[*at..][..part.len()].copy_from_slice(part);
+    }
+    bytes
+}
+
+/// The example of request 2026-01's page: a server adds link 2, and a DELETE LINK waits. Neither call looks at memory or table.
+#[test]
+fn link_messages_on_lent_links() -> Result<(), Refusal> {
+    let mut links = Links { role: Role::Server, active: [true, false, false, false], ..Links::default() };
+    let mut desk = Group::lend(0, 0, (), (), &mut links);
+
+    let gid = 0xFE80 << 48;
+    let add = LinkFields::of(LinkKind::AddLink, &[0, 0, 0, 2_199_023_255_553, gid, 1, 9, 2, 5, 77]);
+    let sent = desk.link_send(1, &add)?;
+    let written = bytes_of(&[(0, &[0x02, 0x2C, 0, 0, 0x02, 0, 0, 0, 0, 1, 0xFE, 0x80]), (25, &[1, 0, 0, 9, 2, 5, 0, 0, 77])]);
+    assert_eq!((sent.message, sent.taken_up), (written, None));
+    let another = LinkFields::new(LinkKind::AddLink).with(Row::Link, 3).with(Row::Mtu, 5);
+    assert_eq!(desk.link_send(1, &another), Err(Refusal::Barred));
+
+    let delete = LinkFields::of(LinkKind::DeleteLink, &[0, 0, 1, 2, 131_072]);
+    let queued = desk.link_message(1, &bytes_of(&[(0, &[0x04, 0x2C, 0, 0x20, 2, 0, 2])]))?;
+    assert_eq!((queued.fields, queued.fate, queued.reply), (Some(delete), Fate::Queued, None));
+    let denied = desk.link_message(1, &bytes_of(&[(0, &[0x06, 0x2C, 0, 0, 1, 0, 0, 0, 5])]))?;
+    assert_eq!((denied.fate, denied.reply), (Fate::Denied, Some(bytes_of(&[(0, &[0x06, 0x2C, 0, 0xB0, 1, 0, 0, 0, 5])]))));
+
+    let taken = desk.link_message(1, &bytes_of(&[(0, &[0x02, 0x2C, 0, 0x80]), (28, &[0x41, 2, 5])]))?;
+    assert_eq!((taken.fate, taken.fields.and_then(|fields| fields.get(Row::Qp))), (Fate::Taken, Some(65)));
+    let confirm = LinkFields::new(LinkKind::ConfirmLink).with(Row::Link, 2).with(Row::Max, 4);
+    assert_eq!(desk.link_send(2, &confirm)?.message, bytes_of(&[(0, &[0x01, 0x2C]), (29, &[2, 0, 0, 0, 0, 4])]));
+    let last = desk.link_message(2, &bytes_of(&[(0, &[0x01, 0x2C, 0, 0x80]), (29, &[2, 0, 0, 0, 0, 4])]))?;
+    assert_eq!(last.taken_up, Some(TakenUp { link: 1, fields: Some(delete), fate: Fate::Taken }));
+
+    assert_eq!((links.active, links.exchange), ([true, true, false, false], Exchange::default()));
+    assert!(links.queue.waiting().is_empty());
+    Ok(())
+}

@@ -1,0 +1,22 @@
+-- `flat::command_of` meets its contract. Assumes nothing.
+use borrow.Author.Needs.{needs}
+use Rattle.flat.specs.Flat.{namedOf, commandOf}
+use Rattle.flat.proofs.command_of.Statement.{statement}
+use Rattle.flat.proofs.command_of.Tie as tie
+
+known-requires : tie.Need-known-requires
+known-requires c κs = search needs
+
+named-requires : tie.Need-named-requires
+named-requires c κs = search needs
+
+returns : tie.Need-returns
+unfolding commandOf
+returns c = simp (c .named .ensures, ← (c .before .before .known .ensures), c .before .if1 .taken)
+
+returns-2 : tie.Need-returns-2
+unfolding commandOf
+returns-2 c = simp (← (c .before .known .ensures), c .if1 .left)
+
+pub command-of-spec : {M : Type 1} → statement M
+command-of-spec = tie.close (tie.spec known-requires named-requires returns returns-2)

@@ -1,0 +1,3 @@
+-- `Laws`: the next piece from its parts. `Theorem`: it names its bytes.
+pub mod Laws
+pub mod Theorem

@@ -1,0 +1,2 @@
+pub mod FlatGather
+pub mod Statement

@@ -1,0 +1,2 @@
+-- `Laws`: why each call's contract follows from that of `linkdesk`'s.
+pub mod Laws

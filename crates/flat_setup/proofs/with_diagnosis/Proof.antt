@@ -1,0 +1,19 @@
+-- `flat_setup::with_diagnosis` meets its contract. Assumes nothing.
+use borrow.Author.Needs.{needs}
+use Rattle.flat_setup.proofs.with_diagnosis.Statement.{statement}
+use Rattle.flat_setup.proofs.with_diagnosis.Tie as tie
+
+enum-told : tie.Need-enum-told
+enum-told c = search needs
+
+enum-known-diagnosis : tie.Need-enum-known-diagnosis
+enum-known-diagnosis c = search needs
+
+returns : tie.Need-returns
+returns c = rw (c .enum-told .given .1)
+
+returns-2 : tie.Need-returns-2
+returns-2 c = rw (c .before .diagnosis .given .1)
+
+pub with-diagnosis-spec : {M : Type 1} → statement M
+with-diagnosis-spec = tie.close (tie.spec enum-told enum-known-diagnosis returns returns-2)

@@ -1,0 +1,95 @@
+//! The composer: sends the file, a part of it on each connection, and takes a receipt for each.
+
+use crate::end::{End, Ended, Trouble};
+use crate::plan::{Mark, Plan, Role};
+use std::sync::atomic::Ordering;
+use std::thread;
+use std::time::Duration;
+
+/// What is offered to a send at most: half the peer's element.
+fn offer(plan: &Plan) -> usize {
+    (plan.element as usize - 4).div_ceil(2)
+}
+
+#[derive(Clone, Copy)]
+struct Part {
+    next: usize,
+    end: usize,
+    /// Nothing is taken before something is heard.
+    waits: bool,
+    done: bool,
+}
+
+pub fn run(plan: &Plan) -> Result<Ended, Trouble> {
+    let map = plan.map_shared()?;
+    let input = plan.map_input()?;
+    // SAFETY: nobody writes the input while it is sent.
+    let file = unsafe { input.bytes() };
+    let mut end = End::new(Role::Composer, plan, &map)?;
+    let slots = 1..=plan.connections;
+    let part = |slot| {
+        let part = plan.part(slot, file.len());
+        Part { next: part.start, end: part.end, waits: false, done: false }
+    };
+    let mut parts: Vec<Part> = slots.clone().map(part).collect();
+    end.board.begin(Role::Composer);
+
+    while !(end.over() && end.wire.idle()) {
+        let mut worked = false;
+        for slot in slots.clone() {
+            let part = &mut parts[slot as usize - 1];
+            if part.done || part.waits {
+                continue;
+            }
+            if part.next == part.end {
+                end.shutdown(slot)?;
+                part.done = true;
+                continue;
+            }
+            let bytes = &file[part.next..part.end.min(part.next + offer(plan))];
+            let taken = end.send(slot, bytes)?;
+            part.next += taken;
+            part.waits = taken < bytes.len();
+            worked |= taken > 0;
+            end.board.taken(slot).fetch_add(taken as u64, Ordering::AcqRel);
+            if part.waits {
+                end.board.add(Mark::Blocked, 1);
+            }
+        }
+        end.wire.flush()?;
+        end.wire.fill()?;
+        while let Some(bytes) = end.wire.next() {
+            let (slot, _) = end.hear(&bytes)?;
+            parts[slot as usize - 1].waits = false;
+            worked = true;
+            if end.record(slot).marks.heard.closed {
+                receipt(&mut end, slot, plan.part(slot, file.len()).len())?;
+            }
+        }
+        if end.wire.lost && !end.over() {
+            end.abort()?;
+            return Ok(Ended::Aborted);
+        }
+        if plan.pace > 0 {
+            thread::sleep(Duration::from_micros(plan.pace));
+        }
+        if !worked && !end.over() {
+            end.wire.flush()?;
+            end.wire.wait();
+        }
+        if end.over() {
+            end.wire.flush()?;
+        }
+    }
+    Ok(Ended::InOrder)
+}
+
+/// The host has closed: its receipt is read, and we close too.
+fn receipt(end: &mut End, slot: u32, sent: usize) -> Result<(), Trouble> {
+    let mut out = [0; 8];
+    let count = end.read(slot, &mut out)?;
+    if count != 8 || u64::from_be_bytes(out) != sent as u64 {
+        return Err(Trouble::Other(format!("slot {slot}: a receipt for {} bytes", u64::from_be_bytes(out))));
+    }
+    end.close(slot)
+}

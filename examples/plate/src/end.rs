@@ -1,0 +1,190 @@
+//! One end: a group whose elements the other process writes, the card that writes into the other's, and the wire between them.
+
+use crate::links::{self, Keys};
+use crate::plan::{Board, Mark, Plan, Role};
+use crate::system::Map;
+use crate::wire::{self, Wire};
+use fordlinnet::{Closed, Group, Heard, Links, Message, Opening, Placing, RToken, Read, Record, Refusal, Remote, SharedMemory};
+use std::io;
+use std::ptr;
+
+/// What went wrong, other than the peer's going.
+#[derive(Debug)]
+pub enum Trouble {
+    System(io::Error),
+    Refused(&'static str, Refusal),
+    Other(String),
+}
+
+impl From<io::Error> for Trouble {
+    fn from(e: io::Error) -> Trouble {
+        Trouble::System(e)
+    }
+}
+
+impl std::fmt::Display for Trouble {
+    fn fmt(&self, f: &mut std::fmt::Formatter<'_>) -> std::fmt::Result {
+        match self {
+            Trouble::System(e) => write!(f, "{e}"),
+            Trouble::Refused(call, refusal) => write!(f, "{call}: {refusal}"),
+            Trouble::Other(text) => write!(f, "{text}"),
+        }
+    }
+}
+
+/// How an end came to its end.
+#[derive(Clone, Copy, Debug, PartialEq, Eq)]
+pub enum Ended {
+    InOrder,
+    /// The peer has gone: every connection that was still open was aborted and freed.
+    Aborted,
+}
+
+/// A process's memory as the other's card knows it: a key and a base for each link.
+fn registered(role: Role, link: u8) -> RToken {
+    let who = if role == Role::Composer { 1 } else { 2 };
+    RToken { key: 256 * who + u32::from(link), base: u64::from(who) << 40 | u64::from(link) << 32 }
+}
+
+/// The card: performs placings in the other process's memory, and no others.
+struct Card<'a> {
+    map: &'a Map,
+    start: usize,
+    len: usize,
+    of: Role,
+}
+
+impl Card<'_> {
+    fn write(&self, placing: &Placing, sent: &[u8]) -> Result<(), Trouble> {
+        let bytes = placing.of(sent);
+        let token = (1..=4).map(|link| registered(self.of, link)).find(|token| token.key == placing.key);
+        let at = token.and_then(|token| placing.address.checked_sub(token.base));
+        match at {
+            Some(at) if at as usize <= self.len && bytes.len() <= self.len - at as usize => {
+                let to = self.map.part(self.start + at as usize, bytes.len());
+                // SAFETY: within the peer's memory, where the core has found these bytes free; the peer reads them once it is told.
+                unsafe { ptr::copy_nonoverlapping(bytes.as_ptr(), to, bytes.len()) };
+                Ok(())
+            }
+            _ => Err(Trouble::Other(format!("the card knows no {placing:?}"))),
+        }
+    }
+}
+
+/// Token and link of a slot: all four links are used.
+fn token(role: Role, slot: u32) -> u32 {
+    if role == Role::Composer {
+        0x1000 + slot
+    } else {
+        0x2000 + slot
+    }
+}
+
+fn link(slot: u32) -> u8 {
+    ((slot - 1) % 4) as u8 + 1
+}
+
+pub struct End<'a> {
+    role: Role,
+    group: Group<SharedMemory<'a>, Vec<Record>, Links>,
+    card: Card<'a>,
+    pub wire: Wire,
+    pub board: Board<'a>,
+}
+
+impl<'a> End<'a> {
+    /// Opens every slot of a group, over memory that the other process writes.
+    pub fn new(role: Role, plan: &Plan, map: &'a Map) -> Result<End<'a>, Trouble> {
+        let memory = map.part(plan.start(role), plan.memory());
+        // SAFETY: a part of the mapping that nobody else in this process uses.
+        let memory = unsafe { SharedMemory::new(memory, plan.memory()) };
+        let s = plan.connections;
+        let smc_role = if role == Role::Composer { fordlinnet::Role::Client } else { fordlinnet::Role::Server };
+        let fresh = Links { role: smc_role, ..Links::default() };
+        let mut group = Group::lend(s, plan.element, memory, vec![Record::default(); s as usize], fresh);
+        let other = role.other();
+        let stream = wire::given()?;
+        let mut keys = Keys { own: [1, 2, 3, 4].map(|link| registered(role, link)), peer: [registered(other, 1); 4] };
+        links::bring_up(&mut group, &mut keys, &stream)?;
+        for slot in 1..=s {
+            let remote = Remote { size: plan.element, index: slot, rtokens: keys.peer };
+            let opening = Opening { own: token(role, slot), peer: token(other, slot), link: link(slot), remote };
+            group.open(slot, &opening).map_err(|no| Trouble::Refused("open", no))?;
+        }
+        let card = Card { map, start: plan.start(other), len: plan.memory(), of: other };
+        Ok(End { role, group, card, wire: Wire::new(stream)?, board: Board::of(map) })
+    }
+
+    fn post(&mut self, message: Option<&Message>) {
+        if let Some(message) = message {
+            self.wire.post(message);
+            let mark = if self.role == Role::Composer { Mark::ComposerMessages } else { Mark::HostMessages };
+            self.board.add(mark, 1);
+        }
+    }
+
+    /// Sends bytes: the card writes them, then the message may leave.
+    pub fn send(&mut self, slot: u32, bytes: &[u8]) -> Result<usize, Trouble> {
+        let sent = self.group.send(slot, bytes).map_err(|no| Trouble::Refused("send", no))?;
+        for placing in &sent.placings {
+            self.card.write(placing, bytes)?;
+        }
+        self.post(sent.message.as_ref());
+        Ok(sent.taken)
+    }
+
+    pub fn read(&mut self, slot: u32, out: &mut [u8]) -> Result<usize, Trouble> {
+        let read = self.group.read(slot, out).map_err(|no| Trouble::Refused("read", no))?;
+        if let Read::Torn { .. } = read {
+            return Err(Trouble::Other(format!("element {slot} is torn")));
+        }
+        if read.message().is_some() {
+            self.board.add(Mark::Updates, 1);
+        }
+        self.post(read.message());
+        Ok(read.count())
+    }
+
+    /// Hears a message; the slot that it is for.
+    pub fn hear(&mut self, bytes: &[u8; 44]) -> Result<(u32, Heard), Trouble> {
+        let own = Message::try_from(&bytes[..]).map_err(|no| Trouble::Refused("hear", no))?.token();
+        let heard = self.group.hear(bytes).map_err(|no| Trouble::Refused("hear", no))?;
+        self.post(heard.message.as_ref());
+        Ok((own - token(self.role, 0), heard))
+    }
+
+    pub fn shutdown(&mut self, slot: u32) -> Result<(), Trouble> {
+        let message = self.group.shutdown(slot).map_err(|no| Trouble::Refused("shutdown", no))?;
+        self.post(Some(&message));
+        Ok(())
+    }
+
+    pub fn close(&mut self, slot: u32) -> Result<(), Trouble> {
+        let closed = self.group.close(slot).map_err(|no| Trouble::Refused("close", no))?;
+        self.post(Some(closed.message()));
+        match closed {
+            Closed::InOrder(_) => Ok(()),
+            Closed::Reset(_) => Err(Trouble::Other(format!("slot {slot} was closed with unread bytes"))),
+        }
+    }
+
+    pub fn record(&self, slot: u32) -> &Record {
+        &self.group.table()[slot as usize - 1]
+    }
+
+    /// Whether every slot is closed.
+    pub fn over(&self) -> bool {
+        self.group.table().iter().all(|record| !record.id.opened)
+    }
+
+    /// The peer has gone: aborts and frees what is open.
+    pub fn abort(&mut self) -> Result<(), Trouble> {
+        for slot in 1..=self.group.elements() {
+            if self.record(slot).id.opened {
+                self.group.abort(slot).map_err(|no| Trouble::Refused("abort", no))?;
+                self.group.free(slot).map_err(|no| Trouble::Refused("free", no))?;
+            }
+        }
+        Ok(())
+    }
+}

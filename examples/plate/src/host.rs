@@ -1,0 +1,57 @@
+//! The plate host: reads each connection's part of the file into the output, sends a receipt, and closes.
+
+use crate::end::{End, Ended, Trouble};
+use crate::plan::{Mark, Plan, Role};
+use std::sync::atomic::Ordering;
+use std::time::Instant;
+
+pub fn run(plan: &Plan) -> Result<Ended, Trouble> {
+    let map = plan.map_shared()?;
+    let output = plan.map_output()?;
+    // SAFETY: this process alone writes the output, and holds no other slice of it.
+    let file = unsafe { output.own_bytes() };
+    let mut end = End::new(Role::Host, plan, &map)?;
+    let slots = 1..=plan.connections;
+    let mut next: Vec<usize> = slots.clone().map(|slot| plan.part(slot, file.len()).start).collect();
+    let mut news = vec![false; plan.connections as usize];
+    let mut missing = file.len();
+    end.board.begin(Role::Host);
+    let start = Instant::now();
+
+    while !(end.over() && end.wire.idle()) {
+        end.wire.fill()?;
+        while let Some(bytes) = end.wire.next() {
+            let (slot, _) = end.hear(&bytes)?;
+            news[slot as usize - 1] = true;
+        }
+        for slot in slots.clone() {
+            if !std::mem::take(&mut news[slot as usize - 1]) || !end.record(slot).id.opened {
+                continue;
+            }
+            let (at, part) = (&mut next[slot as usize - 1], plan.part(slot, file.len()));
+            if end.record(slot).marks.sent.closed {
+                continue;
+            }
+            let count = end.read(slot, &mut file[*at..part.end])?;
+            *at += count;
+            missing -= count;
+            end.board.read(slot).fetch_add(count as u64, Ordering::AcqRel);
+            if end.record(slot).marks.heard.done && *at == part.end {
+                end.send(slot, &(part.len() as u64).to_be_bytes())?;
+                end.close(slot)?;
+            }
+        }
+        if missing == 0 && end.board.get(Mark::Nanoseconds) == 0 {
+            end.board.set(Mark::Nanoseconds, start.elapsed().as_nanos() as u64);
+        }
+        end.wire.flush()?;
+        if end.wire.lost && !end.over() {
+            end.abort()?;
+            return Ok(Ended::Aborted);
+        }
+        if !end.over() {
+            end.wire.wait();
+        }
+    }
+    Ok(Ended::InOrder)
+}

@@ -1,0 +1,161 @@
+//! What both processes are told, and the board on which they write how far they are.
+
+use crate::system::Map;
+use std::fs::{File, OpenOptions};
+use std::io;
+use std::ops::Range;
+use std::path::PathBuf;
+use std::sync::atomic::{AtomicU64, Ordering};
+
+/// Who a process is. Each has a memory of its own, which the other writes.
+#[derive(Clone, Copy, Debug, PartialEq, Eq)]
+pub enum Role {
+    Composer,
+    Host,
+}
+
+impl Role {
+    pub fn other(self) -> Role {
+        match self {
+            Role::Composer => Role::Host,
+            Role::Host => Role::Composer,
+        }
+    }
+}
+
+/// The arguments that the processes share.
+#[derive(Clone, Debug)]
+pub struct Plan {
+    /// The file of the memories and the board.
+    pub shared: PathBuf,
+    pub input: PathBuf,
+    pub output: PathBuf,
+    pub connections: u32,
+    /// N, of every element.
+    pub element: u32,
+    /// Microseconds that the composer rests in every round, so that there is time to kill somebody.
+    pub pace: u64,
+}
+
+/// The board: so many counters, in a page of its own.
+const BOARD: usize = 8192;
+
+impl Plan {
+    pub fn words(&self) -> Vec<String> {
+        let path = |p: &PathBuf| p.to_string_lossy().into_owned();
+        let (connections, element, pace) = (self.connections.to_string(), self.element.to_string(), self.pace.to_string());
+        vec![path(&self.shared), path(&self.input), path(&self.output), connections, element, pace]
+    }
+
+    pub fn from_words(words: &[String]) -> Option<Plan> {
+        let [shared, input, output, connections, element, pace] = words else { return None };
+        Some(Plan {
+            shared: shared.into(),
+            input: input.into(),
+            output: output.into(),
+            connections: connections.parse().ok()?,
+            element: element.parse().ok()?,
+            pace: pace.parse().ok()?,
+        })
+    }
+
+    /// The bytes of one group's memory.
+    pub fn memory(&self) -> usize {
+        self.connections as usize * self.element as usize
+    }
+
+    /// Where the memory of a process begins in the shared file.
+    pub fn start(&self, role: Role) -> usize {
+        let before = if role == Role::Composer { 0 } else { self.memory() };
+        BOARD + before.next_multiple_of(4096)
+    }
+
+    pub fn shared_bytes(&self) -> usize {
+        self.start(Role::Host) + self.memory()
+    }
+
+    /// The part of a file that a connection carries; slots count from 1.
+    pub fn part(&self, slot: u32, len: usize) -> Range<usize> {
+        let k = self.connections as usize;
+        let slot = slot as usize;
+        len * (slot - 1) / k..len * slot / k
+    }
+
+    pub fn map_shared(&self) -> io::Result<Map> {
+        Map::of(&OpenOptions::new().read(true).write(true).open(&self.shared)?, true)
+    }
+
+    pub fn map_input(&self) -> io::Result<Map> {
+        Map::of(&File::open(&self.input)?, false)
+    }
+
+    pub fn map_output(&self) -> io::Result<Map> {
+        Map::of(&OpenOptions::new().read(true).write(true).open(&self.output)?, true)
+    }
+}
+
+/// Names of the board's counters.
+#[derive(Clone, Copy)]
+#[repr(usize)]
+pub enum Mark {
+    Go,
+    ComposerReady,
+    HostReady,
+    /// Nanoseconds until the host had read the last byte.
+    Nanoseconds,
+    ComposerMessages,
+    HostMessages,
+    /// Messages that reads made.
+    Updates,
+    /// Sends that were cut short.
+    Blocked,
+    /// Of the bare copy: bytes written, bytes read.
+    Head,
+    Tail,
+}
+
+/// Counters that all processes see, and that outlive one that is killed.
+#[derive(Clone, Copy)]
+pub struct Board<'a> {
+    all: &'a [AtomicU64],
+}
+
+impl<'a> Board<'a> {
+    pub fn of(map: &'a Map) -> Board<'a> {
+        Board { all: map.counters(0, BOARD / 8) }
+    }
+
+    pub fn at(&self, mark: Mark) -> &'a AtomicU64 {
+        &self.all[mark as usize]
+    }
+
+    pub fn get(&self, mark: Mark) -> u64 {
+        self.at(mark).load(Ordering::Acquire)
+    }
+
+    pub fn set(&self, mark: Mark, value: u64) {
+        self.at(mark).store(value, Ordering::Release);
+    }
+
+    pub fn add(&self, mark: Mark, value: u64) {
+        self.at(mark).fetch_add(value, Ordering::AcqRel);
+    }
+
+    /// How many bytes of its part a connection has read.
+    pub fn read(&self, slot: u32) -> &'a AtomicU64 {
+        &self.all[64 + slot as usize]
+    }
+
+    /// How many bytes of its part were taken by sends.
+    pub fn taken(&self, slot: u32) -> &'a AtomicU64 {
+        &self.all[512 + slot as usize]
+    }
+
+    /// Says that this process is ready, and waits until it may begin.
+    pub fn begin(&self, role: Role) {
+        self.set(if role == Role::Composer { Mark::ComposerReady } else { Mark::HostReady }, 1);
+        while self.get(Mark::Go) == 0 {
+            std::thread::yield_now();
+        }
+    }
+}

@@ -1,0 +1,107 @@
+//! What the operating system lends: mappings of a file that two processes share, and waiting on a socket. The C library's functions are
+//! declared by hand, so that no crate is fetched.
+
+use std::ffi::c_void;
+use std::fs::File;
+use std::io;
+use std::os::fd::{AsRawFd, RawFd};
+use std::slice;
+use std::sync::atomic::AtomicU64;
+
+extern "C" {
+    fn mmap(addr: *mut c_void, len: usize, prot: i32, flags: i32, fd: i32, offset: i64) -> *mut c_void;
+    fn munmap(addr: *mut c_void, len: usize) -> i32;
+    fn poll(fds: *mut PollFd, count: u64, timeout: i32) -> i32;
+}
+
+const PROT_READ: i32 = 1;
+const PROT_WRITE: i32 = 2;
+const MAP_SHARED: i32 = 0x01;
+const MAP_POPULATE: i32 = 0x8000;
+const POLLIN: i16 = 1;
+const POLLOUT: i16 = 4;
+
+#[repr(C)]
+struct PollFd {
+    fd: i32,
+    events: i16,
+    revents: i16,
+}
+
+/// Waits until the socket can be read, or written where `writes`; at most a tenth of a second.
+pub fn wait(fd: RawFd, writes: bool) {
+    let events = if writes { POLLIN | POLLOUT } else { POLLIN };
+    let mut fds = PollFd { fd, events, revents: 0 };
+    // SAFETY: one entry, which outlives the call.
+    unsafe { poll(&mut fds, 1, 100) };
+}
+
+/// A file mapped by several processes at once. It is handed out as raw pointers, since the others may write to it at any time.
+pub struct Map {
+    start: *mut u8,
+    len: usize,
+}
+
+impl Map {
+    /// The whole file, its pages touched.
+    pub fn of(file: &File, writes: bool) -> io::Result<Map> {
+        let len = file.metadata()?.len() as usize;
+        if len == 0 {
+            return Ok(Map { start: std::ptr::NonNull::dangling().as_ptr(), len });
+        }
+        let prot = if writes { PROT_READ | PROT_WRITE } else { PROT_READ };
+        // SAFETY: a new mapping at an address of the system's choice.
+        let start = unsafe { mmap(std::ptr::null_mut(), len, prot, MAP_SHARED | MAP_POPULATE, file.as_raw_fd(), 0) };
+        if start as isize == -1 {
+            return Err(io::Error::last_os_error());
+        }
+        Ok(Map { start: start.cast(), len })
+    }
+
+    pub fn len(&self) -> usize {
+        self.len
+    }
+
+    /// Where a part of it begins.
+    pub fn part(&self, at: usize, len: usize) -> *mut u8 {
+        assert!(at <= self.len && len <= self.len - at, "a part of the mapping");
+        // SAFETY: within the mapping.
+        unsafe { self.start.add(at) }
+    }
+
+    /// The bytes of a file that nobody writes while it is mapped.
+    ///
+    /// # Safety
+    ///
+    /// No process may write to the file while the slice is held.
+    pub unsafe fn bytes(&self) -> &[u8] {
+        slice::from_raw_parts(self.start, self.len)
+    }
+
+    /// The bytes of a file that this process alone writes and reads.
+    ///
+    /// # Safety
+    ///
+    /// No other process may write to the file while the slice is held, and no other slice of it may be held here.
+    #[allow(clippy::mut_from_ref)]
+    pub unsafe fn own_bytes(&self) -> &mut [u8] {
+        slice::from_raw_parts_mut(self.start, self.len)
+    }
+
+    /// Counters that every process reads and writes.
+    pub fn counters(&self, at: usize, count: usize) -> &[AtomicU64] {
+        let start = self.part(at, count * 8);
+        assert_eq!(start as usize % 8, 0, "counters are aligned");
+        // SAFETY: within the mapping, aligned, and only ever used as atomics.
+        unsafe { slice::from_raw_parts(start.cast(), count) }
+    }
+}
+
+impl Drop for Map {
+    fn drop(&mut self) {
+        if self.len > 0 {
+            // SAFETY: our own mapping; whoever borrows from it borrows `self`.
+            unsafe { munmap(self.start.cast(), self.len) };
+        }
+    }
+}

@@ -1,0 +1,97 @@
+//! Messages over a Unix socket: 44 bytes each, nothing else.
+
+use fordlinnet::Message;
+use std::io::{self, ErrorKind, Read, Write};
+use std::os::fd::{AsFd, AsRawFd};
+use std::os::unix::net::UnixStream;
+use std::sync::atomic::{fence, Ordering};
+
+pub struct Wire {
+    stream: UnixStream,
+    coming: Vec<u8>,
+    /// How many of `coming` were handed out.
+    taken: usize,
+    going: Vec<u8>,
+    /// How many of `going` were written.
+    written: usize,
+    /// The peer has gone: nothing more will come, nothing can be sent.
+    pub lost: bool,
+}
+
+/// The socket that this process was given as its standard input.
+pub fn given() -> io::Result<UnixStream> {
+    Ok(UnixStream::from(io::stdin().as_fd().try_clone_to_owned()?))
+}
+
+impl Wire {
+    pub fn new(stream: UnixStream) -> io::Result<Wire> {
+        stream.set_nonblocking(true)?;
+        Ok(Wire { stream, coming: Vec::new(), taken: 0, going: Vec::new(), written: 0, lost: false })
+    }
+
+    pub fn post(&mut self, message: &Message) {
+        self.going.extend_from_slice(message.as_bytes());
+    }
+
+    /// Nothing waits to be written.
+    pub fn idle(&self) -> bool {
+        self.going.is_empty()
+    }
+
+    /// Writes what the socket takes. Every placing that a message announces, and every read that it tells of, is done before it leaves:
+    /// the fence keeps the copies before the write.
+    pub fn flush(&mut self) -> io::Result<()> {
+        fence(Ordering::Release);
+        while self.written < self.going.len() && !self.lost {
+            match self.stream.write(&self.going[self.written..]) {
+                Ok(n) => self.written += n,
+                Err(e) if e.kind() == ErrorKind::WouldBlock => return Ok(()),
+                Err(e) if e.kind() == ErrorKind::Interrupted => {}
+                // the peer has gone; what it sent before is still to be taken in
+                Err(e) if matches!(e.kind(), ErrorKind::BrokenPipe | ErrorKind::ConnectionReset) => break,
+                Err(e) => return Err(e),
+            }
+        }
+        self.going.clear();
+        self.written = 0;
+        Ok(())
+    }
+
+    /// Takes in what has come. The fence keeps later reads of the element behind the message that announced its bytes.
+    pub fn fill(&mut self) -> io::Result<()> {
+        let mut piece = [0; 44 * 256];
+        while !self.lost {
+            match self.stream.read(&mut piece) {
+                Ok(0) => self.lost = true,
+                Ok(n) => {
+                    self.coming.extend_from_slice(&piece[..n]);
+                    if n < piece.len() {
+                        break;
+                    }
+                }
+                Err(e) if e.kind() == ErrorKind::WouldBlock => break,
+                Err(e) if e.kind() == ErrorKind::Interrupted => {}
+                Err(e) if e.kind() == ErrorKind::ConnectionReset => self.lost = true,
+                Err(e) => return Err(e),
+            }
+        }
+        fence(Ordering::Acquire);
+        Ok(())
+    }
+
+    /// The next message that has come whole.
+    pub fn next(&mut self) -> Option<[u8; 44]> {
+        let rest = &self.coming[self.taken..];
+        if rest.len() < Message::SIZE {
+            self.coming.drain(..self.taken);
+            self.taken = 0;
+            return None;
+        }
+        self.taken += Message::SIZE;
+        rest[..Message::SIZE].try_into().ok()
+    }
+
+    pub fn wait(&self) {
+        crate::system::wait(self.stream.as_raw_fd(), !self.going.is_empty());
+    }
+}
