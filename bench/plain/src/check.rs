@@ -1,0 +1,76 @@
+//! That the plain calls answer and leave the same as the proved ones, on the second program's random lists.
+
+use crate::ours::Ours;
+use crate::plain;
+use fordlinnet::{Group, Read, Record, Refusal, Sent};
+use model::generate::{exhaust, hostile, traffic};
+use model::replay::{lines, skipped, Line, Replay, OUT_FILL};
+use std::fmt::Debug;
+
+fn same<T, U: Debug + PartialEq>(ours: Result<T, Refusal>, plain: Result<U, Refusal>, of: impl Fn(T) -> U, line: &Line) {
+    let ours = ours.map(of);
+    assert!(ours == plain, "{line:?}\nproved: {ours:?}\nplain: {plain:?}");
+}
+
+fn sent(s: Sent) -> plain::Sent {
+    let placing = |k: usize| s.placings.get(k).map(|p| plain::Placing { key: p.key, address: p.address, start: p.start, len: p.len });
+    plain::Sent { taken: s.taken as u32, placings: [placing(0), placing(1)], message: s.message.map(Into::into) }
+}
+
+fn read(r: Read) -> plain::Read {
+    match r {
+        Read::Bytes { count, message } => plain::Read::Bytes { count: count as u32, message: message.map(Into::into) },
+        Read::Torn { message } => plain::Read::Torn { message: message.into() },
+    }
+}
+
+/// Makes the call on two copies of the group. Whether it is one of the four.
+fn beside(group: &Group, line: &Line) -> bool {
+    let mut ours = group.clone();
+    let (mut memory, mut table): (Vec<u8>, Vec<Record>) = (group.memory().clone(), group.table().to_vec());
+    let active = &group.links().active;
+    let mut plain = plain::Group { s: group.elements(), n: group.element_size(), memory: &mut memory, table: &mut table, active };
+    match line {
+        Line::Send { slot, bytes } => same(ours.send(*slot, bytes), plain.send(*slot, bytes), sent, line),
+        Line::Place { slot, offset, bytes } => same(ours.place(*slot, *offset, bytes), plain.place(*slot, *offset, bytes), |()| (), line),
+        Line::Read { slot, room } => {
+            let (mut a, mut b) = (vec![OUT_FILL; *room], vec![OUT_FILL; *room]);
+            same(ours.read(*slot, &mut a), plain.read(*slot, &mut b), read, line);
+            assert!(a == b, "{line:?}: other bytes");
+        }
+        Line::Hear { bytes } => {
+            let heard = |h: fordlinnet::Heard| plain::Heard { moved: h.moved, state: h.state, message: h.message.map(Into::into) };
+            same(ours.hear(bytes), plain.hear(bytes), heard, line)
+        }
+        _ => return false,
+    }
+    assert!(ours.table() == table, "{line:?}: another table");
+    assert!(*ours.memory() == memory, "{line:?}: other memory");
+    true
+}
+
+/// Runs lists until so many calls were compared; how many were.
+pub fn check(wanted: usize) -> usize {
+    let mut calls = 0;
+    for seed in 1.. {
+        let mut lists =
+            vec![hostile::list(seed, None), traffic::list(4 * seed, traffic::COUNT), traffic::list(4 * seed + 1, traffic::COUNT)];
+        if seed == 1 {
+            lists.push(exhaust::list(1));
+        }
+        for list in lists {
+            let (mut ours, mut replay) = (Ours::new(), Replay::new());
+            for line in lines(&list).into_iter().filter(|line| !skipped(line)) {
+                if let Ok(line) = replay.parse(line) {
+                    calls += usize::from(beside(&ours.group, &line));
+                    replay.execute(&line);
+                    ours.execute(&line);
+                }
+            }
+        }
+        if calls >= wanted {
+            break;
+        }
+    }
+    calls
+}

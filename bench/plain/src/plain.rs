@@ -1,0 +1,344 @@
+//! Read, send, hear and place in ordinary Rust, straight and unproved: the whole of each call, with its refusals, the record, the update
+//! test and the message, as one would write it without proofs. Records are changed where they lie; nothing is copied but the bytes.
+//!
+//! The record is the crate's own (`fordlinnet::Record`), so that both sides work on the same bytes. The calls are not inlined into their
+//! caller, as those of a library are not.
+
+use fordlinnet::{Cursor, Record, Refusal, State, Urgent};
+
+pub const EYE_CATCHER: [u8; 4] = [0xE2, 0xD4, 0xC3, 0xD9];
+
+/// What a call is lent.
+pub struct Group<'a> {
+    pub s: u32,
+    pub n: u32,
+    pub memory: &'a mut [u8],
+    pub table: &'a mut [Record],
+    pub active: &'a [bool; 4],
+}
+
+pub type Bytes44 = [u8; 44];
+
+#[derive(Clone, Copy, Debug, PartialEq)]
+pub struct Placing {
+    pub key: u32,
+    pub address: u64,
+    pub start: u32,
+    pub len: u32,
+}
+
+#[derive(Clone, Copy, Debug, PartialEq)]
+pub struct Sent {
+    pub taken: u32,
+    pub placings: [Option<Placing>; 2],
+    pub message: Option<Bytes44>,
+}
+
+#[derive(Clone, Copy, Debug, PartialEq)]
+pub enum Read {
+    Bytes { count: u32, message: Option<Bytes44> },
+    Torn { message: Bytes44 },
+}
+
+#[derive(Clone, Copy, Debug, PartialEq)]
+pub struct Heard {
+    pub moved: u64,
+    pub state: State,
+    pub message: Option<Bytes44>,
+}
+
+fn in_range(n: u32, c: Cursor) -> bool {
+    4 <= c.offset && c.offset < n
+}
+
+fn distance(n: u32, from: Cursor, to: Cursor) -> i64 {
+    let d = i64::from(n) - 4;
+    i64::from(to.wrap.wrapping_sub(from.wrap)) * d + i64::from(to.offset) - i64::from(from.offset)
+}
+
+/// By at most D.
+fn step(n: u32, c: Cursor, by: u32) -> Cursor {
+    let offset = c.offset + by;
+    if offset < n {
+        Cursor { offset, wrap: c.wrap }
+    } else {
+        Cursor { offset: offset - (n - 4), wrap: c.wrap.wrapping_add(1) }
+    }
+}
+
+fn good(n: u32, distance: i64) -> bool {
+    0 <= distance && distance <= i64::from(n) - 4
+}
+
+/// An urgent place lies after one cursor and up to another.
+fn place_ok(n: u32, from: Cursor, to: Cursor, u: Urgent) -> bool {
+    if !u.standing {
+        return true;
+    }
+    let ahead = distance(n, from, u.place);
+    in_range(n, u.place) && good(n, ahead) && 1 <= ahead && ahead <= distance(n, from, to)
+}
+
+fn coherent(n: u32, r: &Record) -> bool {
+    let peer = &r.remote;
+    if r.id.own == 0 || r.id.peer == 0 || !(1..=4).contains(&r.id.link) || !(8..=65_540).contains(&peer.size) {
+        return false;
+    }
+    if !(1..=255).contains(&peer.index) || (r.marks.sent.closed && r.marks.heard.closed) {
+        return false;
+    }
+    let end = u64::from(peer.index) * u64::from(peer.size);
+    if peer.rtokens.iter().any(|t| t.base.checked_add(end - 1).is_none()) {
+        return false;
+    }
+    let (i, o) = (&r.inbound, &r.outbound);
+    if !(in_range(n, i.producer) && in_range(n, i.consumer) && in_range(n, i.told)) {
+        return false;
+    }
+    if !(in_range(peer.size, o.producer) && in_range(peer.size, o.consumer)) {
+        return false;
+    }
+    let (behind, ahead) = (distance(n, i.told, i.consumer), distance(n, i.consumer, i.producer));
+    good(n, behind)
+        && good(n, ahead)
+        && behind + ahead <= i64::from(n) - 4
+        && good(peer.size, distance(peer.size, o.consumer, o.producer))
+        && place_ok(n, i.consumer, i.producer, i.urgent)
+        && place_ok(peer.size, o.consumer, o.producer, o.urgent)
+}
+
+/// Makes a message: T becomes C, and the next sequence number is used.
+fn message(r: &mut Record, pending: bool, present: bool) -> Bytes44 {
+    let mut m = [0; 44];
+    let (q, c) = (r.outbound.producer, r.inbound.consumer);
+    m[0] = 0xFE;
+    m[1] = 0x2C;
+    m[2..4].copy_from_slice(&r.outbound.next.to_be_bytes());
+    m[4..8].copy_from_slice(&r.id.peer.to_be_bytes());
+    m[10..12].copy_from_slice(&q.wrap.to_be_bytes());
+    m[12..16].copy_from_slice(&q.offset.to_be_bytes());
+    m[18..20].copy_from_slice(&c.wrap.to_be_bytes());
+    m[20..24].copy_from_slice(&c.offset.to_be_bytes());
+    m[24] = u8::from(r.outbound.blocked) << 7 | u8::from(pending) << 6 | u8::from(present) << 5;
+    m[25] = u8::from(r.marks.sent.done) << 7 | u8::from(r.marks.sent.closed) << 6 | u8::from(r.marks.abort) << 5;
+    r.inbound.told = c;
+    r.outbound.next = r.outbound.next.wrapping_add(1);
+    m
+}
+
+fn usual_message(r: &mut Record) -> Bytes44 {
+    let urgent = r.outbound.urgent.standing;
+    message(r, urgent, urgent)
+}
+
+impl Group<'_> {
+    fn sizes_ok(&self) -> bool {
+        (1..=255).contains(&self.s)
+            && (8..=65_540).contains(&self.n)
+            && self.memory.len() == self.s as usize * self.n as usize
+            && self.table.len() == self.s as usize
+    }
+
+    fn sound(&self, at: usize) -> Result<(), Refusal> {
+        let r = &self.table[at];
+        if !coherent(self.n, r) {
+            return Err(Refusal::Incoherent);
+        }
+        if !self.active[r.id.link as usize - 1] {
+            return Err(Refusal::LinkDown);
+        }
+        Ok(())
+    }
+
+    /// Refusals 1, 2, 3 and 6; the slot's place in the table.
+    fn slot(&self, slot: u32) -> Result<usize, Refusal> {
+        if !self.sizes_ok() {
+            return Err(Refusal::Sizes);
+        }
+        if !(1 <= slot && slot <= self.s && self.table[slot as usize - 1].id.opened) {
+            return Err(Refusal::Slot);
+        }
+        let at = slot as usize - 1;
+        self.sound(at)?;
+        Ok(at)
+    }
+
+    #[inline(never)]
+    pub fn read(&mut self, slot: u32, out: &mut [u8]) -> Result<Read, Refusal> {
+        let at = self.slot(slot)?;
+        let n = self.n;
+        let r = &mut self.table[at];
+        if r.marks.sent.closed || r.marks.abort {
+            return Err(Refusal::State);
+        }
+        let element = &self.memory[at * n as usize..(at + 1) * n as usize];
+        if element[..4] != EYE_CATCHER {
+            r.marks.abort = true;
+            return Ok(Read::Torn { message: usual_message(r) });
+        }
+        let i = &mut r.inbound;
+        let unread = distance(n, i.consumer, i.producer) as usize;
+        let count = unread.min(out.len());
+        let from = i.consumer.offset as usize;
+        let first = count.min(n as usize - from);
+        out[..first].copy_from_slice(&element[from..from + first]);
+        out[first..count].copy_from_slice(&element[4..4 + count - first]);
+        i.consumer = step(n, i.consumer, count as u32);
+        let reached = i.urgent.standing && distance(n, i.consumer, i.producer) <= distance(n, i.urgent.place, i.producer);
+        if reached {
+            i.urgent = Urgent::default();
+        }
+        let d = i64::from(n) - 4;
+        let window = d - distance(n, i.told, i.producer);
+        let due = i.blocked || i.request || reached || (2 * window < d && 10 * distance(n, i.told, i.consumer) >= d);
+        let message = if count > 0 && due { Some(usual_message(r)) } else { None };
+        Ok(Read::Bytes { count: count as u32, message })
+    }
+
+    #[inline(never)]
+    pub fn place(&mut self, slot: u32, offset: u32, bytes: &[u8]) -> Result<(), Refusal> {
+        let at = self.slot(slot)?;
+        let n = self.n;
+        let r = &self.table[at];
+        if r.marks.abort || r.marks.heard.done || r.marks.heard.closed {
+            return Err(Refusal::State);
+        }
+        if bytes.is_empty() {
+            return Ok(());
+        }
+        if offset < 4 || offset >= n || bytes.len() > (n - offset) as usize {
+            return Err(Refusal::Placing);
+        }
+        let d = i64::from(n) - 4;
+        let p = r.inbound.producer;
+        let window = d - distance(n, r.inbound.told, p);
+        let mut ahead = i64::from(offset) - i64::from(p.offset);
+        if ahead < 0 {
+            ahead += d;
+        }
+        if window < d && ahead + bytes.len() as i64 > window {
+            return Err(Refusal::Placing);
+        }
+        let start = at * n as usize + offset as usize;
+        self.memory[start..start + bytes.len()].copy_from_slice(bytes);
+        Ok(())
+    }
+
+    #[inline(never)]
+    pub fn send(&mut self, slot: u32, bytes: &[u8]) -> Result<Sent, Refusal> {
+        let at = self.slot(slot)?;
+        let r = &mut self.table[at];
+        let m = &r.marks;
+        if m.sent.done || m.sent.closed || m.abort || m.heard.closed {
+            return Err(Refusal::State);
+        }
+        if bytes.is_empty() || r.outbound.urgent.standing {
+            return Ok(Sent { taken: 0, placings: [None; 2], message: None });
+        }
+        let size = r.remote.size;
+        let q = r.outbound.producer;
+        let room = i64::from(size) - 4 - distance(size, r.outbound.consumer, q);
+        let taken = (room as usize).min(bytes.len()) as u32;
+        let token = r.remote.rtokens[r.id.link as usize - 1];
+        let element = token.base + u64::from(r.remote.index - 1) * u64::from(size);
+        let first = taken.min(size - q.offset);
+        let placing = |offset: u32, start: u32, len: u32| {
+            let address = element + u64::from(offset);
+            (len > 0).then_some(Placing { key: token.key, address, start, len })
+        };
+        let placings = [placing(q.offset, 0, first), placing(4, first, taken - first)];
+        r.outbound.producer = step(size, q, taken);
+        let left = (taken as usize) < bytes.len();
+        let told = r.outbound.blocked;
+        r.outbound.blocked = left;
+        let message = if taken > 0 || (left && !told) { Some(usual_message(r)) } else { None };
+        Ok(Sent { taken, placings, message })
+    }
+
+    #[inline(never)]
+    pub fn hear(&mut self, bytes: &[u8]) -> Result<Heard, Refusal> {
+        if !self.sizes_ok() {
+            return Err(Refusal::Sizes);
+        }
+        let m: &Bytes44 = bytes.try_into().map_err(|_| Refusal::Malformed)?;
+        if m[0] != 0xFE || m[1] != 0x2C {
+            return Err(Refusal::Malformed);
+        }
+        let two = |k: usize| u16::from_be_bytes([m[k], m[k + 1]]);
+        let four = |k: usize| u32::from_be_bytes([m[k], m[k + 1], m[k + 2], m[k + 3]]);
+        let token = four(4);
+        let held = |r: &Record| r.id.opened && r.id.own == token;
+        let at = match self.table.iter().position(held) {
+            Some(at) if token != 0 => at,
+            _ => return Err(Refusal::Token),
+        };
+        self.sound(at)?;
+        let n = self.n;
+        let r = &mut self.table[at];
+        if m[25] & 0x20 != 0 {
+            let message = if r.marks.abort {
+                None
+            } else {
+                r.marks.abort = true;
+                Some(usual_message(r))
+            };
+            *r = Record::default();
+            return Ok(Heard { moved: 0, state: State::Closed, message });
+        }
+        if r.marks.abort {
+            return Ok(Heard { moved: 0, state: State::PeerAbortWait, message: None });
+        }
+        if two(2) != r.inbound.last.wrapping_add(1) {
+            return Err(Refusal::Sequence);
+        }
+        let p = Cursor { offset: four(12), wrap: two(10) };
+        let c = Cursor { offset: four(20), wrap: two(18) };
+        let size = r.remote.size;
+        let (i, o) = (&mut r.inbound, &mut r.outbound);
+        let (far, near) = (distance(n, i.told, p), distance(n, i.told, i.producer));
+        let (left, before) = (distance(size, c, o.producer), distance(size, o.consumer, o.producer));
+        let ended = r.marks.heard.done || r.marks.heard.closed;
+        let kept = in_range(n, p) && in_range(size, c) && good(n, far) && far >= near && good(size, left) && left <= before;
+        if !kept || (ended && p != i.producer) {
+            return Err(Refusal::CursorRule);
+        }
+        let moved = far - near;
+        i.producer = p;
+        i.last = two(2);
+        i.blocked = m[24] & 0x80 != 0;
+        i.request = m[24] & 0x10 != 0;
+        o.consumer = c;
+        if o.urgent.standing && left <= distance(size, o.urgent.place, o.producer) {
+            o.urgent = Urgent::default();
+        }
+        let urged = m[24] & 0x20 != 0 && moved > 0;
+        if urged {
+            i.urgent = Urgent { standing: true, place: p };
+        }
+        let asked = i.request && i.told != i.consumer;
+        r.marks.heard.done |= m[25] & 0x80 != 0;
+        r.marks.heard.closed |= m[25] & 0x40 != 0;
+        let state = state(r);
+        let message = if urged || asked { Some(usual_message(r)) } else { None };
+        if r.marks.sent.closed && r.marks.heard.closed {
+            *r = Record::default();
+        }
+        Ok(Heard { moved: moved as u64, state, message })
+    }
+}
+
+fn state(r: &Record) -> State {
+    let m = &r.marks;
+    let ours = m.sent.done || m.sent.closed;
+    let heard = m.heard.done || m.heard.closed;
+    match (ours, heard) {
+        (false, false) => State::Active,
+        (true, false) => State::PeerCloseWait1,
+        (false, true) => State::AppCloseWait1,
+        (true, true) if m.sent.closed && m.heard.closed => State::Closed,
+        (true, true) if m.sent.closed => State::PeerCloseWait2,
+        (true, true) if m.heard.closed => State::AppCloseWait2,
+        (true, true) if m.first => State::PeerCloseWait2,
+        (true, true) => State::AppCloseWait2,
+    }
+}
