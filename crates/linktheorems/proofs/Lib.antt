@@ -1,3 +1,4 @@
 pub mod Theorems
 pub mod Course
 pub mod TwoEnds
+pub mod TestLink
