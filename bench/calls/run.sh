@@ -5,8 +5,9 @@
 set -eu
 cd "$(dirname "$0")/../.."
 copy=$PWD/target/calls
-below="cursor cdc llc layout llcfields exchange closing gauge flow element connection transmit pieces receive hear finish table linkcalls"
-below="$below rules calls management group"
+below="cursor cdc llc layout llcfields exchange closing gauge flow element connection outcome produced transmit pieces receive heard hear"
+below="$below finish table slots"
+below="$below linkcalls rules sending receiving ending calls opening linkstate management group"
 below="$below gathering"
 rm -rf "$copy/crates"
 mkdir -p "$copy"

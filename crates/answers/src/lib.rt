@@ -2,12 +2,12 @@
 ghost use Prim.Native.Nat.{_≤_};
 use calls::Request;
 use closing::State;
-use connection::Placing;
-use connection::Placings;
-use connection::Reply;
 use gauge::Health;
 use group::Command;
 use management::Management;
+use outcome::Placing;
+use outcome::Placings;
+use outcome::Reply;
 use stream::output;
 use table::Answered;
 

@@ -9,8 +9,6 @@ use Rattle.cdc.specs.declared.Decoded.{Decoded}
 use Rattle.cdc.specs.declared.Decoded.the-variants.{Good, Malformed}
 use Rattle.cdc.specs.Cdc.{decodeOf}
 use Rattle.connection.specs.declared.Record.{Record}
-use Rattle.connection.specs.declared.Effect.{Effect}
-use Rattle.connection.specs.declared.Effect.the-variants.{Nothing, Stores, Copies}
 use Rattle.hear.specs.Hear.{hearOf}
 use Rattle.table.specs.declared.Links.{Links}
 use Rattle.table.specs.declared.Turned.{Turned}
@@ -18,16 +16,6 @@ use Rattle.table.specs.Table.{activeB, settledBy}
 use Rattle.rules.specs.Rules as Rules
 use Rattle.calls.specs.declared.Request.{Request}
 use Rattle.calls.specs.declared.Request.the-variants as Requests
-
-abbrev pub storesB : Effect → Bool
-storesB Nothing = false
-storesB Stores = true
-storesB (Copies n) = false
-
-abbrev pub copiedOf : Effect → ℕ
-copiedOf Nothing = 0
-copiedOf Stores = 0
-copiedOf (Copies n) = n
 
 -- the rules' request that the code's names, with what is lent
 abbrev pub requestOf : Request → List ℕ → List ℕ → Rules.Request

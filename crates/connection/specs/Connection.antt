@@ -1,19 +1,16 @@
--- Document 01, "The memory and the tables" and "The 44-byte message": a connection's record, coherence, and making a message.
+-- Document 01, "The memory and the tables": a connection's record, and coherence.
 -- P, C, T are the inbound producer, consumer and told; Q, R the outbound producer and consumer; N' is the remote size. Inbound `last` is
 -- the last sequence number heard, `blocked` and `request` are B and R of the last message heard; outbound `next` is the next sequence
 -- number, `blocked` our present B. Each side's `urgent` is its urgent place (request 2026-04). Of the marks, `abort` is A sent and `first`
 -- ours first. Remote `index` is the place of the peer's element in its memory, and `link1` to `link4` are that memory's key and base on
 -- each link.
 -- Assumes nothing.
-use Prim.Native.Nat.{ℕ, _+_, _-_, _*_, _%_}
+use Prim.Native.Nat.{ℕ, _+_, _-_, _*_}
 use mathlib.Core.Bool.{Bool, true, false, _&&_, _||_, not, cond}
 use mathlib.Core.List.{List, [], _∷_}
 use lib.Dec.{ltb, leb}
-use lib.ListN.{replicate}
 use Rattle.cursor.specs.declared.Cursor.{Cursor}
 use Rattle.cursor.specs.Cursor.{dataOf, inRange, goodB, gapOf}
-use Rattle.cdc.specs.declared.Message.{Message}
-use Rattle.cdc.specs.Cdc.{encodeOf}
 use Rattle.closing.specs.declared.Side.{Side}
 use Rattle.closing.specs.declared.Marks.{Marks}
 use Rattle.connection.specs.declared.Identity.{Identity}
@@ -24,11 +21,6 @@ use Rattle.connection.specs.declared.Inbound.{Inbound}
 use Rattle.connection.specs.declared.Outbound.{Outbound}
 use Rattle.connection.specs.declared.Record.{Record}
 use Rattle.connection.specs.declared.Opening.{Opening}
-use Rattle.connection.specs.declared.Reply.{Reply}
-use Rattle.connection.specs.declared.Reply.the-variants.{Refused, Accepted, Sent, Read, Torn, Heard, Reset, Sampled}
-use Rattle.connection.specs.declared.Effect.{Effect}
-use Rattle.connection.specs.declared.Effect.the-variants.{Nothing, Stores, Copies}
-use Rattle.connection.specs.declared.Outcome.{Outcome}
 
 -- N and N' are from 8 to 65,540; a link is 1 to 4
 abbrev pub leastSize : ℕ
@@ -241,100 +233,3 @@ reachedB n at to u = u .standing && leb (gapOf (dataOf n) at to) (gapOf (dataOf 
 -- the place is cleared then
 unfoldable pub passedBy : ℕ → Cursor → Cursor → Urgent → Urgent
 passedBy n at to u = cond (reachedB n at to u) noPlace u
-
--- each message carries the peer token, Q, C, our present B, P and U while an urgent place of our own stands, and D, C or A for the marks
--- we have sent; R and F stay zero
-unfoldable pub messageOf : Record → Message
-messageOf rec =
-    record {
-      sequence = rec .outbound .next;
-      token = rec .id .peer;
-      producer = rec .outbound .producer;
-      consumer = rec .inbound .consumer;
-      flags =
-          record {
-            blocked = rec .outbound .blocked;
-            pending = rec .outbound .urgent .standing;
-            urgent = rec .outbound .urgent .standing;
-            request = false;
-            failover = false;
-            done = rec .marks .sent .done;
-            closed = rec .marks .sent .closed;
-            abort = rec .marks .abort;
-          };
-    }
-
--- the message of an urgent send that is cut short has P whatever stands
-unfoldable pub pendingOf : Message → Message
-pendingOf m =
-    record {
-      sequence = m .sequence;
-      token = m .token;
-      producer = m .producer;
-      consumer = m .consumer;
-      flags =
-          record {
-            blocked = m .flags .blocked;
-            pending = true;
-            urgent = m .flags .urgent;
-            request = m .flags .request;
-            failover = m .flags .failover;
-            done = m .flags .done;
-            closed = m .flags .closed;
-            abort = m .flags .abort;
-          };
-    }
-
--- after 65,535 comes 0
-abbrev pub sequenceAfter : ℕ → ℕ
-sequenceAfter s = (s + 1) % 65536
-
--- making one sets T to C
-unfoldable pub toldIn : Inbound → Inbound
-toldIn i = tTo i (i .consumer)
-
--- and uses the next sequence number
-unfoldable pub usedIn : Outbound → Outbound
-usedIn o = nextTo o (sequenceAfter (o .next))
-
-unfoldable pub toldOf : Record → Record
-toldOf rec = outboundTo (inboundTo rec (toldIn (rec .inbound))) (usedIn (rec .outbound))
-
-abbrev pub noMessage : List ℕ
-noMessage = replicate 44 0
-
--- an answer without a message
-abbrev pub silentOf : Reply → Record → Outcome
-silentOf reply rec = record { reply = reply; made = false; message = noMessage; after = rec }
-
--- a call that is accepted and left the record rec: a message is made where `tells`
-unfoldable pub outcomeOf : Reply → Bool → Record → Outcome
-outcomeOf reply tells rec =
-    cond tells
-    (record { reply = reply; made = true; message = encodeOf (messageOf rec); after = toldOf rec })
-    (silentOf reply rec)
-
--- an urgent send always makes one: m, which tells the record rec
-unfoldable pub urgentOutcome : Reply → Message → Record → Outcome
-urgentOutcome reply m rec = record { reply = reply; made = true; message = encodeOf m; after = toldOf rec }
-
--- a refusal returns its number only, and changes nothing
-unfoldable pub refusedOf : ℕ → Record → Outcome
-refusedOf k rec = silentOf (Refused k) rec
-
--- the slot is closed, where `shut`
-unfoldable pub closedIf : Bool → Outcome → Outcome
-closedIf shut o =
-    cond shut (record { reply = o .reply; made = o .made; message = o .message; after = zeroRecord }) o
-
--- What a reply does with the bytes that the call was lent: a place that is accepted stores its bytes, a read of n copies n bytes to the
--- out buffer, every other reply touches none. (Calls that are lent no bytes to store answer `Accepted` too: only a place looks at it.)
-abbrev pub effectOf : Reply → Effect
-effectOf (Refused k) = Nothing
-effectOf Accepted = Stores
-effectOf (Sent n p) = Nothing
-effectOf (Read n) = Copies n
-effectOf Torn = Nothing
-effectOf (Heard moved state) = Nothing
-effectOf Reset = Nothing
-effectOf (Sampled h) = Nothing

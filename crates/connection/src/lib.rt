@@ -1,18 +1,11 @@
-// One connection's record, when it is coherent, and making a message (document 01, "The memory and the tables" and
-// "The 44-byte message").
+// One connection's record, and when it is coherent (document 01, "The memory and the tables").
 ghost use mathlib.Core.Path.{_≡_};
 ghost use mathlib.Core.Bool.{Bool};
-ghost use Rattle.connection.specs.Connection.{restingRecord, zeroRecord, openedRecord, fitsB, remoteOk, numbersOk, offsetsOk};
-ghost use Rattle.connection.specs.Connection.{distancesOk, placeOk, placesOk, coherentB, reachedB, passedBy};
-ghost use Rattle.connection.specs.Connection.{refusalOf, messageOf, toldIn, usedIn, toldOf, silentOf, outcomeOf, refusedOf, closedIf};
-ghost use Rattle.connection.specs.Connection.{noPlace, pendingOf, urgentOutcome, marksTo, effectOf};
-use cdc::Flags;
-use cdc::Message;
+ghost use Rattle.connection.specs.Connection.{noPlace, restingRecord, zeroRecord, openedRecord, fitsB, remoteOk, numbersOk, marksTo};
+ghost use Rattle.connection.specs.Connection.{offsetsOk, distancesOk, placeOk, placesOk, coherentB, reachedB, passedBy, refusalOf};
 use closing::Marks;
 use closing::Side;
-use closing::State;
 use cursor::Cursor;
-use gauge::Health;
 
 // The bytes of an element, ours or the peer's: at least and at most.
 pub const LEAST_SIZE: u32 = 8;
@@ -103,54 +96,6 @@ pub struct Opening {
     pub peer: u32,
     pub link: u8,
     pub remote: Remote,
-}
-
-// Bytes for the card to write: the peer's memory key and an address, a start in the bytes sent, and a length.
-#[repr(C)]
-pub struct Placing {
-    pub key: u32,
-    pub address: u64,
-    pub start: u32,
-    pub len: u32,
-}
-
-pub enum Placings {
-    Nowhere,
-    One(Placing),
-    Two(Placing, Placing),
-}
-
-// What a call's line names, beside the message.
-pub enum Reply {
-    // one numbered refusal
-    Refused(u8),
-    // a call for which nothing else is named
-    Accepted,
-    Sent(u32, Placings),
-    Read(u32),
-    Torn,
-    Heard(u64, State),
-    // a close with unread bytes
-    Reset,
-    // a sample: the health of its link
-    Sampled(Health),
-}
-
-// What a reply does with the bytes that the call was lent.
-pub enum Effect {
-    Nothing,
-    // a place's bytes are stored in the element
-    Stores,
-    // so many bytes are copied to a read's out buffer
-    Copies(u32),
-}
-
-// What a call on one record answers and leaves: the message's bytes where one was made, else zeros.
-pub struct Outcome {
-    pub reply: Reply,
-    pub made: bool,
-    pub message: [u8; 44],
-    pub after: Record,
 }
 
 // No urgent place stands.
@@ -259,71 +204,85 @@ pub fn remote_ok(r: Remote) -> bool
 {
     let size = r.size;
     let index = r.index;
+    if size < LEAST_SIZE {
+        return false;
+    }
+    if MOST_SIZE < size {
+        return false;
+    }
+    if index < 1 {
+        return false;
+    }
+    if MOST_INDEX < index {
+        return false;
+    }
     let on_1 = fits(size, index, r.link1.base);
     let on_2 = fits(size, index, r.link2.base);
     let on_3 = fits(size, index, r.link3.base);
     let on_4 = fits(size, index, r.link4.base);
-    (LEAST_SIZE <= size)
-        & ((size <= MOST_SIZE)
-            & ((1 <= index) & ((index <= MOST_INDEX) & (on_1 & (on_2 & (on_3 & on_4))))))
+    on_1 & (on_2 & (on_3 & on_4))
 }
 
 fn numbers_ok(rec: Record) -> bool
     ensures { λ r. ⌜ r ≡ numbersOk rec ⌝ }
 {
-    let id = rec.id;
-    let ok = remote_ok(rec.remote);
-    (0 < id.own)
-        & ((0 < id.peer)
-            & ((1 <= id.link)
-                & ((id.link <= MOST_LINK)
-                    & (ok & !(rec.marks.sent.closed & rec.marks.heard.closed)))))
+    let own = rec.id.own;
+    let peer = rec.id.peer;
+    let link = rec.id.link;
+    if own == 0 {
+        return false;
+    }
+    if peer == 0 {
+        return false;
+    }
+    if link < 1 {
+        return false;
+    }
+    if MOST_LINK < link {
+        return false;
+    }
+    if rec.marks.sent.closed & rec.marks.heard.closed {
+        return false;
+    }
+    remote_ok(rec.remote)
 }
 
 fn offsets_ok(n: u32, rec: Record) -> bool
     ensures { λ r. ⌜ r ≡ offsetsOk n rec ⌝ }
 {
-    let i = rec.inbound;
-    let o = rec.outbound;
     let size = rec.remote.size;
-    let p = i.producer;
-    let c = i.consumer;
-    let t = i.told;
-    let q = o.producer;
-    let r = o.consumer;
-    cursor::in_range(n, p)
-        & (cursor::in_range(n, c)
-            & (cursor::in_range(n, t) & (cursor::in_range(size, q) & cursor::in_range(size, r))))
+    cursor::in_range(n, rec.inbound.producer)
+        & (cursor::in_range(n, rec.inbound.consumer)
+            & (cursor::in_range(n, rec.inbound.told)
+                & (cursor::in_range(size, rec.outbound.producer)
+                    & cursor::in_range(size, rec.outbound.consumer))))
 }
 
 fn distances_ok(n: u32, rec: Record) -> bool
     ensures { λ r. ⌜ r ≡ distancesOk n rec ⌝ }
 {
-    let i = rec.inbound;
-    let o = rec.outbound;
-    let size = rec.remote.size;
-    let p = i.producer;
-    let c = i.consumer;
-    let t = i.told;
-    let q = o.producer;
-    let r = o.consumer;
     let d = cursor::data_size(n);
-    let e = cursor::data_size(size);
-    cursor::good(d, t, c)
-        & (cursor::good(d, c, p)
-            & ((cursor::gap(d, t, c) + cursor::gap(d, c, p) <= (d as u64)) & cursor::good(e, r, q)))
+    let e = cursor::data_size(rec.remote.size);
+    cursor::good(d, rec.inbound.told, rec.inbound.consumer)
+        & (cursor::good(d, rec.inbound.consumer, rec.inbound.producer)
+            & ((cursor::gap(d, rec.inbound.told, rec.inbound.consumer)
+                + cursor::gap(d, rec.inbound.consumer, rec.inbound.producer)
+                <= (d as u64))
+                & cursor::good(e, rec.outbound.consumer, rec.outbound.producer)))
 }
 
 // Whether an urgent place lies after `from` up to `to`, in an element of n bytes.
 fn place_ok(n: u32, from: Cursor, to: Cursor, u: Urgent) -> bool
     ensures { λ r. ⌜ r ≡ placeOk n from to u ⌝ }
 {
+    if !u.standing {
+        return true;
+    }
     let at = u.place;
     let d = cursor::data_size(n);
     let far = cursor::gap(d, from, at);
-    !u.standing
-        | (cursor::in_range(n, at)
-            & (cursor::good(d, from, at) & ((1 <= far) & (far <= cursor::gap(d, from, to)))))
+    cursor::in_range(n, at)
+        & (cursor::good(d, from, at) & ((1 <= far) & (far <= cursor::gap(d, from, to))))
 }
 
 fn places_ok(n: u32, rec: Record) -> bool
@@ -337,23 +296,40 @@ fn places_ok(n: u32, rec: Record) -> bool
     let r = o.consumer;
     let q = o.producer;
     let ours = o.urgent;
-    place_ok(n, c, p, theirs) & place_ok(rec.remote.size, r, q, ours)
+    if place_ok(n, c, p, theirs) {
+        place_ok(rec.remote.size, r, q, ours)
+    } else {
+        false
+    }
 }
 
 // Whether an open record is coherent, in a memory whose elements have n bytes.
 pub fn coherent(n: u32, rec: Record) -> bool
     ensures { λ r. ⌜ r ≡ coherentB n rec ⌝ }
 {
-    numbers_ok(rec) & (offsets_ok(n, rec) & (distances_ok(n, rec) & places_ok(n, rec)))
+    if !numbers_ok(rec) {
+        return false;
+    }
+    if !offsets_ok(n, rec) {
+        return false;
+    }
+    if !distances_ok(n, rec) {
+        return false;
+    }
+    places_ok(n, rec)
 }
 
 // Whether a cursor on its way to `to`, now at `at`, has reached or passed an urgent place that stands.
 pub fn reached(n: u32, at: Cursor, to: Cursor, u: Urgent) -> bool
     ensures { λ r. ⌜ r ≡ reachedB n at to u ⌝ }
 {
-    let place = u.place;
-    let d = cursor::data_size(n);
-    u.standing & (cursor::gap(d, at, to) <= cursor::gap(d, place, to))
+    if u.standing {
+        let place = u.place;
+        let d = cursor::data_size(n);
+        cursor::gap(d, at, to) <= cursor::gap(d, place, to)
+    } else {
+        false
+    }
 }
 
 // The place is cleared then.
@@ -379,134 +355,6 @@ pub fn refusal(n: u32, active: bool, rec: Record, forbids: bool) -> u8
     }
 }
 
-// The message that tells the record's present state.
-pub fn message_of(rec: Record) -> Message
-    ensures { λ r. ⌜ r ≡ messageOf rec ⌝ }
-{
-    let q = rec.outbound.producer;
-    let c = rec.inbound.consumer;
-    let flags = Flags {
-        blocked: rec.outbound.blocked,
-        pending: rec.outbound.urgent.standing,
-        urgent: rec.outbound.urgent.standing,
-        request: false,
-        failover: false,
-        done: rec.marks.sent.done,
-        closed: rec.marks.sent.closed,
-        abort: rec.marks.abort,
-    };
-    Message {
-        sequence: rec.outbound.next,
-        token: rec.id.peer,
-        producer: q,
-        consumer: c,
-        flags: flags,
-    }
-}
-
-// The message with P.
-pub fn pending(m: Message) -> Message
-    ensures { λ r. ⌜ r ≡ pendingOf m ⌝ }
-{
-    let mut next = m;
-    next.flags.pending = true;
-    next
-}
-
-fn told_in(i: Inbound) -> Inbound
-    ensures { λ r. ⌜ r ≡ toldIn i ⌝ }
-{
-    let c = i.consumer;
-    let mut next = i;
-    next.told = c;
-    next
-}
-
-fn used_in(o: Outbound) -> Outbound
-    ensures { λ r. ⌜ r ≡ usedIn o ⌝ }
-{
-    let s = ((o.next as u32 + 1) % 65536) as u16;
-    let mut next = o;
-    next.next = s;
-    next
-}
-
-// The record once a message is made: T is C, and the next sequence number is used.
-fn told(rec: Record) -> Record
-    ensures { λ r. ⌜ r ≡ toldOf rec ⌝ }
-{
-    let i = told_in(rec.inbound);
-    let o = used_in(rec.outbound);
-    let mut next = rec;
-    next.inbound = i;
-    next.outbound = o;
-    next
-}
-
-// An outcome without a message.
-fn silent(reply: Reply, rec: Record) -> Outcome
-    ensures { λ r. ⌜ r ≡ silentOf reply rec ⌝ }
-{
-    Outcome {
-        reply: reply,
-        made: false,
-        message: [0u8; 44],
-        after: rec,
-    }
-}
-
-// The outcome of an accepted call that left the record rec: with a message where `tells`.
-pub fn outcome_of(reply: Reply, tells: bool, rec: Record) -> Outcome
-    ensures { λ r. ⌜ r ≡ outcomeOf reply tells rec ⌝ }
-{
-    if tells {
-        let bytes = cdc::encode(message_of(rec));
-        let next = told(rec);
-        return Outcome {
-            reply: reply,
-            made: true,
-            message: bytes,
-            after: next,
-        };
-    }
-    silent(reply, rec)
-}
-
-// The outcome of an urgent send that left the record rec: with the message m.
-pub fn urgent_outcome(reply: Reply, m: Message, rec: Record) -> Outcome
-    ensures { λ r. ⌜ r ≡ urgentOutcome reply m rec ⌝ }
-{
-    let bytes = cdc::encode(m);
-    let left = told(rec);
-    Outcome {
-        reply: reply,
-        made: true,
-        message: bytes,
-        after: left,
-    }
-}
-
-// A refusal: its number, and the record as it was.
-pub fn refused(k: u8, rec: Record) -> Outcome
-    ensures { λ r. ⌜ r ≡ refusedOf k rec ⌝ }
-{
-    silent(Reply::Refused(k), rec)
-}
-
-// The outcome with its slot closed where `shut`.
-pub fn closed_if(shut: bool, o: Outcome) -> Outcome
-    ensures { λ r. ⌜ r ≡ closedIf shut o ⌝ }
-{
-    if shut {
-        let z = zero_record();
-        let mut next = o;
-        next.after = z;
-        next
-    } else {
-        o
-    }
-}
-
 // The record with other marks.
 pub fn marks_to(rec: Record, marks: Marks) -> Record
     ensures { λ r. ⌜ r ≡ marksTo rec marks ⌝ }
@@ -514,20 +362,4 @@ pub fn marks_to(rec: Record, marks: Marks) -> Record
     let mut next = rec;
     next.marks = marks;
     next
-}
-
-// What the reply does with the bytes that the call was lent.
-pub fn effect_of(reply: Reply) -> Effect
-    ensures { λ r. ⌜ r ≡ effectOf reply ⌝ }
-{
-    match reply {
-        Reply::Refused(_) => Effect::Nothing,
-        Reply::Accepted => Effect::Stores,
-        Reply::Sent(_, _) => Effect::Nothing,
-        Reply::Read(n) => Effect::Copies(n),
-        Reply::Torn => Effect::Nothing,
-        Reply::Heard(_, _) => Effect::Nothing,
-        Reply::Reset => Effect::Nothing,
-        Reply::Sampled(_) => Effect::Nothing,
-    }
 }

@@ -10,8 +10,8 @@ use Rattle.exchange.specs.Exchange.{noExchange, emptyQueue}
 use Rattle.gauge.specs.declared.Gauge.{Gauge}
 use Rattle.gauge.specs.Gauge.{clearedOf}
 use Rattle.connection.specs.declared.Record.{Record}
-use Rattle.connection.specs.declared.Placing.{Placing}
-use Rattle.connection.specs.Connection.{noMessage}
+use Rattle.outcome.specs.declared.Placing.{Placing}
+use Rattle.outcome.specs.Outcome.{noMessage}
 use Rattle.gauge.specs.declared.Health.{Health}
 use Rattle.gauge.specs.declared.Health.the-variants.{Unheard, Steady, Late}
 use Rattle.calls.specs.Calls.{readsB}

@@ -10,12 +10,14 @@ use lib.Dec.{ltb, eqb}
 use Rattle.closing.specs.declared.Marks.{Marks}
 use Rattle.closing.specs.Closing.{doneSent, closedSent, abortSent}
 use Rattle.connection.specs.declared.Record.{Record}
-use Rattle.connection.specs.declared.Reply.{Reply}
-use Rattle.connection.specs.declared.Reply.the-variants.{Refused, Accepted, Reset}
-use Rattle.connection.specs.declared.Outcome.{Outcome}
-use Rattle.connection.specs.Connection.{zeroRecord, coherentB, refusalOf, refusedOf, outcomeOf, closedIf, marksTo}
+use Rattle.outcome.specs.declared.Reply.{Reply}
+use Rattle.outcome.specs.declared.Reply.the-variants.{Refused, Accepted, Reset}
+use Rattle.outcome.specs.declared.Outcome.{Outcome}
+use Rattle.connection.specs.Connection.{zeroRecord, coherentB, refusalOf, marksTo}
+use Rattle.outcome.specs.Outcome.{refusedOf, outcomeOf, closedIf}
 use Rattle.receive.specs.Receive.{unreadOf}
-use Rattle.connection.proofs.Laws.{outcome-reply, coherent-facts, refusal-0, refused-after, outcome-id, outcome-marks, outcome-coherent, closed-after, marks-coherent}
+use Rattle.connection.proofs.Laws.{coherent-facts, refusal-0, marks-coherent}
+use Rattle.outcome.proofs.Laws.{outcome-reply, refused-after, outcome-id, outcome-marks, outcome-coherent, closed-after}
 use Rattle.finish.specs.Finish.{shutdownForbids, shutdownOf, closeForbids, resetOf, closingOf, closeOf, abortOf}
 
 -- the outcome of a call that only sets marks

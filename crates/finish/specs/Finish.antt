@@ -6,9 +6,10 @@ use lib.Dec.{ltb, eqb}
 use Rattle.closing.specs.declared.Marks.{Marks}
 use Rattle.closing.specs.Closing.{doneSent, closedSent, abortSent}
 use Rattle.connection.specs.declared.Record.{Record}
-use Rattle.connection.specs.declared.Reply.the-variants.{Accepted, Reset}
-use Rattle.connection.specs.declared.Outcome.{Outcome}
-use Rattle.connection.specs.Connection.{refusalOf, refusedOf, outcomeOf, closedIf, marksTo}
+use Rattle.outcome.specs.declared.Reply.the-variants.{Accepted, Reset}
+use Rattle.outcome.specs.declared.Outcome.{Outcome}
+use Rattle.connection.specs.Connection.{refusalOf, marksTo}
+use Rattle.outcome.specs.Outcome.{refusedOf, outcomeOf, closedIf}
 use Rattle.receive.specs.Receive.{unreadOf}
 
 -- 7: shutdown after D, C or A sent

@@ -4,9 +4,9 @@ ghost use Rattle.finish.specs.Finish.{shutdownForbids, shutdownOf, close
 ghost use Rattle.receive.specs.Receive.{unreadOf};
 ghost use lib.Dec.{ltb};
 use closing::Marks;
-use connection::Outcome;
 use connection::Record;
-use connection::Reply;
+use outcome::Outcome;
+use outcome::Reply;
 
 fn shutdown_forbids(m: Marks) -> bool
     ensures { λ r. ⌜ r ≡ shutdownForbids m ⌝ }
@@ -26,10 +26,10 @@ pub fn shutdown(n: u32, active: bool, rec: Record) -> Outcome
 {
     let no = connection::refusal(n, active, rec, shutdown_forbids(rec.marks));
     if no != 0 {
-        return connection::refused(no, rec);
+        return outcome::refused(no, rec);
     }
     let done = connection::marks_to(rec, closing::done_sent(rec.marks));
-    connection::outcome_of(Reply::Accepted, true, done)
+    outcome::outcome_of(Reply::Accepted, true, done)
 }
 
 // Whether bytes are unread: the distance C to P is above 0.
@@ -47,7 +47,7 @@ fn reset(rec: Record) -> Outcome
     ensures { λ r. ⌜ r ≡ resetOf rec ⌝ }
 {
     let aborted = connection::marks_to(rec, closing::abort_sent(rec.marks));
-    connection::outcome_of(Reply::Reset, true, aborted)
+    outcome::outcome_of(Reply::Reset, true, aborted)
 }
 
 // With none it sends C, and the slot is closed if C was heard.
@@ -55,8 +55,8 @@ fn finished(rec: Record) -> Outcome
     ensures { λ r. ⌜ r ≡ closingOf rec ⌝ }
 {
     let closed = connection::marks_to(rec, closing::closed_sent(rec.marks));
-    let o = connection::outcome_of(Reply::Accepted, true, closed);
-    connection::closed_if(rec.marks.heard.closed, o)
+    let o = outcome::outcome_of(Reply::Accepted, true, closed);
+    outcome::closed_if(rec.marks.heard.closed, o)
 }
 
 // Close looks at the unread bytes first: none is dropped in silence.
@@ -65,7 +65,7 @@ pub fn close(n: u32, active: bool, rec: Record) -> Outcome
 {
     let no = connection::refusal(n, active, rec, close_forbids(rec.marks));
     if no != 0 {
-        return connection::refused(no, rec);
+        return outcome::refused(no, rec);
     }
     if has_unread(n, rec) {
         reset(rec)
@@ -80,8 +80,8 @@ pub fn abort(n: u32, active: bool, rec: Record) -> Outcome
 {
     let no = connection::refusal(n, active, rec, rec.marks.abort);
     if no != 0 {
-        return connection::refused(no, rec);
+        return outcome::refused(no, rec);
     }
     let aborted = connection::marks_to(rec, closing::abort_sent(rec.marks));
-    connection::outcome_of(Reply::Accepted, true, aborted)
+    outcome::outcome_of(Reply::Accepted, true, aborted)
 }

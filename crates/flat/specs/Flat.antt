@@ -14,8 +14,8 @@ use Rattle.exchange.specs.Exchange.{clientB}
 use Rattle.gauge.specs.declared.Health.{Health}
 use Rattle.gauge.specs.declared.Health.the-variants.{Unheard, Steady, Late}
 use Rattle.gauge.specs.Gauge.{none}
-use Rattle.connection.specs.declared.Placing.{Placing}
-use Rattle.connection.specs.Connection.{noMessage}
+use Rattle.outcome.specs.declared.Placing.{Placing}
+use Rattle.outcome.specs.Outcome.{noMessage}
 use Rattle.calls.specs.declared.Request.the-variants as On
 use Rattle.calls.specs.Calls.{readsB}
 use Rattle.management.specs.declared.Management.the-variants as Desk

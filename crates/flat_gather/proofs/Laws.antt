@@ -7,7 +7,7 @@ use lib.Dec.{ltb}
 use lib.ListN.{length}
 use borrow.Author.Tests.{lt-ltb, le-ltb}
 use Rattle.connection.specs.declared.Record.{Record}
-use Rattle.connection.specs.declared.Placing.{Placing}
+use Rattle.outcome.specs.declared.Placing.{Placing}
 use Rattle.transmit.specs.Transmit.{placingAt}
 use Rattle.pieces.specs.Pieces.{bytesOf, stretchOf}
 use Rattle.flat_gather.specs.declared.FlatPiece.{FlatPiece}

@@ -3,9 +3,9 @@ ghost use mathlib.Core.Path.{_≡_};
 ghost use lib.ListN.{length};
 ghost use Rattle.flat_gather.specs.FlatGather.{gatherFlat, bufferOf, startOf, pieceAt};
 use connection::Record;
-use connection::Reply;
 use flat::FlatAnswer;
 use gathering::Gathered;
+use outcome::Reply;
 use table::Answered;
 
 // What an answer says.

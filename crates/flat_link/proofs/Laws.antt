@@ -8,11 +8,11 @@ use Rattle.llcfields.specs.Layouts.{kindOf, namedB}
 use Rattle.exchange.specs.declared.Fate.{Fate}
 use Rattle.gauge.specs.declared.Health.{Health}
 use Rattle.gauge.specs.declared.Health.the-variants.{Unheard, Steady, Late}
-use Rattle.connection.specs.Connection.{noMessage}
-use Rattle.connection.specs.declared.Placings.{Placings}
-use Rattle.connection.specs.declared.Placings.the-variants.{Nowhere, One, Two}
-use Rattle.connection.specs.declared.Reply.{Reply}
-use Rattle.connection.specs.declared.Reply.the-variants.{Refused, Accepted, Sent, Read, Torn, Reset, Heard, Sampled}
+use Rattle.outcome.specs.Outcome.{noMessage}
+use Rattle.outcome.specs.declared.Placings.{Placings}
+use Rattle.outcome.specs.declared.Placings.the-variants.{Nowhere, One, Two}
+use Rattle.outcome.specs.declared.Reply.{Reply}
+use Rattle.outcome.specs.declared.Reply.the-variants.{Refused, Accepted, Sent, Read, Torn, Reset, Heard, Sampled}
 use Rattle.table.specs.declared.Links.{Links}
 use Rattle.table.specs.declared.Answered.{Answered}
 use Rattle.linkcalls.specs.declared.Fields.{Fields}

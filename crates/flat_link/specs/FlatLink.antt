@@ -8,7 +8,7 @@ use lib.ListN.{replicate}
 use Rattle.llcfields.specs.Layouts.{codeOf, kindOf, namedB}
 use Rattle.exchange.specs.declared.Fate.{Fate}
 use Rattle.exchange.specs.declared.Fate.the-variants.{Taken, Queued, Denied, Dropped}
-use Rattle.connection.specs.Connection.{noMessage}
+use Rattle.outcome.specs.Outcome.{noMessage}
 use Rattle.table.specs.declared.Links.{Links}
 use Rattle.table.specs.declared.Answered.{Answered}
 use Rattle.linkcalls.specs.declared.Fields.{Fields}

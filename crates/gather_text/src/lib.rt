@@ -3,10 +3,10 @@
 ghost use mathlib.Core.Path.{_≡_};
 ghost use Prim.Native.Nat.{_-_, _≤_, min};
 ghost use Rattle.gather_text.specs.GatherText.{OnRows};
-use connection::Placing;
 use connection::Record;
-use connection::Reply;
 use gathering::Gathered;
+use outcome::Placing;
+use outcome::Reply;
 use stream::input;
 use stream::input::Scan;
 use stream::output;

@@ -5,7 +5,7 @@ use mathlib.Core.Bool.{Bool}
 use mathlib.Core.List.{List, [], _++_}
 use lib.ListN.{length, length-append}
 use Rattle.connection.specs.declared.Record.{Record}
-use Rattle.connection.specs.declared.Outcome.{Outcome}
+use Rattle.outcome.specs.declared.Outcome.{Outcome}
 use Rattle.transmit.specs.Transmit.{sendOf}
 use Rattle.pieces.specs.Pieces.{piecesOf}
 use Rattle.table.specs.declared.Links.{Links}

@@ -75,9 +75,9 @@ pub fn gather(
         × (r .found ≡ recordAt (now (table .entry)) slot) ⌝ }
 {
     let k = slot as usize;
-    let rec = table::record_at(table, k);
+    let rec = slots::record_at(table, k);
     let d = turn(s, n, mem, table.len(), links, slot, rec, head, body);
     let after = after_of(d);
-    table::put_record(table, k, after);
+    slots::put_record(table, k, after);
     answer_of(d, rec)
 }

@@ -115,9 +115,9 @@ pub fn make(
         × OutKept command (now (out .entry)) (now (out .exit)) ⌝ }
 {
     let token = token_of(command, bytes);
-    let holder = table::find(table, token);
+    let holder = slots::find(table, token);
     let slot = slot_of(command, holder);
-    let rec = table::record_at(table, slot);
+    let rec = slots::record_at(table, slot);
     let d = turn(
         s,
         n,
@@ -131,6 +131,6 @@ pub fn make(
         out,
     );
     let after = after_of(d);
-    table::put_record(table, slot, after);
+    slots::put_record(table, slot, after);
     answer_of(d)
 }

@@ -7,10 +7,11 @@ use Rattle.cdc.specs.declared.Message.{Message}
 use Rattle.closing.specs.declared.State.{State}
 use Rattle.closing.specs.Closing.{stateOf}
 use Rattle.connection.specs.declared.Record.{Record}
-use Rattle.connection.specs.declared.Reply.the-variants.{Heard}
-use Rattle.connection.specs.declared.Outcome.{Outcome}
-use Rattle.connection.specs.Connection.{outcomeOf, closedIf}
-use Rattle.hear.specs.Hear.{movedBy, heardRecord, answersB, acceptedOf}
+use Rattle.outcome.specs.declared.Reply.the-variants.{Heard}
+use Rattle.outcome.specs.declared.Outcome.{Outcome}
+use Rattle.outcome.specs.Outcome.{outcomeOf, closedIf}
+use Rattle.heard.specs.Heard.{movedBy, heardRecord, answersB}
+use Rattle.hear.specs.Hear.{acceptedOf}
 
 pub accepted-parts : (n : ℕ) (rec : Record) (m : Message) (g : ℕ) (w : Record) (s : State) (t : Bool) (o z : Outcome)
     → g ≡ movedBy n (rec .inbound) m → w ≡ heardRecord n rec m → s ≡ stateOf (w .marks)

@@ -8,9 +8,9 @@ use lib.Dec.{eqb}
 use Rattle.llcfields.specs.declared.Kind.{Kind}
 use Rattle.llcfields.specs.Layouts.{encodeOf}
 use Rattle.exchange.specs.Exchange.{dueB}
-use Rattle.connection.specs.declared.Reply.{Reply}
-use Rattle.connection.specs.declared.Reply.the-variants.{Refused, Accepted}
-use Rattle.connection.specs.Connection.{noMessage}
+use Rattle.outcome.specs.declared.Reply.{Reply}
+use Rattle.outcome.specs.declared.Reply.the-variants.{Refused, Accepted}
+use Rattle.outcome.specs.Outcome.{noMessage}
 use Rattle.table.specs.declared.Links.{Links}
 use Rattle.linkcalls.specs.declared.Heard.{Heard}
 use Rattle.linkcalls.specs.declared.Sent.{Sent}

@@ -3,11 +3,11 @@
 ghost use mathlib.Core.Path.{_≡_};
 ghost use Rattle.linkcalls.specs.Calls.{heardOf, sentOf};
 ghost use Rattle.linkdesk.specs.LinkDesk.{replyBy, heardBy, sentBy, DidMessage, DidSend};
-use connection::Reply;
 use exchange::Fate;
 use linkcalls::Fields;
 use linkcalls::TakenUp;
 use llcfields::Kind;
+use outcome::Reply;
 use table::Answered;
 use table::Links;
 

@@ -1,22 +1,8 @@
 -- What the calls of management are made of. Assumes nothing.
 use Prim.Native.Nat.{ℕ}
-use mathlib.Core.Bool.{false}
-use Rattle.gauge.specs.declared.Health.{Health}
-use Rattle.connection.specs.declared.Reply.the-variants.{Accepted, Sampled}
-use Rattle.connection.specs.Connection.{noMessage}
-use Rattle.table.specs.declared.Links.{Links}
-use Rattle.table.specs.declared.Answered.{Answered}
 use Rattle.rules.specs.Rules as Rules
 use Rattle.management.specs.declared.Management.{Management}
 use Rattle.management.specs.declared.Management.the-variants as Calls
-
--- an accepted call's answer
-unfoldable pub answeredBy : Links → Answered
-answeredBy links = record { reply = Accepted; made = false; message = noMessage; links = links }
-
--- a sample's answer: the health
-unfoldable pub healthBy : Health → Links → Answered
-healthBy h links = record { reply = Sampled h; made = false; message = noMessage; links = links }
 
 -- the rules' call that the code's names
 abbrev pub managementOf : Management → Rules.Management

@@ -13,7 +13,8 @@ use Rattle.cdc.specs.declared.Decoded.{Decoded}
 use Rattle.cdc.specs.declared.Decoded.the-variants.{Good, Malformed}
 use Rattle.cdc.specs.Cdc.{decodeOf}
 use Rattle.connection.specs.declared.Record.{Record}
-use Rattle.connection.specs.Connection.{zeroRecord, noMessage}
+use Rattle.connection.specs.Connection.{zeroRecord}
+use Rattle.outcome.specs.Outcome.{noMessage}
 use Rattle.table.specs.Table.{slotB, recordAt, openB, activeB, findFrom}
 use Rattle.rules.specs.Rules.{Group, Request, Call, on, hear, manage, refusal, Answer, Turn, Done, does, answer, next, refuses, outOf, sizesOk, recordOf, elementIn, linkOf, putTurn, onDoes, hearDoes, hearMessage, hearAt, holderOf}
 use Rattle.order.specs.Statement.{hearer, ActsOn, SameSlot, Agree, WhoSeesWhat}

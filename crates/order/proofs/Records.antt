@@ -17,13 +17,16 @@ use Rattle.cdc.specs.Cdc.{decodeOf}
 use Rattle.flow.specs.Flow.{windowOf}
 use Rattle.element.specs.Element.{splice, inData, allFree}
 use Rattle.connection.specs.declared.Record.{Record}
-use Rattle.connection.specs.declared.Reply.{Reply}
-use Rattle.connection.specs.declared.Reply.the-variants.{Accepted}
-use Rattle.connection.specs.declared.Outcome.{Outcome}
-use Rattle.connection.specs.Connection.{effectOf, zeroRecord, refusalOf, refusedOf, outcomeOf, urgentOutcome, toldOf, closedIf, marksTo}
-use Rattle.transmit.specs.Transmit.{sendOf, sentOf, producedOf, urgedOf, urgentOf, urgentSendOf}
+use Rattle.outcome.specs.declared.Reply.{Reply}
+use Rattle.outcome.specs.declared.Reply.the-variants.{Accepted}
+use Rattle.outcome.specs.declared.Outcome.{Outcome}
+use Rattle.connection.specs.Connection.{zeroRecord, refusalOf, marksTo}
+use Rattle.outcome.specs.Outcome.{effectOf, refusedOf, outcomeOf, urgentOutcome, toldOf, closedIf}
+use Rattle.transmit.specs.Transmit.{sendOf, sentOf, urgentOf, urgentSendOf}
+use Rattle.produced.specs.Produced.{producedOf, urgedOf}
 use Rattle.receive.specs.Receive.{placeOf, mayPlace, placeForbids, readOf, takeOf, tornOf, consumedOf}
-use Rattle.hear.specs.Hear.{ruledOf, hearOf, abortedOf, followedOf, acceptedOf, heardRecord}
+use Rattle.hear.specs.Hear.{ruledOf, hearOf, abortedOf, followedOf, acceptedOf}
+use Rattle.heard.specs.Heard.{heardRecord}
 use Rattle.finish.specs.Finish.{resetOf, closingOf, shutdownOf, closeOf, abortOf}
 use Rattle.rules.specs.Rules.{Request, send, gather, urgent, place, read, shutdown, close, abort, Call, on, hear, manage, Turn, turnOf, requestTurn, hearTurn, placedIn}
 

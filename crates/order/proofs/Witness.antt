@@ -16,8 +16,10 @@ use Rattle.gauge.specs.Gauge.{clearedOf}
 use Rattle.exchange.specs.declared.Role.the-variants.{Client}
 use Rattle.exchange.specs.Exchange.{noExchange, emptyQueue, endsB}
 use Rattle.element.specs.Element.{part, elementOf, splice, freshElement}
-use Rattle.connection.specs.Connection.{zeroToken, zeroRecord, fitsB, remoteOk, numbersOk, offsetsOk, distancesOk, placeOk, placesOk, coherentB, refusalOf, messageOf, toldIn, usedIn, toldOf, outcomeOf, refusedOf}
-use Rattle.transmit.specs.Transmit.{sendForbids, nOf, rtokenOf, placingOf, producedOut, producedOf, tellsOf, sentOf, waitsB, sendOf}
+use Rattle.connection.specs.Connection.{zeroToken, zeroRecord, fitsB, remoteOk, numbersOk, offsetsOk, distancesOk, placeOk, placesOk, coherentB, refusalOf}
+use Rattle.outcome.specs.Outcome.{messageOf, toldIn, usedIn, toldOf, outcomeOf, refusedOf}
+use Rattle.transmit.specs.Transmit.{rtokenOf, placingOf, sentOf, sendOf}
+use Rattle.produced.specs.Produced.{sendForbids, nOf, producedOut, producedOf, tellsOf, waitsB}
 use Rattle.table.specs.Table.{sizesB, slotB, recordAt, openB, activeB, gaugeAt, holdsB, lowest, findFrom, withRecord, withLink, linkSet}
 use Rattle.linkcalls.specs.Calls.{touched, settledOf, changeTouch, changedOf}
 use Rattle.connection.specs.declared.Opening.{Opening}

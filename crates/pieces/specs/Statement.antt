@@ -6,9 +6,9 @@ use mathlib.Core.Bool.{true}
 use mathlib.Core.List.{List, [], _∷_, _++_}
 use lib.ListN.{length, take, drop}
 use Rattle.cursor.specs.Cursor.{dataOf, inRange, stepOf}
-use Rattle.connection.specs.declared.Placing.{Placing}
-use Rattle.connection.specs.declared.Placings.{Placings}
-use Rattle.connection.specs.declared.Placings.the-variants.{Nowhere, One, Two}
+use Rattle.outcome.specs.declared.Placing.{Placing}
+use Rattle.outcome.specs.declared.Placings.{Placings}
+use Rattle.outcome.specs.declared.Placings.the-variants.{Nowhere, One, Two}
 use Rattle.connection.specs.declared.Record.{Record}
 use Rattle.flow.specs.Flow.{stretchesOf}
 use Rattle.connection.specs.Connection.{remoteOk}

@@ -5,10 +5,10 @@ ghost use Prim.Native.Nat.{_-_, _≤_, min};
 ghost use lib.ListN.{length};
 ghost use Rattle.transmit.specs.Transmit.{placingAt};
 ghost use Rattle.pieces.specs.Pieces.{allowedOf, bytesOf, stretchOf, placeOf};
-use connection::Placing;
 use connection::Record;
 use cursor::Cursor;
 use flow::Stretch;
+use outcome::Placing;
 
 fn least(a: usize, b: usize) -> usize
     ensures { λ r. ⌜ (r ≡ min a b) × (r ≤ a) × (r ≤ b) ⌝ }

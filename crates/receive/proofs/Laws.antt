@@ -17,10 +17,12 @@ use Rattle.flow.proofs.Laws.{taken-most, taken-len}
 use Rattle.element.specs.Element.{inData, allFree}
 use Rattle.connection.specs.declared.Inbound.{Inbound}
 use Rattle.connection.specs.declared.Record.{Record}
-use Rattle.connection.specs.declared.Reply.the-variants.{Accepted, Read, Torn}
-use Rattle.connection.specs.declared.Outcome.{Outcome}
-use Rattle.connection.specs.Connection.{coherentB, refusalOf, refusedOf, outcomeOf, marksTo}
-use Rattle.connection.proofs.Laws.{Coherent, and-left, and-right, coherent-facts, coherent-from, place-passed, refusal-none, refused-reply, refused-after, outcome-reply, outcome-after, outcome-id, outcome-p, outcome-c, outcome-coherent, marks-coherent}
+use Rattle.outcome.specs.declared.Reply.the-variants.{Accepted, Read, Torn}
+use Rattle.outcome.specs.declared.Outcome.{Outcome}
+use Rattle.connection.specs.Connection.{coherentB, refusalOf, marksTo}
+use Rattle.outcome.specs.Outcome.{refusedOf, outcomeOf}
+use Rattle.connection.proofs.Laws.{Coherent, and-left, and-right, coherent-facts, coherent-from, place-passed, refusal-none, marks-coherent}
+use Rattle.outcome.proofs.Laws.{refused-reply, refused-after, outcome-reply, outcome-after, outcome-id, outcome-p, outcome-c, outcome-coherent}
 use Rattle.receive.specs.Receive.{placeForbids, mayPlace, placeOf, readForbids, unreadOf, consumedIn, clearedIn, consumedOf, updateOf, tornOf, takeOf, readOf}
 
 -- what may be placed, by the code's tests

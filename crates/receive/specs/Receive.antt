@@ -10,9 +10,10 @@ use Rattle.flow.specs.Flow.{takenOf, windowOf, updateDue}
 use Rattle.element.specs.Element.{inData, allFree}
 use Rattle.connection.specs.declared.Inbound.{Inbound}
 use Rattle.connection.specs.declared.Record.{Record}
-use Rattle.connection.specs.declared.Reply.the-variants.{Accepted, Read, Torn}
-use Rattle.connection.specs.declared.Outcome.{Outcome}
-use Rattle.connection.specs.Connection.{reachedB, passedBy, cTo, urgentInTo, inboundTo, marksTo, refusalOf, refusedOf, outcomeOf}
+use Rattle.outcome.specs.declared.Reply.the-variants.{Accepted, Read, Torn}
+use Rattle.outcome.specs.declared.Outcome.{Outcome}
+use Rattle.connection.specs.Connection.{reachedB, passedBy, cTo, urgentInTo, inboundTo, marksTo, refusalOf}
+use Rattle.outcome.specs.Outcome.{refusedOf, outcomeOf}
 
 -- 7: place after A sent or D or C heard
 unfoldable pub placeForbids : Marks → Bool

@@ -5,9 +5,9 @@ ghost use Rattle.receive.specs.Receive.{placeForbids, mayPlace, placeOf}
 ghost use Rattle.receive.specs.Receive.{readForbids, unreadOf, consumedIn, clearedIn, consumedOf, updateOf, tornOf, takeOf, readOf};
 use closing::Marks;
 use connection::Inbound;
-use connection::Outcome;
 use connection::Record;
-use connection::Reply;
+use outcome::Outcome;
+use outcome::Reply;
 
 fn place_forbids(m: Marks) -> bool
     ensures { λ r. ⌜ r ≡ placeForbids m ⌝ }
@@ -44,13 +44,13 @@ pub fn place(n: u32, active: bool, rec: Record, at: u32, k: usize) -> Outcome
 {
     let no = connection::refusal(n, active, rec, place_forbids(rec.marks));
     if no != 0 {
-        return connection::refused(no, rec);
+        return outcome::refused(no, rec);
     }
     let ok = may_place(n, rec.inbound, at, k);
     if ok {
-        connection::outcome_of(Reply::Accepted, false, rec)
+        outcome::outcome_of(Reply::Accepted, false, rec)
     } else {
-        connection::refused(9, rec)
+        outcome::refused(9, rec)
     }
 }
 
@@ -121,7 +121,7 @@ fn torn(rec: Record) -> Outcome
 {
     let marks = closing::abort_sent(rec.marks);
     let next = connection::marks_to(rec, marks);
-    connection::outcome_of(Reply::Torn, true, next)
+    outcome::outcome_of(Reply::Torn, true, next)
 }
 
 fn take(n: u32, rec: Record, room: usize) -> Outcome
@@ -131,7 +131,7 @@ fn take(n: u32, rec: Record, room: usize) -> Outcome
     let k = flow::taken(unread(n, rec.inbound), room);
     let tells = updates(n, consumed_in(n, rec.inbound, k), k);
     let next = consumed(n, rec, k);
-    connection::outcome_of(Reply::Read(k), tells, next)
+    outcome::outcome_of(Reply::Read(k), tells, next)
 }
 
 // Read into an out buffer of `room` bytes, of an element whose eye catcher is intact or not.
@@ -140,7 +140,7 @@ pub fn read(n: u32, active: bool, rec: Record, intact: bool, room: usize) -> Out
 {
     let no = connection::refusal(n, active, rec, read_forbids(rec.marks));
     if no != 0 {
-        return connection::refused(no, rec);
+        return outcome::refused(no, rec);
     }
     if intact {
         take(n, rec, room)

@@ -10,7 +10,7 @@ use lib.ListN.{length}
 use borrow.Author.Tests.{eq-eqb, ne-eqb}
 use Rattle.element.specs.Element.{splice, baseOf}
 use Rattle.connection.specs.declared.Record.{Record}
-use Rattle.connection.specs.declared.Outcome.{Outcome}
+use Rattle.outcome.specs.declared.Outcome.{Outcome}
 use Rattle.table.specs.declared.Links.{Links}
 use Rattle.table.specs.declared.Answered.{Answered}
 use Rattle.table.specs.declared.Turned.{Turned}

@@ -25,15 +25,16 @@ use Rattle.gauge.specs.Gauge.{mostMs, clearedOf, sampledOf, healthOf}
 use Rattle.element.specs.Element.{baseOf, elementOf, splice, intactB, freshElement, intoOut}
 use Rattle.connection.specs.declared.Record.{Record}
 use Rattle.connection.specs.declared.Opening.{Opening}
-use Rattle.connection.specs.declared.Placing.{Placing}
-use Rattle.connection.specs.declared.Placings.{Placings}
-use Rattle.connection.specs.declared.Placings.the-variants.{Nowhere, One, Two}
-use Rattle.connection.specs.declared.Reply.{Reply}
-use Rattle.connection.specs.declared.Reply.the-variants.{Refused, Accepted, Sent, Read, Torn, Reset, Heard, Sampled}
-use Rattle.connection.specs.declared.Effect.{Effect}
-use Rattle.connection.specs.declared.Effect.the-variants.{Nothing, Stores, Copies}
-use Rattle.connection.specs.declared.Outcome.{Outcome}
-use Rattle.connection.specs.Connection.{zeroRecord, openedRecord, noMessage, remoteOk, coherentB, effectOf}
+use Rattle.outcome.specs.declared.Placing.{Placing}
+use Rattle.outcome.specs.declared.Placings.{Placings}
+use Rattle.outcome.specs.declared.Placings.the-variants.{Nowhere, One, Two}
+use Rattle.outcome.specs.declared.Reply.{Reply}
+use Rattle.outcome.specs.declared.Reply.the-variants.{Refused, Accepted, Sent, Read, Torn, Reset, Heard, Sampled}
+use Rattle.outcome.specs.declared.Effect.{Effect}
+use Rattle.outcome.specs.declared.Effect.the-variants.{Nothing, Stores, Copies}
+use Rattle.outcome.specs.declared.Outcome.{Outcome}
+use Rattle.connection.specs.Connection.{zeroRecord, openedRecord, remoteOk, coherentB}
+use Rattle.outcome.specs.Outcome.{noMessage, effectOf}
 use Rattle.transmit.specs.Transmit.{sendOf, urgentSendOf}
 use Rattle.pieces.specs.Pieces.{Piece, piecesOf}
 use Rattle.receive.specs.Receive.{placeOf, readOf}

@@ -18,7 +18,8 @@ use Rattle.safety.proofs.Acted.{acts-slot, acts-in, is-sizes, acts-high
 use Rattle.safety.proofs.Course.{Course, goes, ends, stays, EndsSlot, request-course, hear-course, ClosesSlot}
 use Rattle.safety.specs.Statement.{OpenAt}
 use Rattle.connection.specs.declared.Record.{Record}
-use Rattle.connection.specs.Connection.{zeroRecord, refusalOf, refusedOf, marksTo, messageOf, outcomeOf, noMessage}
+use Rattle.connection.specs.Connection.{zeroRecord, refusalOf, marksTo}
+use Rattle.outcome.specs.Outcome.{refusedOf, messageOf, outcomeOf, noMessage}
 use native.Mathlib.Decide.{ℕ-discrete}
 use lib.Dec.{eqb}
 use Rattle.cdc.specs.declared.Message.{Message}
@@ -27,9 +28,9 @@ use Rattle.hear.specs.Hear.{hearOf, abortedOf, followedOf}
 use Rattle.cdc.specs.Cdc.{encodeOf, decodeOf}
 use Rattle.closing.specs.declared.State.the-variants.{Closed}
 use Rattle.safety.proofs.Answers.{clash}
-use Rattle.connection.specs.declared.Reply.the-variants.{Heard}
-use Rattle.connection.specs.declared.Outcome.{Outcome}
-use Rattle.connection.proofs.Laws.{outcome-reply, closed-reply, refused-reply, outcome-made, outcome-message, closed-made, closed-message}
+use Rattle.outcome.specs.declared.Reply.the-variants.{Heard}
+use Rattle.outcome.specs.declared.Outcome.{Outcome}
+use Rattle.outcome.proofs.Laws.{outcome-reply, closed-reply, refused-reply, outcome-made, outcome-message, closed-made, closed-message}
 use mathlib.Core.List.{List}
 use Rattle.cdc.specs.declared.Decoded.the-variants.{Good}
 use Rattle.order.specs.Statement.{hearer}

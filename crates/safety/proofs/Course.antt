@@ -14,15 +14,19 @@ use Rattle.cursor.proofs.Laws.{gap-self, gap-rest, gap-front}
 use Rattle.cdc.specs.declared.Message.{Message}
 use Rattle.closing.specs.Closing.{marked, closedSent, marksHeard}
 use Rattle.connection.specs.declared.Record.{Record}
-use Rattle.connection.specs.declared.Reply.{Reply}
-use Rattle.connection.specs.declared.Reply.the-variants.{Accepted, Heard, Refused}
-use Rattle.connection.specs.declared.Outcome.{Outcome}
-use Rattle.connection.specs.Connection.{zeroRecord, refusalOf, refusedOf, outcomeOf, urgentOutcome, toldOf, toldIn, usedIn, closedIf, marksTo}
-use Rattle.connection.proofs.Laws.{Coherent, coherent-facts, refusal-none, tp-good, and-left, and-right, outcome-reply}
-use Rattle.transmit.specs.Transmit.{sendOf, sentOf, producedOf, producedOut, urgedOut, urgedOf, urgentOf, urgentSendOf}
+use Rattle.outcome.specs.declared.Reply.{Reply}
+use Rattle.outcome.specs.declared.Reply.the-variants.{Accepted, Heard, Refused}
+use Rattle.outcome.specs.declared.Outcome.{Outcome}
+use Rattle.connection.specs.Connection.{zeroRecord, refusalOf, marksTo}
+use Rattle.outcome.specs.Outcome.{refusedOf, outcomeOf, urgentOutcome, toldOf, toldIn, usedIn, closedIf}
+use Rattle.connection.proofs.Laws.{Coherent, coherent-facts, refusal-none, tp-good, and-left, and-right}
+use Rattle.outcome.proofs.Laws.{outcome-reply}
+use Rattle.transmit.specs.Transmit.{sendOf, sentOf, urgentOf, urgentSendOf}
+use Rattle.produced.specs.Produced.{producedOf, producedOut, urgedOut, urgedOf}
 use Rattle.receive.specs.Receive.{unreadOf, placeOf, readOf, takeOf, tornOf, consumedOf, consumedIn, clearedIn}
-use Rattle.hear.specs.Hear.{ruledOf, nextB, producerB, consumerB, hearOf, abortedOf, followedOf, acceptedOf, heardRecord, heardIn, heardOut}
-use Rattle.hear.proofs.Laws.{Produces, Consumes, producer-rules, consumer-rules}
+use Rattle.hear.specs.Hear.{ruledOf, hearOf, abortedOf, followedOf, acceptedOf}
+use Rattle.heard.specs.Heard.{nextB, producerB, consumerB, heardRecord, heardIn, heardOut}
+use Rattle.heard.proofs.Laws.{Produces, Consumes, producer-rules, consumer-rules}
 use Rattle.finish.specs.Finish.{resetOf, closingOf, shutdownOf, closeForbids, closeOf, abortOf}
 use Rattle.rules.specs.Rules.{Request, send, gather, urgent, place, read, shutdown, close, abort, Says, accepted, saysOf, turnOf, requestTurn, hearTurn, refusal, heard}
 use Rattle.safety.proofs.Answers.{clash}

@@ -3,8 +3,8 @@ use Prim.Native.Nat.{ℕ}
 use mathlib.Core.Path.{_≡_, refl, sym, ap, _∙_}
 use mathlib.Core.Bool.{Bool, true, false}
 use mathlib.Core.Logic.{_⊎_, inl, inr}
-use Rattle.connection.specs.declared.Reply.{Reply}
-use Rattle.connection.specs.declared.Reply.the-variants.{Refused, Reset}
+use Rattle.outcome.specs.declared.Reply.{Reply}
+use Rattle.outcome.specs.declared.Reply.the-variants.{Refused, Reset}
 use Rattle.receive.specs.Receive.{unreadOf}
 use Rattle.finish.specs.Finish.{closeOf}
 use Rattle.finish.proofs.Laws.{close-answers}

@@ -27,19 +27,22 @@ use Rattle.closing.specs.declared.Marks.{Marks}
 use Rattle.closing.specs.declared.State.{State}
 use Rattle.closing.specs.declared.State.the-variants.{PeerAbortWait}
 use Rattle.closing.specs.Closing.{marked, closeStateOf, stateOf, doneSent, closedSent, abortSent}
-use Rattle.connection.specs.declared.Placings.the-variants.{Nowhere}
+use Rattle.outcome.specs.declared.Placings.the-variants.{Nowhere}
 use Rattle.connection.specs.declared.Record.{Record}
-use Rattle.connection.specs.declared.Reply.{Reply}
-use Rattle.connection.specs.declared.Reply.the-variants.{Accepted, Sent, Heard}
-use Rattle.connection.specs.declared.Outcome.{Outcome}
-use Rattle.connection.specs.Connection.{sequenceAfter, fitsB, remoteOk, coherentB, refusalOf, refusedOf, outcomeOf, urgentOutcome, closedIf, marksTo}
+use Rattle.outcome.specs.declared.Reply.{Reply}
+use Rattle.outcome.specs.declared.Reply.the-variants.{Accepted, Sent, Heard}
+use Rattle.outcome.specs.declared.Outcome.{Outcome}
+use Rattle.connection.specs.Connection.{fitsB, remoteOk, coherentB, refusalOf, marksTo}
+use Rattle.outcome.specs.Outcome.{sequenceAfter, refusedOf, outcomeOf, urgentOutcome, closedIf}
 use Rattle.flow.specs.Flow.{windowOf}
 use Rattle.element.specs.Element.{allFree, intactB}
-use Rattle.transmit.specs.Transmit.{sendForbids, waitsB, nothingSent, sendOf, sentOf, urgentOf, urgentSendOf}
+use Rattle.transmit.specs.Transmit.{nothingSent, sendOf, sentOf, urgentOf, urgentSendOf}
+use Rattle.produced.specs.Produced.{sendForbids, waitsB}
 use Rattle.receive.specs.Receive.{unreadOf, placeForbids, mayPlace, placeOf, readForbids, readOf, takeOf, tornOf}
-use Rattle.hear.specs.Hear.{ruledOf, nextB, producerB, consumerB, abortedOf, acceptedOf, followedOf, hearOf}
+use Rattle.hear.specs.Hear.{ruledOf, abortedOf, acceptedOf, followedOf, hearOf}
+use Rattle.heard.specs.Heard.{nextB, producerB, consumerB}
 use Rattle.finish.specs.Finish.{resetOf, closingOf, shutdownForbids, shutdownOf, closeForbids, closeOf, abortOf}
-use Rattle.connection.proofs.Laws.{outcome-reply, urgent-reply, closed-reply}
+use Rattle.outcome.proofs.Laws.{outcome-reply, urgent-reply, closed-reply}
 use Rattle.gauge.specs.declared.Gauge.{Gauge}
 use Rattle.gauge.specs.Gauge.{mostMs, sampledOf}
 use Rattle.table.specs.Table.{sizesB, slotB, openB, activeB, gaugeAt, findFrom, gaugeSet}

@@ -19,7 +19,7 @@ use Rattle.cursor.specs.Cursor.{gapOf, cursorAt}
 use Rattle.cdc.specs.declared.Message.{Message}
 use Rattle.connection.specs.declared.Record.{Record}
 use Rattle.connection.specs.Connection.{zeroRecord}
-use Rattle.hear.proofs.Laws.{Produces}
+use Rattle.heard.proofs.Laws.{Produces}
 use Rattle.cdc.specs.declared.Decoded.the-variants.{Good, Malformed}
 use Rattle.cdc.specs.Cdc.{decodeOf, fieldsOf, num2, cursorOf}
 use Rattle.safety.specs.Positions.{movedIn, Journal, opened, afterCall, noted, journalFrom, journal, AreBytes}

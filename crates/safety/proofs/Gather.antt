@@ -9,10 +9,10 @@ use Rattle.cursor.specs.declared.Cursor.{Cursor}
 use Rattle.cursor.proofs.Laws.{step-none}
 use Rattle.flow.specs.Flow.{stretchesOf}
 use Rattle.flow.proofs.Laws.{room-most}
-use Rattle.connection.specs.declared.Placings.{Placings}
+use Rattle.outcome.specs.declared.Placings.{Placings}
 use Rattle.connection.specs.declared.Record.{Record}
-use Rattle.connection.specs.declared.Reply.{Reply}
-use Rattle.connection.specs.declared.Reply.the-variants.{Refused, Accepted, Sent, Read, Torn, Reset, Heard, Sampled}
+use Rattle.outcome.specs.declared.Reply.{Reply}
+use Rattle.outcome.specs.declared.Reply.the-variants.{Refused, Accepted, Sent, Read, Torn, Reset, Heard, Sampled}
 use Rattle.connection.proofs.Laws.{coherent-facts}
 use Rattle.transmit.specs.Transmit.{sendOf, rtokenOf, elementStart, placingOf, placingsOf}
 use Rattle.transmit.proofs.Laws.{send-takes, send-was-coherent, send-places, send-steps}

@@ -2,7 +2,7 @@
 use mathlib.Core.Path.{_≡_}
 use mathlib.Core.List.{List}
 use Prim.Native.Nat.{ℕ}
-use Rattle.connection.specs.declared.Placing.{Placing}
+use Rattle.outcome.specs.declared.Placing.{Placing}
 use Rattle.pieces.specs.Pieces.{Piece}
 use Rattle.rules.specs.Rules.{Says, refusal, accepted, sent, gathered, wasRead, torn, heard, reset, sampled, linkHeard, linkSent, inPieces}
 use Rattle.safety.proofs.Answers.{clash}

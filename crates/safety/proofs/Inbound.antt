@@ -8,16 +8,20 @@ use Prim.Native.Nat.{ℕ, _-_}
 use Rattle.cursor.specs.Cursor.{gapOf, stepOf}
 use Rattle.cdc.specs.declared.Message.{Message}
 use Rattle.connection.specs.declared.Record.{Record}
-use Rattle.connection.specs.declared.Reply.{Reply}
-use Rattle.connection.specs.declared.Reply.the-variants.{Heard, Read}
-use Rattle.connection.specs.declared.Outcome.{Outcome}
-use Rattle.connection.specs.Connection.{zeroRecord, refusedOf, outcomeOf, urgentOutcome, toldOf, toldIn, closedIf, marksTo}
-use Rattle.transmit.specs.Transmit.{sendOf, sentOf, producedOf, urgedOf, urgentOf, urgentSendOf}
+use Rattle.outcome.specs.declared.Reply.{Reply}
+use Rattle.outcome.specs.declared.Reply.the-variants.{Heard, Read}
+use Rattle.outcome.specs.declared.Outcome.{Outcome}
+use Rattle.connection.specs.Connection.{zeroRecord, marksTo}
+use Rattle.outcome.specs.Outcome.{refusedOf, outcomeOf, urgentOutcome, toldOf, toldIn, closedIf}
+use Rattle.transmit.specs.Transmit.{sendOf, sentOf, urgentOf, urgentSendOf}
+use Rattle.produced.specs.Produced.{producedOf, urgedOf}
 use Rattle.receive.specs.Receive.{placeOf, readOf, takeOf, tornOf, consumedOf, consumedIn, clearedIn, unreadOf}
-use Rattle.hear.specs.Hear.{ruledOf, hearOf, heardRecord, abortedOf, followedOf, acceptedOf, heardIn}
-use Rattle.hear.proofs.Laws.{Produces, aborted-shut, repliedTo, hear-cases, accepted-is}
+use Rattle.hear.specs.Hear.{ruledOf, hearOf, abortedOf, followedOf, acceptedOf}
+use Rattle.heard.specs.Heard.{heardRecord, heardIn}
+use Rattle.hear.proofs.Laws.{aborted-shut, repliedTo, hear-cases, accepted-is}
+use Rattle.heard.proofs.Laws.{Produces}
 use Rattle.finish.specs.Finish.{resetOf, closingOf, shutdownOf, closeOf, abortOf}
-use Rattle.connection.specs.declared.Placing.{Placing}
+use Rattle.outcome.specs.declared.Placing.{Placing}
 use Rattle.pieces.specs.Pieces.{Piece, piecesOf}
 use Rattle.rules.specs.Rules.{Says, saysOf, refusal, accepted, Request, read, turnOf, requestTurn, send, gather, urgent, place, shutdown, close, abort, hearTurn, heard, torn, reset, sampled, linkHeard, linkSent, sent, gathered, wasRead, Turn}
 use Rattle.flow.specs.Flow.{takenOf}
@@ -26,7 +30,7 @@ use Rattle.closing.specs.declared.State.the-variants.{PeerAbortWait}
 use Rattle.safety.specs.Positions.{movedIn, readIn}
 use Rattle.cursor.proofs.Laws.{step-none}
 use lib.ListN.{length}
-use Rattle.connection.proofs.Laws.{outcome-reply, closed-reply}
+use Rattle.outcome.proofs.Laws.{outcome-reply, closed-reply}
 use Rattle.cursor.specs.declared.Cursor.{Cursor}
 use Rattle.safety.proofs.Gathered.{carried}
 

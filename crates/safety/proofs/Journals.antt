@@ -24,7 +24,7 @@ use Rattle.element.proofs.Free.{all-free-each}
 use Rattle.safety.proofs.Places.{norm, gap-norm, place-past, reached-norm, one-place, offset-place}
 use Rattle.cursor.proofs.Positions.{gap-at, step-at}
 use Rattle.cursor.proofs.Laws.{gap-rest, good-most}
-use Rattle.hear.proofs.Laws.{Produces}
+use Rattle.heard.proofs.Laws.{Produces}
 use Rattle.safety.proofs.Inbound.{Steps}
 use native.Mathlib.Decide.{decLt}
 use Rattle.element.proofs.Others.{splice-below, splice-above}

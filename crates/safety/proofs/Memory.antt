@@ -12,11 +12,11 @@ use Rattle.element.specs.Element.{part, baseOf, elementOf, splice}
 use Rattle.element.proofs.Elements.{base-end, element-in}
 use Rattle.element.proofs.Others.{splice-length, splice-below, splice-in, splice-above}
 use Rattle.connection.specs.declared.Record.{Record}
-use Rattle.connection.specs.declared.Reply.{Reply}
-use Rattle.connection.specs.declared.Reply.the-variants.{Refused, Accepted, Sent, Read, Torn, Reset, Heard, Sampled}
+use Rattle.outcome.specs.declared.Reply.{Reply}
+use Rattle.outcome.specs.declared.Reply.the-variants.{Refused, Accepted, Sent, Read, Torn, Reset, Heard, Sampled}
 use Rattle.receive.specs.Receive.{placeOf}
 use Rattle.receive.proofs.Laws.{Placeable, place-accepted}
-use Rattle.connection.specs.Connection.{effectOf}
+use Rattle.outcome.specs.Outcome.{effectOf}
 use Rattle.rules.specs.Rules.{Group, Request, send, gather, urgent, place, read, shutdown, close, abort, Call, on, accepted, Turn, turnOf, requestTurn, hearTurn, saysOf, placedIn, Done, does, answer, refuses, putTurn, recordOf, elementIn, linkOf, sizesOk}
 use Rattle.order.proofs.Slots.{slot-in, element-long, Sizes, sizes-in}
 use Rattle.safety.specs.Changes.{InElement, MayChange, by-place, by-open, BytesByPlaceAndOpen}

@@ -13,7 +13,8 @@ use lib.ListN.{length, getD}
 use borrow.Author.Tests.{eqb-true, eq-eqb, ne-eqb, le-ltb}
 use Rattle.receive.proofs.Laws.{Placeable, place-accepted}
 use Rattle.connection.specs.declared.Opening as Given
-use Rattle.connection.specs.Connection.{effectOf, openedRecord}
+use Rattle.connection.specs.Connection.{openedRecord}
+use Rattle.outcome.specs.Outcome.{effectOf, noMessage}
 use Rattle.rules.specs.Rules.{accepted, Group, Request, read, on, turnOf, requestTurn, Done, answer, next, refuses, putTurn, recordOf, elementIn, linkOf, send, gather, urgent, place, shutdown, close, abort, Says, saysOf, hearTurn, refusal, Call, Turn, does, openSlot, freeSlot, linkChange, linkMessage, linkSend, sample, hear, manage, sizesOk, placedIn, Answer}
 use Rattle.safety.specs.Statement.{acceptedB, OpenAt, ownOf}
 use Rattle.safety.proofs.Invariant.{Sound, sizes}
@@ -23,9 +24,9 @@ use Rattle.safety.specs.Links.{callOf}
 use Rattle.cursor.specs.declared.Cursor.{Cursor}
 use Rattle.cdc.specs.declared.Message.{Message}
 use Rattle.connection.specs.declared.Record.{Record}
-use Rattle.connection.specs.declared.Reply.{Reply}
-use Rattle.connection.specs.declared.Reply.the-variants.{Accepted, Heard, Refused, Read, Sent, Torn, Reset, Sampled}
-use Rattle.connection.specs.Connection.{zeroRecord, noMessage}
+use Rattle.outcome.specs.declared.Reply.{Reply}
+use Rattle.outcome.specs.declared.Reply.the-variants.{Accepted, Heard, Refused, Read, Sent, Torn, Reset, Sampled}
+use Rattle.connection.specs.Connection.{zeroRecord}
 use Rattle.receive.specs.Receive.{placeOf}
 use Rattle.cdc.specs.declared.Decoded.the-variants.{Good}
 use Rattle.cdc.specs.Cdc.{decodeOf}

@@ -15,15 +15,18 @@ use Rattle.cdc.specs.declared.Decoded.the-variants.{Good, Malformed}
 use Rattle.cdc.specs.Cdc.{decodeOf}
 use Rattle.connection.specs.declared.Opening as Given
 use Rattle.connection.specs.declared.Record.{Record}
-use Rattle.connection.specs.declared.Reply.{Reply}
-use Rattle.connection.specs.declared.Reply.the-variants.{Heard}
+use Rattle.outcome.specs.declared.Reply.{Reply}
+use Rattle.outcome.specs.declared.Reply.the-variants.{Heard}
 use Rattle.closing.specs.declared.State.the-variants.{PeerAbortWait}
-use Rattle.connection.specs.declared.Outcome.{Outcome}
-use Rattle.connection.specs.Connection.{zeroRecord, openedRecord, refusalOf, refusedOf, outcomeOf, urgentOutcome, toldOf, toldIn, closedIf, marksTo, sequenceAfter}
-use Rattle.transmit.specs.Transmit.{sendOf, sentOf, producedOf, urgedOf, urgentOf, urgentSendOf}
+use Rattle.outcome.specs.declared.Outcome.{Outcome}
+use Rattle.connection.specs.Connection.{zeroRecord, openedRecord, refusalOf, marksTo}
+use Rattle.outcome.specs.Outcome.{refusedOf, outcomeOf, urgentOutcome, toldOf, toldIn, closedIf, sequenceAfter}
+use Rattle.transmit.specs.Transmit.{sendOf, sentOf, urgentOf, urgentSendOf}
+use Rattle.produced.specs.Produced.{producedOf, urgedOf}
 use Rattle.receive.specs.Receive.{placeOf, readOf, takeOf, tornOf, consumedOf, consumedIn, clearedIn}
 use Rattle.closing.specs.Closing.{doneSent, closedSent, abortSent, marksHeard}
-use Rattle.hear.specs.Hear.{nextB, producerB, consumerB, heardIn, heardRecord, abortedOf, acceptedOf, ruledOf, followedOf, hearOf}
+use Rattle.hear.specs.Hear.{abortedOf, acceptedOf, ruledOf, followedOf, hearOf}
+use Rattle.heard.specs.Heard.{nextB, producerB, consumerB, heardIn, heardRecord}
 use Rattle.hear.proofs.Laws.{aborted-shut, accepted-is, accepted-reply, shutBy, repliedTo}
 use Rattle.finish.specs.Finish.{resetOf, closingOf, shutdownOf, closeOf, abortOf}
 use Rattle.pieces.specs.Pieces.{piecesOf}

@@ -8,15 +8,17 @@ use native.Mathlib.Omega.{arith}
 use lib.ListN.{length}
 use Rattle.flow.specs.Flow.{takenOf}
 use Rattle.element.specs.Element.{intactB, unread}
-use Rattle.connection.specs.declared.Placing.{Placing}
-use Rattle.connection.specs.declared.Placings.{Placings}
-use Rattle.connection.specs.declared.Placings.the-variants.{Nowhere, One, Two}
+use Rattle.outcome.specs.declared.Placing.{Placing}
+use Rattle.outcome.specs.declared.Placings.{Placings}
+use Rattle.outcome.specs.declared.Placings.the-variants.{Nowhere, One, Two}
 use Rattle.connection.specs.declared.Record.{Record}
-use Rattle.connection.specs.declared.Reply.{Reply}
-use Rattle.connection.specs.declared.Reply.the-variants.{Refused, Accepted, Sent, Read, Torn, Reset, Heard, Sampled}
-use Rattle.connection.specs.declared.Outcome.{Outcome}
-use Rattle.connection.specs.Connection.{effectOf, coherentB}
-use Rattle.connection.proofs.Laws.{refusal-0, outcome-reply}
+use Rattle.outcome.specs.declared.Reply.{Reply}
+use Rattle.outcome.specs.declared.Reply.the-variants.{Refused, Accepted, Sent, Read, Torn, Reset, Heard, Sampled}
+use Rattle.outcome.specs.declared.Outcome.{Outcome}
+use Rattle.connection.specs.Connection.{coherentB}
+use Rattle.outcome.specs.Outcome.{effectOf}
+use Rattle.connection.proofs.Laws.{refusal-0}
+use Rattle.outcome.proofs.Laws.{outcome-reply}
 use Rattle.transmit.specs.Transmit.{sendOf, placingsTotal, allWithin}
 use Rattle.transmit.proofs.Laws.{writes-a-byte, send-takes, send-within, urgent-within}
 use Rattle.receive.specs.Receive.{readForbids, unreadOf, takeOf, readOf}

@@ -9,12 +9,12 @@ use borrow.Author.Tests.{lt-ltb, le-ltb}
 use Rattle.cursor.proofs.Laws.{range-is, good-most}
 use Rattle.element.specs.Element.{intactB, ringFrom, unread}
 use Rattle.element.proofs.Others.{unread-length, unread-at}
-use Rattle.connection.specs.declared.Reply.{Reply}
-use Rattle.connection.specs.declared.Reply.the-variants.{Refused, Accepted, Sent, Read, Torn, Reset, Heard, Sampled}
+use Rattle.outcome.specs.declared.Reply.{Reply}
+use Rattle.outcome.specs.declared.Reply.the-variants.{Refused, Accepted, Sent, Read, Torn, Reset, Heard, Sampled}
 use Rattle.connection.proofs.Laws.{Coherent, coherent-facts}
 use Rattle.receive.specs.Receive.{readOf, unreadOf}
 use Rattle.receive.proofs.Laws.{read-most}
-use Rattle.connection.specs.Connection.{effectOf}
+use Rattle.outcome.specs.Outcome.{effectOf}
 use Rattle.rules.specs.Rules.{Group, read, on, wasRead, saysOf, readInto, turnOf, requestTurn, answer, recordOf, elementIn, linkOf}
 use Rattle.order.proofs.Slots.{open-in, element-long}
 use Rattle.safety.specs.Statement.{OpenAt, offsetC, offsetFrom}

@@ -11,11 +11,12 @@ use Rattle.cdc.specs.declared.Decoded.{Decoded}
 use Rattle.cdc.specs.declared.Decoded.the-variants.{Good, Malformed}
 use Rattle.element.specs.Element.{part, baseOf, elementOf, splice}
 use Rattle.connection.specs.declared.Record.{Record}
-use Rattle.connection.specs.declared.Reply.{Reply}
-use Rattle.connection.specs.declared.Reply.the-variants.{Refused}
-use Rattle.connection.specs.declared.Outcome.{Outcome}
-use Rattle.connection.specs.Connection.{effectOf, zeroRecord, refusedOf, outcomeOf, urgentOutcome, closedIf}
-use Rattle.connection.proofs.Laws.{outcome-reply, urgent-reply, closed-reply}
+use Rattle.outcome.specs.declared.Reply.{Reply}
+use Rattle.outcome.specs.declared.Reply.the-variants.{Refused}
+use Rattle.outcome.specs.declared.Outcome.{Outcome}
+use Rattle.connection.specs.Connection.{zeroRecord}
+use Rattle.outcome.specs.Outcome.{effectOf, refusedOf, outcomeOf, urgentOutcome, closedIf}
+use Rattle.outcome.proofs.Laws.{outcome-reply, urgent-reply, closed-reply}
 use Rattle.transmit.specs.Transmit.{sendOf, sentOf, urgentOf, urgentSendOf}
 use Rattle.receive.specs.Receive.{placeOf, readOf, takeOf, tornOf}
 use Rattle.hear.specs.Hear.{ruledOf, hearOf, abortedOf, followedOf, acceptedOf}

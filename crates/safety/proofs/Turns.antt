@@ -11,10 +11,11 @@ use Rattle.cdc.specs.declared.Message.{Message}
 use Rattle.element.specs.Element.{splice, intactB}
 use Rattle.element.proofs.Others.{intact-kept}
 use Rattle.connection.specs.declared.Record.{Record}
-use Rattle.connection.specs.declared.Reply.{Reply}
-use Rattle.connection.specs.declared.Reply.the-variants.{Refused, Accepted, Sent, Read, Torn, Reset, Heard, Sampled}
-use Rattle.connection.specs.declared.Outcome.{Outcome}
-use Rattle.connection.specs.Connection.{effectOf, coherentB, zeroRecord}
+use Rattle.outcome.specs.declared.Reply.{Reply}
+use Rattle.outcome.specs.declared.Reply.the-variants.{Refused, Accepted, Sent, Read, Torn, Reset, Heard, Sampled}
+use Rattle.outcome.specs.declared.Outcome.{Outcome}
+use Rattle.connection.specs.Connection.{coherentB, zeroRecord}
+use Rattle.outcome.specs.Outcome.{effectOf}
 use Rattle.transmit.specs.Transmit.{sendOf, urgentSendOf}
 use Rattle.transmit.proofs.Laws.{send-coherent, urgent-coherent}
 use Rattle.receive.specs.Receive.{placeOf, readOf}

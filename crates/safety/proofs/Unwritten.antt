@@ -8,7 +8,8 @@ use Rattle.order.specs.Statement.{answers}
 use Rattle.cursor.specs.Cursor.{cursorAt, inRange, turnsOf, goodB, gapOf, sameB, stepOf, movedOf, distanceOf}
 use Rattle.safety.specs.Positions.{afterCall, journalFrom, PeerAnnouncedUnwritten}
 use Rattle.gauge.specs.Gauge.{clearedOf}
-use Rattle.connection.specs.Connection.{zeroRecord, fitsB, remoteOk, refusalOf, outcomeOf, toldOf, toldIn, usedIn, closedIf, marksTo, coherentB, numbersOk, offsetsOk, distancesOk, placeOk, placesOk, reachedB, passedBy}
+use Rattle.connection.specs.Connection.{zeroRecord, fitsB, remoteOk, refusalOf, marksTo, coherentB, numbersOk, offsetsOk, distancesOk, placeOk, placesOk, reachedB, passedBy}
+use Rattle.outcome.specs.Outcome.{outcomeOf, toldOf, toldIn, usedIn, closedIf}
 use Rattle.element.specs.Element.{part, unread, elementOf, splice, intactB, freshElement, ringFrom, allFree}
 use Rattle.table.specs.Table.{slotB, openB, activeB, gaugeAt, findFrom, withLink, linkSet, recordAt, withRecord, sizesB, holdsB, lowest}
 use Rattle.connection.specs.Connection.{openedRecord}
@@ -17,7 +18,8 @@ use Rattle.linkcalls.specs.Calls.{touched, settledOf, changeTouch, changedOf}
 use Rattle.rules.specs.Rules.{turnOf, requestTurn, putTurn, hearTurn, onDoes, hearAt, hearDoes, openRefusal, openDoes, linkDoes}
 use Rattle.closing.specs.Closing.{marksHeard}
 use Rattle.receive.specs.Receive.{placeOf, readOf, takeOf, consumedOf, consumedIn, clearedIn, unreadOf, mayPlace, placeForbids, readForbids, updateOf}
-use Rattle.hear.specs.Hear.{ruledOf, nextB, producerB, consumerB, hearOf, followedOf, acceptedOf, heardRecord, urgesB, urgentIn, heardIn, heardOut, answersB}
+use Rattle.hear.specs.Hear.{ruledOf, hearOf, followedOf, acceptedOf}
+use Rattle.heard.specs.Heard.{nextB, producerB, consumerB, heardRecord, urgesB, urgentIn, heardIn, heardOut, answersB}
 use Rattle.cdc.specs.Cdc.{decodeOf, fieldsOf, num2, cursorOf, encodeOf, num4, highByte, lowByte, flagsOf}
 use Rattle.flow.specs.Flow.{takenOf, windowOf, updateDue}
 

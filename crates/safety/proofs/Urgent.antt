@@ -13,12 +13,15 @@ use Rattle.cursor.specs.declared.Cursor.{Cursor}
 use Rattle.cdc.specs.declared.Message.{Message}
 use Rattle.connection.specs.declared.Urgent.{Urgent}
 use Rattle.connection.specs.declared.Record.{Record}
-use Rattle.connection.specs.declared.Reply.{Reply}
-use Rattle.connection.specs.declared.Outcome.{Outcome}
-use Rattle.connection.specs.Connection.{noPlace, zeroRecord, openedRecord, reachedB, passedBy, refusalOf, refusedOf, outcomeOf, urgentOutcome, toldOf, usedIn, closedIf, marksTo}
-use Rattle.transmit.specs.Transmit.{sendForbids, nOf, nothingSent, sendOf, sentOf, producedOf, producedOut, urgedOut, urgedOf, urgentOf, waitsB, urgentSendOf}
+use Rattle.outcome.specs.declared.Reply.{Reply}
+use Rattle.outcome.specs.declared.Outcome.{Outcome}
+use Rattle.connection.specs.Connection.{noPlace, zeroRecord, openedRecord, reachedB, passedBy, refusalOf, marksTo}
+use Rattle.outcome.specs.Outcome.{refusedOf, outcomeOf, urgentOutcome, toldOf, usedIn, closedIf}
+use Rattle.transmit.specs.Transmit.{nothingSent, sendOf, sentOf, urgentOf, urgentSendOf}
+use Rattle.produced.specs.Produced.{sendForbids, nOf, producedOf, producedOut, urgedOut, urgedOf, waitsB}
 use Rattle.receive.specs.Receive.{placeOf, readOf, takeOf, tornOf, consumedOf}
-use Rattle.hear.specs.Hear.{hearOf, abortedOf, followedOf, ruledOf, acceptedOf, heardRecord, heardOut}
+use Rattle.hear.specs.Hear.{hearOf, abortedOf, followedOf, ruledOf, acceptedOf}
+use Rattle.heard.specs.Heard.{heardRecord, heardOut}
 use Rattle.finish.specs.Finish.{resetOf, closingOf, shutdownOf, closeOf, abortOf}
 use Rattle.table.specs.Table.{recordAt, openB}
 use Rattle.rules.specs.Rules.{Group, Request, send, urgent, gather, place, read, shutdown, close, abort, Call, on, refusal, sent, Turn, turnOf, requestTurn, hearTurn, Done, does, answer, next, refuses, putTurn, onDoes, outOf, recordOf, elementIn, linkOf, sizesOk}

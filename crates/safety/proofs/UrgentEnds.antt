@@ -21,19 +21,24 @@ use Rattle.flow.proofs.Laws.{room-most}
 use Rattle.connection.specs.declared.Inbound.{Inbound}
 use Rattle.connection.specs.declared.Urgent.{Urgent}
 use Rattle.connection.specs.declared.Record.{Record}
-use Rattle.connection.specs.declared.Placings.{Placings}
-use Rattle.connection.specs.declared.Placings.the-variants.{Nowhere}
-use Rattle.connection.specs.declared.Reply.{Reply}
-use Rattle.connection.specs.declared.Reply.the-variants.{Refused, Sent, Read}
-use Rattle.connection.specs.declared.Outcome.{Outcome}
-use Rattle.connection.specs.Connection.{noPlace, placeAt, zeroRecord, coherentB, placeOk, reachedB, passedBy, refusalOf, refusedOf, outcomeOf, messageOf, noMessage, pendingOf, toldOf, toldIn, usedIn, marksTo}
-use Rattle.connection.proofs.Laws.{Coherent, coherent-facts, and-left, and-right, place-facts, remote-facts, refusal-0, refused-reply, outcome-reply, outcome-made, outcome-message, outcome-after, urgent-reply, urgent-message, urgent-after}
-use Rattle.transmit.specs.Transmit.{nOf, sentReply, nothingSent, producedOf, producedOut, urgedOf, urgedOut, urgentSendOf}
+use Rattle.outcome.specs.declared.Placings.{Placings}
+use Rattle.outcome.specs.declared.Placings.the-variants.{Nowhere}
+use Rattle.outcome.specs.declared.Reply.{Reply}
+use Rattle.outcome.specs.declared.Reply.the-variants.{Refused, Sent, Read}
+use Rattle.outcome.specs.declared.Outcome.{Outcome}
+use Rattle.connection.specs.Connection.{noPlace, placeAt, zeroRecord, coherentB, placeOk, reachedB, passedBy, refusalOf, marksTo}
+use Rattle.outcome.specs.Outcome.{refusedOf, outcomeOf, messageOf, noMessage, pendingOf, toldOf, toldIn, usedIn}
+use Rattle.connection.proofs.Laws.{Coherent, coherent-facts, and-left, and-right, place-facts, remote-facts, refusal-0}
+use Rattle.outcome.proofs.Laws.{refused-reply, outcome-reply, outcome-made, outcome-message, outcome-after, urgent-reply, urgent-message, urgent-after}
+use Rattle.transmit.specs.Transmit.{sentReply, nothingSent, urgentSendOf}
+use Rattle.produced.specs.Produced.{nOf, producedOf, producedOut, urgedOf, urgedOut}
 use Rattle.transmit.proofs.Laws.{wholeRecord, wholeOf, n-room, urgent-cases, urgent-coherent}
 use Rattle.receive.specs.Receive.{readForbids, unreadOf, consumedIn, clearedIn, consumedOf, updateOf, takeOf, readOf}
 use Rattle.receive.proofs.Laws.{gapCP, taking, taking-most, left, tells, take-is, consumed-cp, read-coherent}
-use Rattle.hear.specs.Hear.{producerB, consumerB, movedBy, urgesB, urgentIn, heardIn, heardOut, heardRecord, answersB, acceptedOf, ruledOf, nextB, followedOf, hearOf}
-use Rattle.hear.proofs.Laws.{Produces, Consumes, producer-rules, consumer-rules, shutBy, repliedTo, heardOutcome, accepted-shut, accepted-open, hear-coherent}
+use Rattle.hear.specs.Hear.{acceptedOf, ruledOf, followedOf, hearOf}
+use Rattle.heard.specs.Heard.{producerB, consumerB, movedBy, urgesB, urgentIn, heardIn, heardOut, heardRecord, answersB, nextB}
+use Rattle.hear.proofs.Laws.{shutBy, repliedTo, heardOutcome, accepted-shut, accepted-open, hear-coherent}
+use Rattle.heard.proofs.Laws.{Produces, Consumes, producer-rules, consumer-rules}
 use Rattle.safety.specs.Urgent.{Hears, Ends, Pending, Announced, UrgentHeard, readNow, TellsAll, Tells, here, later, sumOf, UrgentRead, Free, UrgentPassed}
 use Rattle.safety.proofs.Answers.{clash}
 

@@ -29,7 +29,8 @@ use Rattle.connection.specs.declared.RToken.{RToken}
 use Rattle.connection.specs.declared.Remote.{Remote}
 use Rattle.connection.specs.declared.Record.{Record}
 use Rattle.connection.specs.declared.Opening.{Opening}
-use Rattle.connection.specs.Connection.{noMessage, coherentB, sequenceAfter}
+use Rattle.connection.specs.Connection.{coherentB}
+use Rattle.outcome.specs.Outcome.{noMessage, sequenceAfter}
 use Rattle.table.specs.Table.{activeB, findFrom}
 use Rattle.linkcalls.specs.Calls.{heardIn, sentIn}
 use Rattle.rules.specs.Rules.{Group, Request, send, gather, urgent, place, read, shutdown, close, abort, openSlot, freeSlot, linkChange, linkMessage, linkSend, sample, Call, on, hear, manage, refusal, answer, next, outOf, recordOf, linkOf, holderOf, linksOf}

@@ -11,10 +11,11 @@ use lib.ListN.{length, take, drop, getD, getElem?, replicate}
 use Rattle.flow.specs.Flow.{roomOf}
 use Rattle.element.specs.Element.{baseOf, splice, intactB, freshElement, ringFrom}
 use Rattle.connection.specs.declared.Opening.{Opening}
-use Rattle.connection.specs.declared.Placing.{Placing}
+use Rattle.outcome.specs.declared.Placing.{Placing}
 use Rattle.connection.specs.declared.Record.{Record}
 use Rattle.connection.specs.Connection.{coherentB}
-use Rattle.transmit.specs.Transmit.{sendForbids, Within}
+use Rattle.transmit.specs.Transmit.{Within}
+use Rattle.produced.specs.Produced.{sendForbids}
 use Rattle.receive.specs.Receive.{readForbids, unreadOf}
 use Rattle.table.specs.Table.{slotB, openB}
 use Rattle.rules.specs.Rules.{Group, Request, send, gather, urgent, place, read, shutdown, close, abort, openSlot, freeSlot, linkChange, linkMessage, linkSend, sample, Call, on, hear, manage, Says, refusal, accepted, sent, gathered, wasRead, torn, reset, heard, sampled, linkHeard, linkSent, Answer, answer, next, sizesOk, recordOf, elementIn, linkOf, holderOf, Fresh}

@@ -11,9 +11,9 @@ use Rattle.cdc.specs.declared.Decoded.the-variants.{Good}
 use Rattle.cdc.specs.Cdc.{decodeOf}
 use Rattle.flow.specs.Flow.{roomOf}
 use Rattle.connection.specs.declared.Record.{Record}
-use Rattle.connection.specs.declared.Placings.{Placings}
-use Rattle.connection.specs.declared.Reply.the-variants.{Refused, Sent}
-use Rattle.connection.specs.declared.Outcome.{Outcome}
+use Rattle.outcome.specs.declared.Placings.{Placings}
+use Rattle.outcome.specs.declared.Reply.the-variants.{Refused, Sent}
+use Rattle.outcome.specs.declared.Outcome.{Outcome}
 use Rattle.connection.specs.Connection.{placeAt, coherentB}
 use Rattle.transmit.specs.Transmit.{urgentSendOf}
 use Rattle.receive.specs.Receive.{readForbids, unreadOf, readOf}

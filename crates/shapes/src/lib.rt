@@ -10,7 +10,6 @@ use connection::Identity;
 use connection::Inbound;
 use connection::Opening;
 use connection::Outbound;
-use connection::Placing;
 use connection::RToken;
 use connection::Record;
 use connection::Remote;
@@ -32,6 +31,7 @@ use flat_pool::Books;
 use flat_pool::PoolAnswer;
 use flat_setup::SetupAnswer;
 use gauge::Gauge;
+use outcome::Placing;
 use setup::Arguments;
 use setup::Settings;
 

@@ -164,65 +164,6 @@ module _ (t : List Record) where
   with-length zero c = ap length (with-low zero c (omega arith))
   with-length (suc i) c = ap length (with-suc i c) ∙ length-set t i c
 
--- WHERE A SLOT'S RECORD STANDS
-index-in : (k n : ℕ) → 1 ≤ k → k ≤ n → indexOf k n ≡ k - 1
-unfolding indexOf
-index-in k n h l = simp (le-leb 1 k h, le-leb k n l)
-
-index-low : (k n : ℕ) → k < 1 → indexOf k n ≡ n
-unfolding indexOf
-index-low k n h = simp (lt-leb 1 k h)
-
-index-high : (k n : ℕ) → 1 ≤ k → n < k → indexOf k n ≡ n
-unfolding indexOf
-index-high k n h l = simp (le-leb 1 k h, lt-leb k n l)
-
-module _ (t : List Record) (k : ℕ) where
-  record-index : getD t (indexOf k (length t)) zeroRecord ≡ recordAt t k
-  record-index =
-      elim (decLe 1 k) [
-        | yes h ↦
-            elim (decLe k (length t)) [
-              | yes l ↦ ap (λ (i : ℕ). getD t i zeroRecord) (index-in k (length t) h l) ∙ sym (record-in t k h)
-              | no l ↦
-                  ap (λ (i : ℕ). getD t i zeroRecord) (index-high k (length t) h (omega arith))
-                  ∙ List·getD-eq-default t zeroRecord (omega arith) ∙ sym (record-out t k (omega arith))
-            ]
-        | no h ↦
-            ap (λ (i : ℕ). getD t i zeroRecord) (index-low k (length t) (omega arith))
-            ∙ List·getD-eq-default t zeroRecord (omega arith) ∙ sym (record-low t k (omega arith))
-      ]
-
-  with-index : (c : Record) → set t (indexOf k (length t)) c ≡ withRecord t k c
-  with-index c =
-      elim (decLe 1 k) [
-        | yes h ↦
-            elim (decLe k (length t)) [
-              | yes l ↦ ap (λ (i : ℕ). set t i c) (index-in k (length t) h l) ∙ sym (with-in t k c h)
-              | no l ↦
-                  ap (λ (i : ℕ). set t i c) (index-high k (length t) h (omega arith))
-                  ∙ set-out t (length t) c (omega arith) ∙ sym (with-out t k c (omega arith))
-            ]
-        | no h ↦
-            ap (λ (i : ℕ). set t i c) (index-low k (length t) (omega arith))
-            ∙ set-out t (length t) c (omega arith) ∙ sym (with-low t k c (omega arith))
-      ]
-
-  module _ (r : ℕ) (e : r ≡ indexOf k (length t)) where
-    pub record-at-returns : Holds (ltb r (length t)) → getD t r zeroRecord ≡ recordAt t k
-    record-at-returns h = ap (λ (i : ℕ). getD t i zeroRecord) e ∙ record-index
-
-    pub record-at-returns-2 : Holds (not (ltb r (length t))) → (c : Record) → c ≡ zeroRecord → c ≡ recordAt t k
-    record-at-returns-2 h c z =
-        z ∙ sym (List·getD-eq-default t zeroRecord (nltb→le r (length t) h)) ∙ ap (λ (i : ℕ). getD t i zeroRecord) e ∙ record-index
-
-  module _ (c : Record) (r : ℕ) (e : r ≡ indexOf k (length t)) where
-    pub put-record-returns : Holds (ltb r (length t)) → set t r c ≡ withRecord t k c
-    put-record-returns h = ap (λ (i : ℕ). set t i c) e ∙ with-index c
-
-    pub put-record-returns-2 : Holds (not (ltb r (length t))) → t ≡ withRecord t k c
-    put-record-returns-2 h = sym (set-out t r c (nltb→le r (length t) h)) ∙ ap (λ (i : ℕ). set t i c) e ∙ with-index c
-
 -- THE GAUGES
 -- within a list, what stands beyond it does not matter
 any-beyond : (l : List Gauge) (i : ℕ) (d e : Gauge) → i < length l → getD l i d ≡ getD l i e
@@ -323,50 +264,7 @@ module _ (l : List Bool) where
   pub with-link-out : (k : ℕ) (up : Bool) → length l < k → withLink l k up ≡ l
   with-link-out k up h = with-link-in k up (omega arith) ∙ set-out l (k - 1) up (omega arith)
 
--- THE SEARCH. A slot that the rest of a search counts, after i slots
-abbrev pub after : ℕ → ℕ → ℕ
-after i zero = 0
-after i (suc k) = suc k + i
-
-after-none : (k : ℕ) → after 0 k ≡ k
-after-none zero = refl
-after-none (suc k) = omega arith
-
-after-later : (i k : ℕ) → after i (orLater false k) ≡ after (i + 1) k
-after-later i zero = refl
-after-later i (suc k) = omega arith
-
-module _ (q : Record → Bool) where
-  abbrev pub rest : List Record → ℕ → ℕ → ℕ
-  rest t s i = after i (lowest q (s - i) (drop i t))
-
-  module _ (t : List Record) (s : ℕ) where
-    pub rest-all : rest t s 0 ≡ lowest q s t
-    rest-all =
-        let e : s - 0 ≡ s = omega arith in
-        after-none (lowest q (s - 0) t) ∙ ap (λ (k : ℕ). lowest q k t) e
-
-    module _ (i : ℕ) where
-      turn : i < s → i < length t → lowest q (s - i) (drop i t) ≡ orLater (q (getD t i zeroRecord)) (lowest q (s - (i + 1)) (drop (i + 1) t))
-      unfolding lowest
-      turn h k =
-          let e : s - i ≡ suc (s - (i + 1)) = omega arith in
-          rw (e, drop-cons t i zeroRecord k, add-one i)
-
-      pub hit : i < s → i < length t → q (getD t i zeroRecord) ≡ true → rest t s i ≡ i + 1
-      hit h k e =
-          ap (after i) (turn h k ∙ ap (λ (b : Bool). orLater b (lowest q (s - (i + 1)) (drop (i + 1) t))) e) ∙ (omega arith)
-
-      pub miss : i < s → i < length t → q (getD t i zeroRecord) ≡ false → rest t s i ≡ rest t s (i + 1)
-      miss h k e =
-          ap (after i) (turn h k ∙ ap (λ (b : Bool). orLater b (lowest q (s - (i + 1)) (drop (i + 1) t))) e)
-          ∙ after-later i (lowest q (s - (i + 1)) (drop (i + 1) t))
-
-      pub done : s ≤ i → rest t s i ≡ 0
-      unfolding lowest
-      done h = let e : s - i ≡ 0 = omega arith in rw e
-
--- the search by token: none for the token 0
+-- THE SEARCH by token: none for the token 0
 module _ (t : List Record) (token : ℕ) where
   pub holder-none : token ≡ 0 → holderIn t token ≡ 0
   unfolding holderIn
@@ -375,11 +273,6 @@ module _ (t : List Record) (token : ℕ) where
   pub holder-some : (token ≡ 0 → ⊥) → holderIn t token ≡ findFrom t token (length t)
   unfolding holderIn
   holder-some h = simp (ne-eqb token 0 h)
-
-  -- where it begins
-  pub begins : rest (holdsB token) t (length t) 0 ≡ findFrom t token (length t)
-  unfolding findFrom
-  begins = rest-all (holdsB token) t (length t)
 
 -- what a search finds: a slot that passes, and no lower one; and that it finds none
 module _ (q : Record → Bool) where

@@ -10,9 +10,10 @@ use Rattle.gauge.specs.Gauge.{clearedOf}
 use Rattle.exchange.specs.declared.Exchange.{Exchange}
 use Rattle.exchange.specs.declared.Queue.{Queue}
 use Rattle.connection.specs.declared.Record.{Record}
-use Rattle.connection.specs.declared.Outcome.{Outcome}
-use Rattle.connection.specs.declared.Reply.the-variants.{Refused}
-use Rattle.connection.specs.Connection.{leastSize, mostSize, mostLink, every, zeroRecord, noMessage}
+use Rattle.outcome.specs.declared.Outcome.{Outcome}
+use Rattle.outcome.specs.declared.Reply.the-variants.{Refused}
+use Rattle.connection.specs.Connection.{leastSize, mostSize, mostLink, every, zeroRecord}
+use Rattle.outcome.specs.Outcome.{noMessage}
 use Rattle.table.specs.declared.Links.{Links}
 use Rattle.table.specs.declared.Answered.{Answered}
 use Rattle.table.specs.declared.Turned.{Turned}

@@ -1,19 +1,18 @@
-// The connection table, lent as a slice of records, and the links with their gauges and exchange, by value: sizes, slots, links, the search
-// by token, putting a record back, and what a call on one record answers (document 01, "The memory and the tables", "When the desk says
-// no").
+// Sizes, slots, and the links with their gauges and exchange, by value; and what a call on one record answers (document 01, "The memory and
+// the tables", "When the desk says no"). The lent table itself is looked into by the crate `slots`.
 ghost use mathlib.Core.Path.{_≡_};
 ghost use mathlib.Core.Bool.{cond};
 ghost use Prim.Native.Nat.{ℕ, _+_, _*_, _≤_, _<_};
-ghost use Rattle.table.specs.Table.{sizesB, slotB, indexOf, recordAt, linkIn, activeB, gaugeAt, holdsB, holderIn, withRecord};
+ghost use Rattle.table.specs.Table.{sizesB, slotB, linkIn, activeB, gaugeAt};
 ghost use Rattle.table.specs.Table.{activeSet, gaugeSet, linkSet};
 ghost use Rattle.table.specs.Table.{foundOf, refusedBy, keptBy, turnedBy, settledBy};
-use connection::Outcome;
 use connection::Record;
-use connection::Reply;
 use exchange::Exchange;
 use exchange::Queue;
 use exchange::Role;
 use gauge::Gauge;
+use outcome::Outcome;
+use outcome::Reply;
 
 pub const MOST_SLOTS: usize = 255;
 
@@ -143,66 +142,6 @@ pub fn set_link(links: Links, link: u8, up: bool) -> Links
     } else {
         set_gauge(next, link, gauge::cleared())
     }
-}
-
-// Where the record of a slot stands in a table of `count` records; `count` for a slot outside it.
-fn index(slot: usize, count: usize) -> usize
-    ensures { λ r. ⌜ r ≡ indexOf slot count ⌝ }
-{
-    if (1 <= slot) & (slot <= count) {
-        slot - 1
-    } else {
-        count
-    }
-}
-
-// The record of a slot; all zeros for a slot outside the table.
-pub fn record_at(table: &[Record], slot: usize) -> Record
-    ensures { λ r. ⌜ r ≡ recordAt (now (table .entry)) slot ⌝ }
-{
-    let i = index(slot, table.len());
-    if i < table.len() {
-        return table[i];
-    } else {
-        return connection::zero_record();
-    }
-}
-
-// Another record in a slot; nothing changes for a slot outside the table.
-pub fn put_record(table: &mut [Record], slot: usize, c: Record)
-    ensures { λ _. ⌜ now (table .exit) ≡ withRecord (now (table .entry)) slot c ⌝ }
-{
-    let at = index(slot, table.len());
-    if at < table.len() {
-        table[at] = c;
-        return;
-    } else {
-        return;
-    }
-}
-
-// Whether the record is open and has the token.
-fn holds(c: Record, token: u32) -> bool
-    ensures { λ r. ⌜ r ≡ holdsB token c ⌝ }
-{
-    c.id.opened & (c.id.own == token)
-}
-
-// The lowest slot that is open with this token; 0 for none, and for the token 0.
-pub fn find(table: &[Record], token: u32) -> usize
-    ensures { λ r. ⌜ r ≡ holderIn (now (table .entry)) token ⌝ }
-{
-    if token == 0 {
-        return 0;
-    }
-    let mut i: usize = 0;
-    while i < table.len() {
-        if holds(table[i], token) {
-            return i + 1;
-        }
-        i += 1;
-    }
-    0
 }
 
 // A refusal's number where the test holds, else what is refused otherwise.

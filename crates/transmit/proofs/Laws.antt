@@ -19,16 +19,20 @@ use Rattle.flow.specs.Flow.{roomOf, takenOf, stretchesOf, stretchesTotal, Place
 use Rattle.flow.proofs.Laws.{taken-most, taken-len, taken-some, room-most, room-rest, stretches-none, stretches-total, stretches-placed}
 use Rattle.cdc.specs.declared.Message.{Message}
 use Rattle.connection.specs.declared.RToken.{RToken}
-use Rattle.connection.specs.declared.Placing.{Placing}
-use Rattle.connection.specs.declared.Placings.{Placings}
-use Rattle.connection.specs.declared.Placings.the-variants.{Nowhere, One, Two}
+use Rattle.outcome.specs.declared.Placing.{Placing}
+use Rattle.outcome.specs.declared.Placings.{Placings}
+use Rattle.outcome.specs.declared.Placings.the-variants.{Nowhere, One, Two}
 use Rattle.connection.specs.declared.Record.{Record}
-use Rattle.connection.specs.declared.Reply.{Reply}
-use Rattle.connection.specs.declared.Reply.the-variants.{Sent}
-use Rattle.connection.specs.declared.Outcome.{Outcome}
-use Rattle.connection.specs.Connection.{mostAddress, fitsB, remoteOk, coherentB, refusalOf, refusedOf, messageOf, pendingOf, outcomeOf, urgentOutcome}
-use Rattle.connection.proofs.Laws.{fits-facts, remote-facts, Coherent, coherent-facts, coherent-from, place-new, place-further, told-coherent, urgent-reply, urgent-after, refusal-none, refusal-0, refused-reply, refused-after, outcome-reply, outcome-made, outcome-id, outcome-remote, outcome-q, outcome-r, outcome-coherent}
-use Rattle.transmit.specs.Transmit.{sendForbids, nOf, rtokenOf, elementStart, placingOf, placingsOf, placingsTotal, Within, allWithin, producedOut, producedOf, tellsOf, sentReply, sentOf, urgedOut, urgedOf, urgentOf, waitsB, nothingSent, sendOf, urgentSendOf}
+use Rattle.outcome.specs.declared.Reply.{Reply}
+use Rattle.outcome.specs.declared.Reply.the-variants.{Sent}
+use Rattle.outcome.specs.declared.Outcome.{Outcome}
+use Rattle.connection.specs.Connection.{mostAddress, fitsB, remoteOk, coherentB, refusalOf}
+use Rattle.outcome.specs.Outcome.{refusedOf, messageOf, pendingOf, outcomeOf, urgentOutcome}
+use Rattle.connection.proofs.Laws.{fits-facts, remote-facts, Coherent, coherent-facts, coherent-from, place-new, place-further, refusal-none, refusal-0}
+use Rattle.outcome.proofs.Laws.{told-coherent, urgent-reply, urgent-after, refused-reply, refused-after, outcome-reply, outcome-made, outcome-id, outcome-remote, outcome-q, outcome-r, outcome-coherent}
+use Rattle.produced.specs.Produced.{sendForbids, nOf, producedOut, producedOf, tellsOf, urgedOut, urgedOf, waitsB}
+use Rattle.produced.proofs.Laws.{tells-some}
+use Rattle.transmit.specs.Transmit.{rtokenOf, elementStart, placingOf, placingsOf, placingsTotal, Within, allWithin, sentReply, sentOf, urgentOf, nothingSent, sendOf, urgentSendOf}
 
 -- an accepted send, of the code's parts: n, the answer, the record with Q moved, whether it tells
 module _ (rec : Record) (len n : ℕ) (reply : Reply) (next : Record) (o : Outcome) (hn : n ≡ nOf rec len) (hr : reply ≡ sentReply rec n)
@@ -347,11 +351,6 @@ send-keeps-id n active rec len =
     (λ k. ap (λ (w : Record). w .id) (refused-after k rec))
     (outcome-id (Sent 0 Nowhere) false rec)
     (λ e w. sent-id rec len)
-
--- where bytes are taken a message is made
-pub tells-some : (rec : Record) (k len : ℕ) → 0 < k → tellsOf rec k len ≡ true
-unfolding tellsOf
-tells-some rec k len h = simp (lt-ltb 0 k h)
 
 -- nothing forbids it and bytes are offered
 pub send-accepts : (n : ℕ) (active : Bool) (rec : Record) (len : ℕ) → coherentB n rec ≡ true → active ≡ true

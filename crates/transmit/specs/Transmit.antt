@@ -2,35 +2,23 @@
 -- Assumes nothing.
 use Prim.Native.Nat.{ℕ, _+_, _≤_, _<_}
 use mathlib.Core.Path.{_≡_}
-use mathlib.Core.Bool.{Bool, true, false, _&&_, _||_, not, cond}
+use mathlib.Core.Bool.{Bool, false, _&&_, cond}
 use lib.Dec.{ltb, eqb}
-use Rattle.cursor.specs.Cursor.{stepOf}
-use Rattle.closing.specs.declared.Marks.{Marks}
 use Rattle.flow.specs.declared.Stretch.{Stretch}
 use Rattle.flow.specs.declared.Stretches.{Stretches}
 use Rattle.flow.specs.declared.Stretches.the-variants as Parts
-use Rattle.flow.specs.Flow.{roomOf, takenOf, stretchesOf}
+use Rattle.flow.specs.Flow.{stretchesOf}
 use Rattle.connection.specs.declared.RToken.{RToken}
-use Rattle.connection.specs.declared.Placing.{Placing}
-use Rattle.connection.specs.declared.Placings.{Placings}
-use Rattle.connection.specs.declared.Placings.the-variants.{Nowhere, One, Two}
-use Rattle.connection.specs.declared.Outbound.{Outbound}
 use Rattle.connection.specs.declared.Record.{Record}
-use Rattle.connection.specs.declared.Reply.{Reply}
-use Rattle.connection.specs.declared.Reply.the-variants.{Sent}
-use Rattle.connection.specs.declared.Outcome.{Outcome}
-use Rattle.connection.specs.Connection.{mostAddress, firstByte, remoteOk, placeAt, qTo, blockedTo, urgentOutTo, outboundTo, refusalOf, refusedOf, messageOf, pendingOf, outcomeOf, urgentOutcome}
-
--- 7: send after D, C or A sent or C heard
-unfoldable pub sendForbids : Marks → Bool
-sendForbids m = m .sent .done || (m .sent .closed || (m .abort || m .heard .closed))
-
--- it takes n, the smaller of room and length
-unfoldable pub nOf : Record → ℕ → ℕ
-nOf rec len =
-    let q = rec .outbound .producer in
-    let r = rec .outbound .consumer in
-    takenOf (roomOf (rec .remote .size) r q) len
+use Rattle.connection.specs.Connection.{mostAddress, firstByte, remoteOk, refusalOf}
+use Rattle.outcome.specs.declared.Placing.{Placing}
+use Rattle.outcome.specs.declared.Placings.{Placings}
+use Rattle.outcome.specs.declared.Placings.the-variants.{Nowhere, One, Two}
+use Rattle.outcome.specs.declared.Reply.{Reply}
+use Rattle.outcome.specs.declared.Reply.the-variants.{Sent}
+use Rattle.outcome.specs.declared.Outcome.{Outcome}
+use Rattle.outcome.specs.Outcome.{refusedOf, messageOf, pendingOf, outcomeOf, urgentOutcome}
+use Rattle.produced.specs.Produced.{sendForbids, nOf, producedOf, tellsOf, urgedOf, waitsB}
 
 -- the peer's memory as the connection's own link reaches it (exact: the link is 1 to 4 in a coherent record)
 unfoldable pub rtokenOf : Record → RToken
@@ -59,20 +47,6 @@ placingsOf rec Parts.Nowhere = Nowhere
 placingsOf rec (Parts.One s) = One (placingOf rec s)
 placingsOf rec (Parts.Two s t) = Two (placingOf rec s) (placingOf rec t)
 
--- Q moves by n; with bytes offered, B becomes "n is less than the length"
-unfoldable pub producedOut : ℕ → Outbound → ℕ → ℕ → Outbound
-producedOut N' o n len =
-    let q = o .producer in
-    blockedTo (qTo o (stepOf N' q n)) (ltb n len)
-
-unfoldable pub producedOf : Record → ℕ → ℕ → Record
-producedOf rec n len = outboundTo rec (producedOut (rec .remote .size) (rec .outbound) n len)
-
--- a message is made if n is above 0, or if bytes are left over and B was not yet told (our B on is a B told: the send that turns it on
--- makes a message)
-unfoldable pub tellsOf : Record → ℕ → ℕ → Bool
-tellsOf rec n len = ltb 0 n || (ltb n len && not (rec .outbound .blocked))
-
 -- the answer names n and at most two placings
 abbrev pub sentReply : Record → ℕ → Reply
 sentReply rec n = Sent n (placingsOf rec (stretchesOf (rec .remote .size) (rec .outbound .producer) n))
@@ -81,13 +55,6 @@ unfoldable pub sentOf : Record → ℕ → Outcome
 sentOf rec len =
     let n = nOf rec len in
     outcomeOf (sentReply rec n) (tellsOf rec n len) (producedOf rec n len)
-
--- An urgent send that is taken whole is a send, and Q is the urgent place before its message is made
-unfoldable pub urgedOut : Outbound → Outbound
-urgedOut o = urgentOutTo o (placeAt (o .producer))
-
-unfoldable pub urgedOf : Record → Record
-urgedOf rec = outboundTo rec (urgedOut (rec .outbound))
 
 -- one cut short is a send, but always makes a message, with P and no U
 unfoldable pub urgentOf : Record → ℕ → Outcome
@@ -99,10 +66,7 @@ urgentOf rec len =
     (urgentOutcome (sentReply rec n) (pendingOf (messageOf next)) next)
     (urgentOutcome (sentReply rec n) (messageOf urged) urged)
 
--- while an urgent place of our own stands, and where nothing is offered: n is 0, no message, no change
-unfoldable pub waitsB : Record → ℕ → Bool
-waitsB rec len = rec .outbound .urgent .standing || eqb len 0
-
+-- n is 0, no message, no change
 abbrev pub nothingSent : Record → Outcome
 nothingSent rec = outcomeOf (Sent 0 Nowhere) false rec
 

@@ -5,26 +5,16 @@ ghost use Prim.Native.Nat.{_+_, _≤_, _<_};
 ghost use Rattle.cursor.specs.Cursor.{inRange};
 ghost use Rattle.flow.specs.Flow.{stretchesOf, allPlaced};
 ghost use Rattle.connection.specs.Connection.{remoteOk};
-ghost use Rattle.transmit.specs.Transmit.{sendForbids, rtokenOf, placingOf, placingAt, placingsOf, nOf, sentReply, producedOut};
-ghost use Rattle.transmit.specs.Transmit.{producedOf, tellsOf, sentOf, urgedOut, urgedOf, urgentOf, waitsB, nothingSent, sendOf};
-ghost use Rattle.transmit.specs.Transmit.{urgentSendOf};
-use closing::Marks;
-use connection::Outbound;
-use connection::Outcome;
-use connection::Placing;
-use connection::Placings;
+ghost use Rattle.transmit.specs.Transmit.{rtokenOf, placingOf, placingAt, placingsOf, sentReply, sentOf, urgentOf, nothingSent};
+ghost use Rattle.transmit.specs.Transmit.{sendOf, urgentSendOf};
 use connection::RToken;
 use connection::Record;
-use connection::Reply;
-use connection::Urgent;
 use flow::Stretch;
 use flow::Stretches;
-
-fn forbids(m: Marks) -> bool
-    ensures { λ r. ⌜ r ≡ sendForbids m ⌝ }
-{
-    m.sent.done | (m.sent.closed | (m.abort | m.heard.closed))
-}
+use outcome::Outcome;
+use outcome::Placing;
+use outcome::Placings;
+use outcome::Reply;
 
 // The peer's memory as the connection's own link reaches it.
 fn rtoken_of(rec: Record) -> RToken
@@ -90,40 +80,6 @@ fn placings_of(rec: Record, s: Stretches) -> Placings
     }
 }
 
-// The outbound half with k of len bytes taken, for an element of `size` bytes.
-fn produced_out(size: u32, o: Outbound, k: u32, len: usize) -> Outbound
-    ensures { λ r. ⌜ r ≡ producedOut size o k len ⌝ }
-{
-    let q = o.producer;
-    let moved = cursor::step(size, q, k);
-    let left = (k as usize) < len;
-    let mut next = o;
-    next.producer = moved;
-    next.blocked = left;
-    next
-}
-
-fn produced(rec: Record, k: u32, len: usize) -> Record
-    ensures { λ r. ⌜ r ≡ producedOf rec k len ⌝ }
-{
-    let o = produced_out(rec.remote.size, rec.outbound, k, len);
-    let mut next = rec;
-    next.outbound = o;
-    next
-}
-
-// How many of len bytes are taken.
-fn taken(rec: Record, len: usize) -> u32
-    ensures { λ r. ⌜ r ≡ nOf rec len ⌝ }
-{
-    let o = rec.outbound;
-    let q = o.producer;
-    let r = o.consumer;
-    let size = rec.remote.size;
-    let room = flow::room(size, r, q);
-    flow::taken(room, len)
-}
-
 // What the answer names.
 fn sent_reply(rec: Record, k: u32) -> Reply
     requires { ⌜ (remoteOk (rec .remote) ≡ true) × allPlaced (rec .remote .size) (stretchesOf (rec .remote .size) (rec .outbound .producer) k) ⌝ }
@@ -135,45 +91,15 @@ fn sent_reply(rec: Record, k: u32) -> Reply
     Reply::Sent(k, placings)
 }
 
-// Whether a message is made.
-fn tells(rec: Record, k: u32, len: usize) -> bool
-    ensures { λ r. ⌜ r ≡ tellsOf rec k len ⌝ }
-{
-    (0 < k) | (((k as usize) < len) & !rec.outbound.blocked)
-}
-
 // Bytes are offered.
 fn sent(rec: Record, len: usize) -> Outcome
     requires { ⌜ (remoteOk (rec .remote) ≡ true) × (inRange (rec .remote .size) (rec .outbound .producer) ≡ true) ⌝ }
     ensures { λ r. ⌜ r ≡ sentOf rec len ⌝ }
 {
-    let k = taken(rec, len);
+    let k = produced::taken(rec, len);
     let reply = sent_reply(rec, k);
-    let next = produced(rec, k, len);
-    connection::outcome_of(reply, tells(rec, k, len), next)
-}
-
-fn urged_out(o: Outbound) -> Outbound
-    ensures { λ r. ⌜ r ≡ urgedOut o ⌝ }
-{
-    let q = o.producer;
-    let here = Urgent {
-        standing: true,
-        place: q,
-    };
-    let mut next = o;
-    next.urgent = here;
-    next
-}
-
-// The record with Q for its urgent place.
-fn urged(rec: Record) -> Record
-    ensures { λ r. ⌜ r ≡ urgedOf rec ⌝ }
-{
-    let o = urged_out(rec.outbound);
-    let mut next = rec;
-    next.outbound = o;
-    next
+    let next = produced::produced(rec, k, len);
+    outcome::outcome_of(reply, produced::tells(rec, k, len), next)
 }
 
 // Urgent bytes are offered: they are cut short, or taken whole.
@@ -181,41 +107,33 @@ fn urgent(rec: Record, len: usize) -> Outcome
     requires { ⌜ (remoteOk (rec .remote) ≡ true) × (inRange (rec .remote .size) (rec .outbound .producer) ≡ true) ⌝ }
     ensures { λ r. ⌜ r ≡ urgentOf rec len ⌝ }
 {
-    let k = taken(rec, len);
+    let k = produced::taken(rec, len);
     let answer = sent_reply(rec, k);
-    let next = produced(rec, k, len);
+    let next = produced::produced(rec, k, len);
     if (k as usize) < len {
-        let m = connection::pending(connection::message_of(next));
-        connection::urgent_outcome(answer, m, next)
-    } else {
-        let whole = urged(next);
-        let m = connection::message_of(whole);
-        connection::urgent_outcome(answer, m, whole)
+        let m = outcome::pending(outcome::message_of(next));
+        return outcome::urgent_outcome(answer, m, next);
     }
-}
-
-// Whether nothing is sent: an urgent place of our own stands, or nothing is offered.
-fn waits(rec: Record, len: usize) -> bool
-    ensures { λ r. ⌜ r ≡ waitsB rec len ⌝ }
-{
-    rec.outbound.urgent.standing | (len == 0)
+    let whole = produced::urged(next);
+    let m = outcome::message_of(whole);
+    outcome::urgent_outcome(answer, m, whole)
 }
 
 fn nothing_sent(rec: Record) -> Outcome
     ensures { λ r. ⌜ r ≡ nothingSent rec ⌝ }
 {
-    connection::outcome_of(Reply::Sent(0, Placings::Nowhere), false, rec)
+    outcome::outcome_of(Reply::Sent(0, Placings::Nowhere), false, rec)
 }
 
 // Send of `len` bytes, in a group whose elements have n bytes, on a link that is active or not.
 pub fn send(n: u32, active: bool, rec: Record, len: usize) -> Outcome
     ensures { λ r. ⌜ r ≡ sendOf n active rec len ⌝ }
 {
-    let no = connection::refusal(n, active, rec, forbids(rec.marks));
+    let no = connection::refusal(n, active, rec, produced::forbids(rec.marks));
     if no != 0 {
-        return connection::refused(no, rec);
+        return outcome::refused(no, rec);
     }
-    if waits(rec, len) {
+    if produced::waits(rec, len) {
         return nothing_sent(rec);
     }
     sent(rec, len)
@@ -225,11 +143,11 @@ pub fn send(n: u32, active: bool, rec: Record, len: usize) -> Outcome
 pub fn urgent_send(n: u32, active: bool, rec: Record, len: usize) -> Outcome
     ensures { λ r. ⌜ r ≡ urgentSendOf n active rec len ⌝ }
 {
-    let no = connection::refusal(n, active, rec, forbids(rec.marks));
+    let no = connection::refusal(n, active, rec, produced::forbids(rec.marks));
     if no != 0 {
-        return connection::refused(no, rec);
+        return outcome::refused(no, rec);
     }
-    if waits(rec, len) {
+    if produced::waits(rec, len) {
         return nothing_sent(rec);
     }
     urgent(rec, len)

@@ -8,11 +8,14 @@ use Rattle.exchange.specs.Exchange.{sortOf, addingB, emptyQueue, runsOver, ends
 use Rattle.closing.specs.Closing.{closeStateOf, stateOf, doneSent, closedSent, abortSent, marksHeard}
 use Rattle.flow.specs.Flow.{roomOf, takenOf, firstOf, stretchesOf, windowOf, updateDue}
 use Rattle.element.specs.Element.{part, elementOf, splice, intactB, freshElement, allFree, ringFrom, unread}
-use Rattle.connection.specs.Connection.{zeroRecord, fitsB, remoteOk, numbersOk, offsetsOk, distancesOk, placeOk, placesOk, coherentB, reachedB, passedBy, refusalOf, messageOf, pendingOf, toldIn, usedIn, toldOf, outcomeOf, urgentOutcome, refusedOf, closedIf, marksTo}
-use Rattle.transmit.specs.Transmit.{sendForbids, nOf, rtokenOf, placingOf, producedOut, producedOf, tellsOf, sentOf, urgedOut, urgedOf, urgentOf, waitsB, sendOf, urgentSendOf}
+use Rattle.connection.specs.Connection.{zeroRecord, fitsB, remoteOk, numbersOk, offsetsOk, distancesOk, placeOk, placesOk, coherentB, reachedB, passedBy, refusalOf, marksTo}
+use Rattle.outcome.specs.Outcome.{messageOf, pendingOf, toldIn, usedIn, toldOf, outcomeOf, urgentOutcome, refusedOf, closedIf}
+use Rattle.transmit.specs.Transmit.{rtokenOf, placingOf, sentOf, urgentOf, sendOf, urgentSendOf}
+use Rattle.produced.specs.Produced.{sendForbids, nOf, producedOut, producedOf, tellsOf, urgedOut, urgedOf, waitsB}
 use Rattle.pieces.specs.Pieces.{bytesOf, pieceOf, piecesFrom}
 use Rattle.receive.specs.Receive.{placeForbids, mayPlace, placeOf, readForbids, unreadOf, consumedIn, clearedIn, consumedOf, updateOf, tornOf, takeOf, readOf}
-use Rattle.hear.specs.Hear.{ruledOf, nextB, abortedOf, producerB, consumerB, urgesB, urgentIn, heardIn, heardOut, heardRecord, answersB, acceptedOf, followedOf, hearOf}
+use Rattle.hear.specs.Hear.{ruledOf, abortedOf, acceptedOf, followedOf, hearOf}
+use Rattle.heard.specs.Heard.{nextB, producerB, consumerB, urgesB, urgentIn, heardIn, heardOut, heardRecord, answersB}
 use Rattle.finish.specs.Finish.{resetOf, closingOf, shutdownForbids, shutdownOf, closeForbids, closeOf, abortOf}
 use Rattle.table.specs.Table.{sizesB, slotB, recordAt, openB, activeB, holdsB, lowest, findFrom, withRecord, withLink, gaugeAt, withGauge, linkSet}
 use Rattle.linkcalls.specs.Calls.{touched, settledOf, changeTouch, changedOf}

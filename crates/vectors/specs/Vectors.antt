@@ -24,7 +24,7 @@ use Rattle.connection.specs.declared.Inbound.{Inbound}
 use Rattle.connection.specs.declared.Outbound.{Outbound}
 use Rattle.connection.specs.declared.RToken.{RToken}
 use Rattle.connection.specs.declared.Remote.{Remote}
-use Rattle.connection.specs.declared.Placing.{Placing}
+use Rattle.outcome.specs.declared.Placing.{Placing}
 use Rattle.exchange.specs.declared.Role.the-variants.{Client}
 use Rattle.exchange.specs.Exchange.{noExchange, emptyQueue}
 use Rattle.table.specs.declared.Links.{Links}

@@ -3,7 +3,7 @@ use mathlib.Core.Path.{sym, _∙_}
 use denote.Ref.{now}
 use borrow.Author.Needs.{needs}
 use Rattle.table.proofs.Laws.{sized-in}
-use Rattle.calls.proofs.Calls.{hear-good, hear-bad, hear-unsized, kept-by}
+use Rattle.calls.proofs.Laws.{hear-good, hear-bad, hear-unsized, kept-by}
 use Rattle.calls.proofs.hear.Statement.{statement}
 use Rattle.calls.proofs.hear.Tie as tie
 

@@ -3,7 +3,7 @@ use mathlib.Core.Path.{refl, sym}
 use mathlib.Core.Bool.{false≢true}
 use denote.Ref.{now}
 use borrow.Author.Needs.{needs}
-use Rattle.calls.proofs.Calls.{by-request}
+use Rattle.calls.proofs.Laws.{by-request}
 use Rattle.calls.proofs.on.Statement.{statement}
 use Rattle.calls.proofs.on.Tie as tie
 

@@ -1,6 +1,5 @@
 -- `connection::places_ok` meets its contract. Assumes nothing.
 use borrow.Author.Needs.{needs}
-use mathlib.Core.Bool.{_&&_}
 use Rattle.connection.specs.Connection.{placesOk}
 use Rattle.connection.proofs.places_ok.Statement.{statement}
 use Rattle.connection.proofs.places_ok.Tie as tie
@@ -13,7 +12,11 @@ place-ok-requires-2 c κs = search needs
 
 returns : tie.Need-returns
 unfolding placesOk
-returns c = λ i. c .before .place-ok .ensures i && c .place-ok2 .ensures i
+returns c = simp (← (c .before .before .place-ok .ensures), c .before .if1 .taken, c .place-ok2 .ensures)
+
+returns-2 : tie.Need-returns-2
+unfolding placesOk
+returns-2 c = simp (← (c .before .place-ok .ensures), c .if1 .left)
 
 pub places-ok-spec : {M : Type 1} → statement M
-places-ok-spec = tie.close (tie.spec place-ok-requires place-ok-requires-2 returns)
+places-ok-spec = tie.close (tie.spec place-ok-requires place-ok-requires-2 returns returns-2)

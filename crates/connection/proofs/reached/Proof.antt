@@ -16,8 +16,12 @@ gap-requires-2 c κs = search needs
 returns : tie.Need-returns
 unfolding reachedB
 returns c =
-    let b = c .before in
-    simp (b .gap2 .ensures .0, b .before .gap .ensures .0, b .before .before .data-size .ensures)
+    let d = c .before .before in
+    simp (d .before .before .if1 .taken, c .gap2 .ensures .0, c .before .gap .ensures .0, d .data-size .ensures)
+
+returns-2 : tie.Need-returns-2
+unfolding reachedB
+returns-2 c = simp (c .if1 .left)
 
 pub reached-spec : {M : Type 1} → statement M
-reached-spec = tie.close (tie.spec data-size-requires gap-requires gap-requires-2 returns)
+reached-spec = tie.close (tie.spec data-size-requires gap-requires gap-requires-2 returns returns-2)

@@ -60,10 +60,10 @@ use Rattle.table.specs.declared.Turned.{Turned}
 use Rattle.table.proofs.Turned as TurnedT
 use Rattle.table.proofs.Turned.Laws as TurnedL
 use Rattle.connection.specs.Connection.{zeroRecord}
-use Rattle.table.proofs.record_at as f-record-at
-use Rattle.table.proofs.record_at.Symbol as f-record-at-def
-use Rattle.table.proofs.record_at.Symbol.{name as #f-record-at}
-use Rattle.table.proofs.record_at.Met as f-record-at-thm
+use Rattle.slots.proofs.record_at as f-record-at
+use Rattle.slots.proofs.record_at.Symbol as f-record-at-def
+use Rattle.slots.proofs.record_at.Symbol.{name as #f-record-at}
+use Rattle.slots.proofs.record_at.Met as f-record-at-thm
 use Rattle.gathering.proofs.turn as f-turn
 use Rattle.gathering.proofs.turn.Symbol as f-turn-def
 use Rattle.gathering.proofs.turn.Symbol.{name as #f-turn}
@@ -72,10 +72,10 @@ use Rattle.gathering.proofs.after_of as f-after-of
 use Rattle.gathering.proofs.after_of.Symbol as f-after-of-def
 use Rattle.gathering.proofs.after_of.Symbol.{name as #f-after-of}
 use Rattle.gathering.proofs.after_of.Met as f-after-of-thm
-use Rattle.table.proofs.put_record as f-put-record
-use Rattle.table.proofs.put_record.Symbol as f-put-record-def
-use Rattle.table.proofs.put_record.Symbol.{name as #f-put-record}
-use Rattle.table.proofs.put_record.Met as f-put-record-thm
+use Rattle.slots.proofs.put_record as f-put-record
+use Rattle.slots.proofs.put_record.Symbol as f-put-record-def
+use Rattle.slots.proofs.put_record.Symbol.{name as #f-put-record}
+use Rattle.slots.proofs.put_record.Met as f-put-record-thm
 use Rattle.gathering.proofs.answer_of as f-answer-of
 use Rattle.gathering.proofs.answer_of.Symbol as f-answer-of-def
 use Rattle.gathering.proofs.answer_of.Symbol.{name as #f-answer-of}
@@ -324,8 +324,8 @@ gather-spec 𝓤 H 𝓜 𝓖 𝓡 =
     entered 𝓤 H (tripleOf 𝓤 H (𝓖 .A) call.signature (call.spec 𝓤 H (𝓖 .A) (𝓜 .mem) (𝓡 .run)))
     (tables 𝓤 H 𝓜 𝓡 code.env .C) (tables 𝓤 H 𝓜 𝓡 code.env .Λ) #call code.function (code.unfolded 𝓤 H 𝓜 𝓡)
     (call-meets 𝓤 H (𝓖 .A) (givenOf 𝓤 H 𝓜 𝓖) (𝓜 .mem) (𝓡 .run) (tablesOf 𝓤 H 𝓜 (tables 𝓤 H 𝓜 𝓡 code.env))
-    (cited 𝓤 H (C-f-record-at 𝓤 H (𝓖 .A) (𝓜 .mem) (𝓡 .run)) 𝓜 𝓡 code.env #f-record-at f-record-at-def.routine code.calls-table·record-at (f-record-at-thm.met 𝓤 H 𝓜 𝓖 𝓡))
+    (cited 𝓤 H (C-f-record-at 𝓤 H (𝓖 .A) (𝓜 .mem) (𝓡 .run)) 𝓜 𝓡 code.env #f-record-at f-record-at-def.routine code.calls-slots·record-at (f-record-at-thm.met 𝓤 H 𝓜 𝓖 𝓡))
     (cited 𝓤 H (C-f-turn 𝓤 H (𝓖 .A) (𝓜 .mem) (𝓡 .run)) 𝓜 𝓡 code.env #f-turn f-turn-def.routine code.calls-gathering·turn (f-turn-thm.met 𝓤 H 𝓜 𝓖 𝓡))
     (cited 𝓤 H (C-f-after-of 𝓤 H (𝓖 .A) (𝓜 .mem) (𝓡 .run)) 𝓜 𝓡 code.env #f-after-of f-after-of-def.routine code.calls-gathering·after-of (f-after-of-thm.met 𝓤 H 𝓜 𝓖 𝓡))
-    (cited 𝓤 H (C-f-put-record 𝓤 H (𝓖 .A) (𝓜 .mem) (𝓡 .run)) 𝓜 𝓡 code.env #f-put-record f-put-record-def.routine code.calls-table·put-record (f-put-record-thm.met 𝓤 H 𝓜 𝓖 𝓡))
+    (cited 𝓤 H (C-f-put-record 𝓤 H (𝓖 .A) (𝓜 .mem) (𝓡 .run)) 𝓜 𝓡 code.env #f-put-record f-put-record-def.routine code.calls-slots·put-record (f-put-record-thm.met 𝓤 H 𝓜 𝓖 𝓡))
     (cited 𝓤 H (C-f-answer-of 𝓤 H (𝓖 .A) (𝓜 .mem) (𝓡 .run)) 𝓜 𝓡 code.env #f-answer-of f-answer-of-def.routine code.calls-gathering·answer-of (f-answer-of-thm.met 𝓤 H 𝓜 𝓖 𝓡)))

@@ -41,6 +41,6 @@ followed-spec =
     returns
     is-next-requires
     ruled-requires
-    refused-requires
     returns-2
+    refused-requires
     returns-3)

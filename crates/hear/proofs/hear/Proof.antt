@@ -42,6 +42,6 @@ hear-spec =
     refused-requires
     returns
     aborted-requires
-    followed-requires
     returns-2
+    followed-requires
     returns-3)

@@ -46,6 +46,6 @@ ruled-spec =
     producer-ok-requires
     consumer-ok-requires
     accepted-requires
-    refused-requires
     returns
+    refused-requires
     returns-2)

@@ -67,8 +67,8 @@ urgent-spec =
     message-of-requires
     pending-requires
     urgent-outcome-requires
+    returns
     urged-requires
     message-of-requires-2
     urgent-outcome-requires-2
-    returns
     returns-2)

@@ -1,0 +1,36 @@
+-- `opening::free` meets its contract. Assumes nothing.
+use mathlib.Core.Bool.{false}
+use mathlib.Core.Path.{ap, _∙_}
+use denote.Ref.{now}
+use borrow.Author.Needs.{needs}
+use Rattle.outcome.specs.declared.Reply.the-variants.{Accepted}
+use Rattle.outcome.specs.Outcome.{outcomeOf}
+use Rattle.opening.proofs.Laws.{free-did}
+use Rattle.opening.proofs.free.Statement.{statement}
+use Rattle.opening.proofs.free.Tie as tie
+
+free-refusal-requires : tie.Need-free-refusal-requires
+free-refusal-requires c κs = search needs
+
+zero-record-requires : tie.Need-zero-record-requires
+zero-record-requires c κs = search needs
+
+outcome-of-requires : tie.Need-outcome-of-requires
+outcome-of-requires c κs = search needs
+
+settled-requires : tie.Need-settled-requires
+settled-requires c κs = search needs
+
+returns : tie.Need-returns
+returns c =
+    let o = c .before in
+    let z = o .before in
+    let f = z .before in
+    let a = f .before .before .args in
+    λ t h e.
+    free-did (a .s) (a .n) t (a .links) (now (a .mem)) (a .slot) (a .rec) e (f .free-refusal .result) (f .free-refusal .ensures t h e)
+    (o .outcome-of .result) (o .outcome-of .ensures ∙ ap (outcomeOf Accepted false) (z .zero-record .ensures)) (c .settled .result)
+    (c .settled .ensures)
+
+pub free-spec : {M : Type 1} → statement M
+free-spec = tie.close (tie.spec free-refusal-requires zero-record-requires outcome-of-requires settled-requires returns)

@@ -1,0 +1,79 @@
+-- `opening::open` meets its contract. Assumes nothing.
+use Prim.Native.Nat.{ℕ}
+use mathlib.Core.Bool.{false}
+use mathlib.Core.Path.{ap, _∙_}
+use denote.Ref.{now}
+use borrow.Author.Needs.{needs}
+use Rattle.element.specs.Element.{clearedOf}
+use Rattle.outcome.specs.declared.Reply.the-variants.{Accepted}
+use Rattle.outcome.specs.Outcome.{outcomeOf}
+use Rattle.opening.proofs.Laws.{open-did, open-refused}
+use Rattle.opening.proofs.open.Statement.{statement}
+use Rattle.opening.proofs.open.Tie as tie
+
+open-refusal-requires : tie.Need-open-refusal-requires
+open-refusal-requires c κs = search needs
+
+opened-record-requires : tie.Need-opened-record-requires
+opened-record-requires c κs = search needs
+
+outcome-of-requires : tie.Need-outcome-of-requires
+outcome-of-requires c κs = search needs
+
+settled-requires : tie.Need-settled-requires
+settled-requires c κs = search needs
+
+base-of-requires : tie.Need-base-of-requires
+base-of-requires c κs = search needs
+
+clear-requires : tie.Need-clear-requires
+clear-requires c κs = search needs
+
+same-length : tie.Need-same-length
+same-length c = search needs
+
+returns : tie.Need-returns
+returns c =
+    let w = c .before .before in
+    let b = w .before .before in
+    let d = b .before .before in
+    let o = d .before in
+    let r = o .before in
+    let f = r .before in
+    let a = f .before .before .before .args in
+    λ t h hh e.
+    open-did (a .s) (a .n) t (a .links) (now (a .mem)) (a .slot) (a .rec) e (a .given) (f .open-refusal .result)
+    (f .open-refusal .ensures t h hh e) (o .outcome-of .result)
+    (o .outcome-of .ensures ∙ ap (outcomeOf Accepted false) (r .opened-record .ensures)) (d .settled .result) (d .settled .ensures)
+    (b .before .if1 .taken) _ (w .clear .ensures ∙ ap (λ (x : ℕ). clearedOf (now (a .mem)) x (a .n)) (b .base-of .ensures))
+
+same-length-2 : tie.Need-same-length-2
+same-length-2 c = search needs
+
+returns-2 : tie.Need-returns-2
+returns-2 c =
+    let d = c .before in
+    let o = d .before in
+    let r = o .before in
+    let f = r .before in
+    let a = f .before .before .before .args in
+    λ t h hh e.
+    open-refused (a .s) (a .n) t (a .links) (now (a .mem)) (a .slot) (a .rec) e (a .given) (f .open-refusal .result)
+    (f .open-refusal .ensures t h hh e) (o .outcome-of .result)
+    (o .outcome-of .ensures ∙ ap (outcomeOf Accepted false) (r .opened-record .ensures)) (d .settled .result) (d .settled .ensures)
+    (c .if1 .left)
+
+pub open-spec : {M : Type 1} → statement M
+open-spec =
+    tie.close
+    (tie.spec
+    open-refusal-requires
+    opened-record-requires
+    outcome-of-requires
+    settled-requires
+    base-of-requires
+    clear-requires
+    same-length
+    returns
+    same-length-2
+    returns-2)

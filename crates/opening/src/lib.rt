@@ -1,0 +1,121 @@
+// Open and free, on one record (document 01, "Desk calls"). Each is lent S, N and the memory, and is given the table's length, the links, a
+// slot and the record that the slot shows, as the calls of a connection are.
+ghost use mathlib.Core.Path.{_≡_};
+ghost use mathlib.Core.List.{List, []};
+ghost use lib.ListN.{length};
+ghost use Rattle.connection.specs.declared.Record.{Record};
+ghost use Rattle.table.specs.Table.{recordAt, holderIn};
+ghost use Rattle.rules.specs.Rules as Rules;
+ghost use Rattle.rules.specs.Rules.{Call, badOpening, openRefusal, freeRefusal, groupOf};
+ghost use Rattle.rules.specs.Promises.{DidOn, DidIn};
+use connection::Opening;
+use connection::Record;
+use outcome::Reply;
+use table::Links;
+use table::Turned;
+
+// Whether what open is given is refused with 12: a zero token, or what is fixed about the peer out of range.
+fn bad_opening(given: Opening) -> bool
+    ensures { λ r. ⌜ r ≡ badOpening given ⌝ }
+{
+    let ok = connection::remote_ok(given.remote);
+    (given.own == 0) | ((given.peer == 0) | !ok)
+}
+
+// The refusal that open gives: 1, 2, 10, 12, 13, 6, 11; 0 for none. `holder` is the slot that holds the own token.
+fn open_refusal(
+    s: u32,
+    n: u32,
+    mem: &[u8],
+    count: usize,
+    links: Links,
+    holder: usize,
+    slot: u32,
+    rec: Record,
+    given: Opening,
+) -> u8
+    ensures { λ r.
+        ⌜ ((t : List Record) → length t ≡ count → holder ≡ holderIn t (given .own) → rec ≡ recordAt t slot
+        → r ≡ openRefusal (groupOf s n t links (now (mem .entry))) slot given) ⌝ }
+{
+    let wrong = !table::sizes_ok(s, n, mem.len(), count);
+    let outside = !table::slot_ok(s, slot);
+    let bad = bad_opening(given);
+    let unknown = !table::link_ok(given.link);
+    let down = !table::link_active(links, given.link);
+    let no_11 = table::refusal_if(0 < holder, 11, 0);
+    let no_6 = table::refusal_if(down, 6, no_11);
+    let no_13 = table::refusal_if(unknown, 13, no_6);
+    let no_12 = table::refusal_if(bad, 12, no_13);
+    let no_10 = table::refusal_if(rec.id.opened, 10, no_12);
+    let no_2 = table::refusal_if(outside, 2, no_10);
+    table::refusal_if(wrong, 1, no_2)
+}
+
+// `holder` is the slot that holds the own token, 0 for none.
+pub fn open(
+    s: u32,
+    n: u32,
+    mem: &mut [u8],
+    count: usize,
+    links: Links,
+    holder: usize,
+    slot: u32,
+    rec: Record,
+    given: Opening,
+) -> Turned
+    ensures { λ r.
+        ⌜ DidIn s n (now (mem .entry)) (now (mem .exit)) count links
+        (Call.manage (Rules.Management.openSlot slot given)) (given .own) holder slot rec r [] ⌝ }
+{
+    let no = open_refusal(s, n, mem, count, links, holder, slot, rec, given);
+    let after = connection::opened_record(given);
+    let o = outcome::outcome_of(Reply::Accepted, false, after);
+    let d = table::settled(no, links, rec, o);
+    if no == 0 {
+        let base = element::base_of(n, slot);
+        element::clear(mem, base, n as usize);
+    }
+    d
+}
+
+// The refusal that free gives: 1, 2, 3, 7; 0 for none.
+fn free_refusal(
+    s: u32,
+    n: u32,
+    mem: &[u8],
+    count: usize,
+    links: Links,
+    slot: u32,
+    rec: Record,
+) -> u8
+    ensures { λ r.
+        ⌜ ((t : List Record) → length t ≡ count → rec ≡ recordAt t slot
+        → r ≡ freeRefusal (groupOf s n t links (now (mem .entry))) slot) ⌝ }
+{
+    let wrong = !table::sizes_ok(s, n, mem.len(), count);
+    let closed = !(table::slot_ok(s, slot) & rec.id.opened);
+    let incoherent = !connection::coherent(n, rec);
+    let no_7 = table::refusal_if(!rec.marks.abort, 7, 0);
+    let no_3 = table::refusal_if(incoherent, 3, no_7);
+    let no_2 = table::refusal_if(closed, 2, no_3);
+    table::refusal_if(wrong, 1, no_2)
+}
+
+pub fn free(
+    s: u32,
+    n: u32,
+    mem: &[u8],
+    count: usize,
+    links: Links,
+    slot: u32,
+    rec: Record,
+) -> Turned
+    ensures { λ r.
+        ⌜ DidOn s n (now (mem .entry)) (now (mem .entry)) count links (Call.manage (Rules.Management.freeSlot slot)) slot rec r [] ⌝ }
+{
+    let no = free_refusal(s, n, mem, count, links, slot, rec);
+    let z = connection::zero_record();
+    let o = outcome::outcome_of(Reply::Accepted, false, z);
+    table::settled(no, links, rec, o)
+}

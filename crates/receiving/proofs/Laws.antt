@@ -1,0 +1,154 @@
+-- Place and read, from what their parts gave: in any table that shows the record, the answer and the group that is left are what the rules
+-- say. Assumes nothing.
+use Prim.Native.Nat.{ℕ, zero, suc, _+_, _-_, _*_, _≤_}
+use mathlib.Core.Path.{_≡_, refl, sym, ap, _∙_}
+use mathlib.Core.Bool.{Bool, true, false, false≢true}
+use mathlib.Core.List.{List, []}
+use mathlib.Core.Logic.{inl, inr, ⊎-elim}
+use native.Mathlib.Omega.{arith}
+use lib.ListN.{length}
+use borrow.Author.Tests.{eq-eqb, ne-eqb}
+use Rattle.element.specs.Element.{splice, baseOf, elementOf, intactB, intactAt, storedOf}
+use Rattle.element.specs.Element as Element
+use Rattle.connection.specs.declared.Record.{Record}
+use Rattle.outcome.specs.declared.Reply.{Reply}
+use Rattle.outcome.specs.declared.Reply.the-variants.{Accepted}
+use Rattle.outcome.specs.declared.Effect.the-variants.{Nothing}
+use Rattle.outcome.specs.declared.Outcome.{Outcome}
+use Rattle.connection.specs.Connection.{mostSize}
+use Rattle.outcome.specs.Outcome.{effectOf}
+use Rattle.receive.specs.Receive.{placeOf, readOf}
+use Rattle.receive.proofs.Laws.{place-accepted}
+use Rattle.table.specs.declared.Links.{Links}
+use Rattle.table.specs.declared.Turned.{Turned}
+use Rattle.table.specs.Table.{mostSlots, recordAt, activeB, foundOf, refusedBy, keptBy, turnedBy, settledBy}
+use Rattle.table.proofs.Laws.{sizes-facts, found-sized, found-slot}
+use Rattle.rules.specs.Rules.{Group, Request, Call, groupOf, turnOf, requestTurn, placedIn, readInto, elementIn}
+use Rattle.rules.specs.Promises.{Promise}
+use Rattle.rules.proofs.Memory.{within-memory, base-most, kept-memory, intact-memory}
+use Rattle.rules.proofs.Settled.{on-settled}
+use Rattle.receiving.specs.Receiving.{storesB, copiedOf}
+use Rattle.receiving.proofs.Bytes.{store-in, stores-is, placed-not, read-none, read-into, readable}
+
+-- what was answered does what the step's reply does, and a refusal nothing
+module _ (j : ℕ) (ls : Links) (c : Record) (o : Outcome) (a : Turned) (p : a ≡ settledBy j ls c o) where
+  pub effect-turned : j ≡ 0 → effectOf (a .answer .reply) ≡ effectOf (o .reply)
+  unfolding settledBy turnedBy
+  effect-turned z =
+      let e : settledBy j ls c o ≡ turnedBy ls o = simp (eq-eqb j 0 z) in ap (λ (x : Turned). effectOf (x .answer .reply)) (p ∙ e)
+
+  pub effect-refused : (j ≡ 0 → ⊥) → effectOf (a .answer .reply) ≡ Nothing
+  unfolding settledBy keptBy refusedBy
+  effect-refused h =
+      let e : settledBy j ls c o ≡ keptBy c (refusedBy j ls) = simp (ne-eqb j 0 h) in
+      ap (λ (x : Turned). effectOf (x .answer .reply)) (p ∙ e)
+
+  pub stores-found : storesB (effectOf (a .answer .reply)) ≡ true → j ≡ 0
+  stores-found h = go j refl
+    where
+      go : (i : ℕ) → j ≡ i → j ≡ 0
+      go zero z = z
+      go (suc i) z = absurd (false≢true (sym (ap storesB (effect-refused (λ x. absurd (omega (arith, x, z))))) ∙ h))
+
+-- where a place's bytes go is no large number
+pub place-base : (s n : ℕ) (m : List ℕ) (count k : ℕ) (c : Record) (j : ℕ) → j ≡ foundOf s n (length m) count k c → j ≡ 0
+    → baseOf n k ≤ (mostSlots - 1) * mostSize
+place-base s n m count k c j f z =
+    base-most s n m count k (found-sized s n (length m) count k c j f z) (found-slot s n (length m) count k c j f z)
+
+module _ (s n : ℕ) (t : List Record) (ls : Links) (m : List ℕ) where
+  abbrev g : Group
+  g = groupOf s n t ls m
+
+  -- PLACE: the bytes are stored where it is accepted, and nothing else
+  module _
+      (k at : ℕ) (b : List ℕ) (c : Record) (hc : c ≡ recordAt t k) (j : ℕ) (f : j ≡ foundOf s n (length m) (length t) k c)
+      (active : Bool) (ha : active ≡ activeB (ls .active) (c .id .link)) (o : Outcome) (ho : o ≡ placeOf n active c at (length b))
+      (a : Turned) (p : a ≡ settledBy j ls c o)
+    where
+      abbrev Places : List ℕ → Type 0
+      Places l = Promise s n m l t ls (Call.on k (Request.place at b)) k a []
+
+      place-turn : (e : List ℕ) → placedIn (effectOf (o .reply)) (elementIn g k) at b ≡ e
+          → requestTurn n active c (elementIn g k) (Request.place at b) ≡ turnOf o e []
+      unfolding requestTurn
+      place-turn e h =
+          (λ i. turnOf (sym ho i) (placedIn (effectOf (sym ho i .reply)) (elementIn g k) at b) []) ∙ ap (λ (x : List ℕ). turnOf o x []) h
+
+      stored-memory : j ≡ 0 → o .reply ≡ Accepted
+          → storedOf m (baseOf n k + at) b ≡ splice m (baseOf n k) (splice (elementOf n k m) at b)
+      unfolding elementOf
+      stored-memory z h =
+          let zd = found-sized s n (length m) (length t) k c j f z in
+          let y = place-accepted n active c at (length b) (ap (λ (w : Outcome). w .reply) (sym ho) ∙ h) in
+          store-in m b (baseOf n k) n at (within-memory s n m (length t) k zd (found-slot s n (length m) (length t) k c j f z))
+          (sizes-facts s n (length m) (length t) zd .n-most) (⊎-elim inl (λ w. inr (w .0, w .1)) y)
+
+      pub place-stored : (l : List ℕ) → storesB (effectOf (a .answer .reply)) ≡ true → l ≡ storedOf m (baseOf n k + at) b → Places l
+      place-stored l h d =
+          let z = stores-found j ls c o a p h in
+          let y = stores-is (o .reply) (ap storesB (sym (effect-turned j ls c o a p z)) ∙ h) in
+          on-settled s n t ls m k (Request.place at b) c hc j f active ha o a p (splice (elementIn g k) at b) [] l
+          (λ x. (
+            place-turn (splice (elementIn g k) at b) (ap (λ (r : Reply). placedIn (effectOf r) (elementIn g k) at b) y),
+            d ∙ stored-memory z y,
+          ))
+          (λ x. absurd (x z))
+
+      pub place-kept : (l : List ℕ) → storesB (effectOf (a .answer .reply)) ≡ false → l ≡ m → Places l
+      place-kept l h d =
+          on-settled s n t ls m k (Request.place at b) c hc j f active ha o a p (elementIn g k) [] l
+          (λ z. (
+            place-turn (elementIn g k) (placed-not (effectOf (o .reply)) (elementIn g k) at b
+                (ap storesB (sym (effect-turned j ls c o a p z)) ∙ h)),
+            d ∙ sym (kept-memory s n m (length t) k (found-sized s n (length m) (length t) k c j f z) (found-slot s n (length m) (length t) k c j f z)),
+          ))
+          (λ x. (refl, d))
+
+  -- READ: the unread bytes are copied to out where they are read; else it is as it was
+  module _
+      (k : ℕ) (out : List ℕ) (c : Record) (hc : c ≡ recordAt t k) (j : ℕ) (f : j ≡ foundOf s n (length m) (length t) k c)
+      (active : Bool) (ha : active ≡ activeB (ls .active) (c .id .link)) (whole : Bool) (hw : whole ≡ intactAt m (baseOf n k))
+      (o : Outcome) (ho : o ≡ readOf n active c whole (length out))
+    where
+      read-out : j ≡ 0 → Element.readOf m (baseOf n k) n (c .inbound .consumer .offset) (copiedOf (effectOf (o .reply))) out
+          ≡ readInto (effectOf (o .reply)) (c .inbound .consumer) (elementIn g k) out
+      unfolding elementOf
+      read-out z =
+          let zd = found-sized s n (length m) (length t) k c j f z in
+          let y = sizes-facts s n (length m) (length t) zd in
+          read-into (o .reply) (c .inbound .consumer) m (baseOf n k) n out
+          (λ i e.
+          readable m (baseOf n k) n active c whole out i
+          (within-memory s n m (length t) k zd (found-slot s n (length m) (length t) k c j f z))
+          (y .n-least) (y .n-most) (ap (λ (w : Outcome). w .reply) (sym ho) ∙ e))
+
+      whole-is : j ≡ 0 → whole ≡ intactB (elementIn g k)
+      whole-is z =
+          hw
+          ∙ intact-memory s n m (length t) k (found-sized s n (length m) (length t) k c j f z) (found-slot s n (length m) (length t) k c j f z)
+
+      read-turn : j ≡ 0
+          → requestTurn n active c (elementIn g k) (Request.read out)
+          ≡ turnOf o (elementIn g k) (readInto (effectOf (o .reply)) (c .inbound .consumer) (elementIn g k) out)
+      unfolding requestTurn
+      read-turn z =
+          let y : readOf n active c (intactB (elementIn g k)) (length out) ≡ o =
+          sym (ho ∙ ap (λ (w : Bool). readOf n active c w (length out)) (whole-is z)) in
+          λ i. turnOf (y i) (elementIn g k) (readInto (effectOf (y i .reply)) (c .inbound .consumer) (elementIn g k) out)
+
+      pub read-did : (a : Turned) → a ≡ settledBy j ls c o → (i : ℕ) → i ≡ copiedOf (effectOf (a .answer .reply)) → (l : List ℕ)
+          → l ≡ Element.readOf m (baseOf n k) n (c .inbound .consumer .offset) i out
+          → Promise s n m m t ls (Call.on k (Request.read out)) k a l
+      read-did a p i hi l hl =
+          on-settled s n t ls m k (Request.read out) c hc j f active ha o a p (elementIn g k) l m
+          (λ z. (
+            read-turn z ∙ ap (turnOf o (elementIn g k)) (sym (hl ∙ count (hi ∙ ap copiedOf (effect-turned j ls c o a p z)) ∙ read-out z)),
+            sym (kept-memory s n m (length t) k (found-sized s n (length m) (length t) k c j f z) (found-slot s n (length m) (length t) k c j f z)),
+          ))
+          (λ h. (hl ∙ count (hi ∙ ap copiedOf (effect-refused j ls c o a p h)) ∙ read-none m (baseOf n k) n (c .inbound .consumer .offset) out, refl))
+        where
+          count : {x : ℕ} → i ≡ x
+              → Element.readOf m (baseOf n k) n (c .inbound .consumer .offset) i out
+              ≡ Element.readOf m (baseOf n k) n (c .inbound .consumer .offset) x out
+          count e = ap (λ (y : ℕ). Element.readOf m (baseOf n k) n (c .inbound .consumer .offset) y out) e

@@ -1,0 +1,82 @@
+-- `receiving::read` meets its contract. Assumes nothing.
+use Prim.Native.Nat.{ℕ}
+use mathlib.Core.Path.{ap, _∙_}
+use native.Mathlib.Omega.{arith}
+use denote.Ref.{now}
+use borrow.Author.Needs.{needs}
+use Rattle.element.specs.Element.{intactAt, readOf}
+use Rattle.table.proofs.Laws.{found-in}
+use Rattle.receiving.proofs.Laws.{read-did}
+use Rattle.receiving.proofs.read.Statement.{statement}
+use Rattle.receiving.proofs.read.Tie as tie
+
+found-requires : tie.Need-found-requires
+found-requires c κs = search needs
+
+link-active-requires : tie.Need-link-active-requires
+link-active-requires c κs = search needs
+
+base-of-requires : tie.Need-base-of-requires
+base-of-requires c κs = search needs
+
+intact-requires : tie.Need-intact-requires
+intact-requires c κs = search needs
+
+read-requires : tie.Need-read-requires
+read-requires c κs = search needs
+
+settled-requires : tie.Need-settled-requires
+settled-requires c κs = search needs
+
+cast-read : tie.Need-cast-read
+cast-read c =
+    let r = c .before .before .before .before .before .before .before .before .good .1 .1 .1 .1 .1 .1 .0 in
+    omega (arith, r .1 .1 .1 .1 .0 .1 .1 .1 .0 .1 .1 .0 .1)
+
+copied-requires : tie.Need-copied-requires
+copied-requires c κs = search needs
+
+cast-read-2 : tie.Need-cast-read-2
+cast-read-2 c = omega (arith, c .copied .ok)
+
+read-requires-2 : tie.Need-read-requires-2
+read-requires-2 c κs = search needs
+
+same-length : tie.Need-same-length
+same-length c = search needs
+
+returns : tie.Need-returns
+returns c =
+    let r = c .before .before in
+    let k = r .before .before in
+    let d = k .before in
+    let o = d .before in
+    let w = o .before in
+    let b = w .before in
+    let l = b .before in
+    let f = l .before in
+    let a = f .before .before .before .args in
+    λ t h e.
+    read-did (a .s) (a .n) t (a .links) (now (a .mem)) (a .slot) (now (a .out)) (a .rec) e (f .found .result) (found-in (a .s) (a .n) _ t h (a .slot) (a .rec) (f .found .ensures))
+    (l .link-active .result) (l .link-active .ensures) (w .intact .result) (w .intact .ensures ∙ ap (intactAt _) (b .base-of .ensures))
+    (o .read .result) (o .read .ensures) (d .settled .result) (d .settled .ensures) (k .copied .result) (k .copied .ensures) _
+    (r .read2 .ensures
+    ∙ ap (λ (x : ℕ). readOf (now (a .mem)) x (a .n) (a .rec .inbound .consumer .offset) (k .copied .result) (now (a .out)))
+    (b .base-of .ensures))
+
+pub read-spec : {M : Type 1} → statement M
+read-spec =
+    tie.close
+    (tie.spec
+    found-requires
+    link-active-requires
+    base-of-requires
+    intact-requires
+    read-requires
+    settled-requires
+    cast-read
+    copied-requires
+    cast-read-2
+    read-requires-2
+    same-length
+    returns)

@@ -1,0 +1,227 @@
+// A fresh group of a replay, and the lines of the replay format that are calls: of the group, of a head and a body, of the pool, on setting
+// up and on link messages. What each answers is printed to the output buffer `o`.
+ghost use mathlib.Core.Path.{_≡_};
+ghost use Prim.Native.Nat.{_≤_};
+use exchange::Role;
+use group::Command;
+use link_read::LinkLine;
+use pool_text::PoolLine;
+use replay_state::World;
+use replay_state::least;
+use setup_text::SetupLine;
+use stream::output;
+use table::Links;
+
+fn fill(s: &mut [u8], b: u8) {
+    let mut i = 0;
+    while i < s.len() {
+        s[i] = b;
+        i += 1;
+    }
+}
+
+// A fresh group: every slot all zeros, every link down, every gauge cleared; a client, no exchange, none that waits. The pool and the
+// settings stay as they are.
+fn fresh(
+    s: u32,
+    n: u32,
+    len: usize,
+    count: usize,
+    books: [u8; 64],
+    settings: [u8; 252],
+    at: usize,
+) -> World
+    ensures { λ r. ⌜ (r .at ≡ at) × ((r .s ≡ s) × (r .n ≡ n)) ⌝ }
+{
+    let z = connection::zero_record();
+    let g = gauge::cleared();
+    let idle = exchange::no_exchange();
+    let none = exchange::empty_queue();
+    let links = Links {
+        active: [false; 4],
+        gauges: [g; 4],
+        role: Role::Client,
+        exchange: idle,
+        queue: none,
+    };
+    World {
+        s: s,
+        n: n,
+        len: len,
+        table: [z; records::ROWS],
+        count: count,
+        links: links,
+        books: books,
+        settings: settings,
+        at: at,
+    }
+}
+
+// As if after `group 1 8 8` and `pool`, with settings all zero.
+pub fn first() -> World
+    ensures { λ r. ⌜ r .at ≤ 65536 ⌝ }
+{
+    let books = pool::free_pool();
+    fresh(1, 8, 8, 1, books, [0u8; 252], 0)
+}
+
+pub fn start_over(
+    mem: &mut [u8],
+    o: &mut [u8; 65536],
+    w: World,
+    s: u32,
+    n: u32,
+    len: usize,
+    count: usize,
+) -> World
+    ensures { λ r. ⌜ (r .at ≤ 65536) × ((r .s ≡ s) × (r .n ≡ n)) ⌝ }
+{
+    let most = least(len, mem.len());
+    fill(&mut mem[0..most], 0);
+    let at = output::text(o, w.at, b"group\n");
+    let books = w.books;
+    let settings = w.settings;
+    fresh(s, n, len, count, books, settings, at)
+}
+
+// Makes the call, every byte of out A5 before it, and prints its answer.
+fn call(
+    mem: &mut [u8],
+    bytes: &[u8],
+    out: &mut [u8],
+    o: &mut [u8; 65536],
+    w: World,
+    command: Command,
+) -> World
+    ensures { λ r. ⌜ (r .at ≤ 65536) × ((r .s ≡ w .s) × (r .n ≡ w .n)) ⌝ }
+{
+    let table = w.table;
+    let links = w.links;
+    fill(out, 165);
+    let a = rows::on_rows(table, w.count, w.s, w.n, mem, links, command, bytes, out);
+    let said = a.answer;
+    let after = a.table;
+    let left = said.links;
+    let at = answers::answer(o, w.at, command, said, out);
+    let mut next = w;
+    next.table = after;
+    next.links = left;
+    next.at = at;
+    next
+}
+
+// A call, with what it is lent: LEN bytes of memory, its bytes, and ROOM bytes of out.
+pub fn lent(
+    mem: &mut [u8],
+    given: &[u8],
+    out: &mut [u8],
+    o: &mut [u8; 65536],
+    w: World,
+    command: Command,
+    count: usize,
+    room: usize,
+) -> World
+    ensures { λ r. ⌜ (r .at ≤ 65536) × ((r .s ≡ w .s) × (r .n ≡ w .n)) ⌝ }
+{
+    let len = least(w.len, mem.len());
+    let k = least(count, given.len());
+    let most = least(room, out.len());
+    call(
+        &mut mem[0..len],
+        &given[0..k],
+        &mut out[0..most],
+        o,
+        w,
+        command,
+    )
+}
+
+// Sends a head and a body, and prints its answer.
+fn gather<'a>(
+    mem: &[u8],
+    head: &'a [u8],
+    body: &'a [u8],
+    o: &mut [u8; 65536],
+    w: World,
+    slot: u32,
+) -> World
+    ensures { λ r. ⌜ (r .at ≤ 65536) × ((r .s ≡ w .s) × (r .n ≡ w .n)) ⌝ }
+{
+    let table = w.table;
+    let links = w.links;
+    let a = gather_text::on_rows(table, w.count, w.s, w.n, mem, links, slot, head, body);
+    let said = a.gathered;
+    let after = a.table;
+    let answer = said.answer;
+    let left = answer.links;
+    let at = gather_text::answer(o, w.at, said, head, body);
+    let mut next = w;
+    next.table = after;
+    next.links = left;
+    next.at = at;
+    next
+}
+
+// The same, with what it is lent: LEN bytes of memory, the head and the body.
+pub fn gather_line<'a>(
+    mem: &[u8],
+    given: &'a [u8],
+    body: &'a [u8],
+    o: &mut [u8; 65536],
+    w: World,
+    slot: u32,
+    h: usize,
+    b: usize,
+) -> World
+    ensures { λ r. ⌜ (r .at ≤ 65536) × ((r .s ≡ w .s) × (r .n ≡ w .n)) ⌝ }
+{
+    let len = least(w.len, mem.len());
+    let k = least(h, given.len());
+    let l = least(b, body.len());
+    gather(&mem[0..len], &given[0..k], &body[0..l], o, w, slot)
+}
+
+// A line of the pool, made on its books.
+pub fn pool_line(given: &[u8], o: &mut [u8; 65536], w: World, line: PoolLine) -> World
+    ensures { λ r. ⌜ (r .at ≤ 65536) × ((r .table ≡ w .table) × (r .links ≡ w .links)) ⌝ }
+{
+    let books = w.books;
+    let a = pool_text::act(o, w.at, books, given, line);
+    let after = a.books;
+    let mut next = w;
+    next.books = after;
+    next.at = a.at;
+    next
+}
+
+// A line on setting up, made with the settings.
+pub fn setup_line(
+    given: &[u8],
+    out: &mut [u8],
+    o: &mut [u8; 65536],
+    w: World,
+    line: SetupLine,
+) -> World
+    ensures { λ r. ⌜ (r .at ≤ 65536) × ((r .table ≡ w .table) × (r .links ≡ w .links)) ⌝ }
+{
+    let settings = w.settings;
+    let a = setup_text::act(o, w.at, settings, given, out, line);
+    let after = a.settings;
+    let mut next = w;
+    next.settings = after;
+    next.at = a.at;
+    next
+}
+
+// A line on link messages, made on the links.
+pub fn link_line(given: &[u8], o: &mut [u8; 65536], w: World, line: LinkLine) -> World
+    ensures { λ r. ⌜ (r .at ≤ 65536) × (r .table ≡ w .table) ⌝ }
+{
+    let links = w.links;
+    let a = link_text::act(o, w.at, links, given, line);
+    let after = a.links;
+    let mut next = w;
+    next.links = after;
+    next.at = a.at;
+    next
+}

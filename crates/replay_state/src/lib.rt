@@ -1,0 +1,148 @@
+// The group of a replay, and the lines of the replay format that are no calls of it: those that look at it, and those that lay something in.
+// What each prints goes to the output buffer `o`.
+ghost use mathlib.Core.Path.{_≡_};
+ghost use Prim.Native.Nat.{_≤_};
+use connection::Record;
+use gauge::Gauge;
+use records::print;
+use stream::output;
+use table::Links;
+
+// The group as the last call left it, its memory aside, of which it has the first `len` bytes; of the table it has the first `count` rows.
+// The books of the pool and the settings (the words of a `settings` line) beside it; and how far the output buffer is filled.
+pub struct World {
+    pub s: u32,
+    pub n: u32,
+    pub len: usize,
+    pub table: [Record; records::ROWS],
+    pub count: usize,
+    pub links: Links,
+    pub books: [u8; 64],
+    pub settings: [u8; 252],
+    pub at: usize,
+}
+
+// Parts of a buffer are cut by it, so that no number leads out of one.
+pub fn least(a: usize, b: usize) -> usize
+    ensures { λ r. ⌜ (r ≤ a) × (r ≤ b) ⌝ }
+{
+    if a < b { a } else { b }
+}
+
+fn copy(to: &mut [u8], from: &[u8]) {
+    let n = least(to.len(), from.len());
+    let mut i = 0;
+    while i < n {
+        to[i] = from[i];
+        i += 1;
+    }
+}
+
+// The output buffer is filled up to `at` now.
+pub fn filled_to(w: World, at: usize) -> World
+    ensures { λ r. ⌜ (r .at ≡ at) × ((r .table ≡ w .table) × (r .links ≡ w .links)) ⌝ }
+{
+    let mut next = w;
+    next.at = at;
+    next
+}
+
+pub fn bad(o: &mut [u8; 65536], w: World) -> World
+    ensures { λ r. ⌜ (r .at ≤ 65536) × ((r .table ≡ w .table) × (r .links ≡ w .links)) ⌝ }
+{
+    let at = output::text(o, w.at, b"bad line\n");
+    filled_to(w, at)
+}
+
+// Lays a record into a slot from 1 to COUNT.
+pub fn lay_record(o: &mut [u8; 65536], w: World, slot: usize, c: Record) -> World
+    ensures { λ r. ⌜ (r .at ≤ 65536) × (r .links ≡ w .links) ⌝ }
+{
+    if slot < 1 {
+        return bad(o, w);
+    }
+    if records::rows(w.count) < slot {
+        return bad(o, w);
+    }
+    let i = slot - 1;
+    let mut after = w.table;
+    after[i] = c;
+    let at = output::text(o, w.at, b"record\n");
+    let mut next = w;
+    next.table = after;
+    next.at = at;
+    next
+}
+
+// Lays bytes into the memory from byte `at` on, where they lie within it.
+pub fn poke(
+    mem: &mut [u8],
+    given: &[u8],
+    o: &mut [u8; 65536],
+    w: World,
+    at: usize,
+    count: usize,
+) -> World
+    ensures { λ r. ⌜ (r .at ≤ 65536) × ((r .table ≡ w .table) × (r .links ≡ w .links)) ⌝ }
+{
+    let len = least(w.len, mem.len());
+    let k = least(count, given.len());
+    if at <= len {
+        if k <= len - at {
+            let end = at + k;
+            copy(&mut mem[at..end], &given[0..k]);
+            let to = output::text(o, w.at, b"poke\n");
+            return filled_to(w, to);
+        }
+    }
+    bad(o, w)
+}
+
+// Prints bytes of the memory from byte `at` on, where they lie within it.
+pub fn memory(mem: &[u8], o: &mut [u8; 65536], w: World, at: usize, count: usize) -> World
+    ensures { λ r. ⌜ (r .at ≤ 65536) × ((r .table ≡ w .table) × (r .links ≡ w .links)) ⌝ }
+{
+    let len = least(w.len, mem.len());
+    if at <= len {
+        if count <= len - at {
+            let end = at + count;
+            let to = answers::memory(o, w.at, &mem[at..end]);
+            return filled_to(w, to);
+        }
+    }
+    bad(o, w)
+}
+
+pub fn table(o: &mut [u8; 65536], w: World) -> World
+    ensures { λ r. ⌜ (r .at ≤ 65536) × ((r .table ≡ w .table) × (r .links ≡ w .links)) ⌝ }
+{
+    let table = w.table;
+    let links = w.links;
+    let a = print::tables(o, w.at, table, w.count, links);
+    let at = link_text::lines(o, a, links);
+    filled_to(w, at)
+}
+
+// A link's health, as the press room sees it.
+pub fn health(o: &mut [u8; 65536], w: World, link: u8) -> World
+    ensures { λ r. ⌜ (r .at ≤ 65536) × ((r .table ≡ w .table) × (r .links ≡ w .links)) ⌝ }
+{
+    let links = w.links;
+    let g = table::gauge_of(links, link);
+    let a = output::text(o, w.at, b"health ");
+    let at = gauge_text::health(o, a, gauge::health_of(g));
+    filled_to(w, at)
+}
+
+// Lays a gauge in at a link.
+pub fn lay_gauge(o: &mut [u8; 65536], w: World, link: u8, g: Gauge) -> World
+    ensures { λ r. ⌜ (r .at ≤ 65536) × (r .table ≡ w .table) ⌝ }
+{
+    let before = w.links;
+    let after = table::set_gauge(before, link, g);
+    let at = output::text(o, w.at, b"gauge\n");
+    let mut next = w;
+    next.links = after;
+    next.at = at;
+    next
+}

@@ -1,0 +1,36 @@
+-- `sending::urgent_send` meets its contract. Assumes nothing.
+use denote.Ref.{now}
+use borrow.Author.Needs.{needs}
+use Rattle.table.proofs.Laws.{found-in}
+use Rattle.rules.specs.Rules.{Request}
+use Rattle.rules.proofs.Settled.{on-plain}
+use Rattle.sending.proofs.Laws.{urgent-turn}
+use Rattle.sending.proofs.urgent_send.Statement.{statement}
+use Rattle.sending.proofs.urgent_send.Tie as tie
+
+found-requires : tie.Need-found-requires
+found-requires c κs = search needs
+
+link-active-requires : tie.Need-link-active-requires
+link-active-requires c κs = search needs
+
+urgent-send-requires : tie.Need-urgent-send-requires
+urgent-send-requires c κs = search needs
+
+settled-requires : tie.Need-settled-requires
+settled-requires c κs = search needs
+
+returns : tie.Need-returns
+returns c =
+    let o = c .before in
+    let l = o .before in
+    let f = l .before in
+    let a = f .before .before .before .args in
+    λ t h e.
+    on-plain (a .s) (a .n) t (a .links) (now (a .mem)) (a .slot) (Request.urgent (now (a .bytes))) (a .rec) e (f .found .result) (found-in (a .s) (a .n) _ t h (a .slot) (a .rec) (f .found .ensures))
+    (l .link-active .result) (l .link-active .ensures) (o .urgent-send .result) (c .settled .result) (c .settled .ensures)
+    (urgent-turn _ _ _ _ _ (now (a .bytes)) (o .urgent-send .ensures))
+
+pub urgent-send-spec : {M : Type 1} → statement M
+urgent-send-spec =
+    tie.close (tie.spec found-requires link-active-requires urgent-send-requires settled-requires returns)

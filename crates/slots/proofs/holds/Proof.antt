@@ -1,0 +1,12 @@
+-- `slots::holds` meets its contract. Assumes nothing.
+use mathlib.Core.Path.{refl}
+use Rattle.table.specs.Table.{holdsB}
+use Rattle.slots.proofs.holds.Statement.{statement}
+use Rattle.slots.proofs.holds.Tie as tie
+
+returns : tie.Need-returns
+unfolding holdsB
+returns c = refl
+
+pub holds-spec : {M : Type 1} → statement M
+holds-spec = tie.close (tie.spec returns)
