@@ -57,9 +57,55 @@ static uint32_t offset_at(const struct end *peer, uint32_t key, uint64_t address
 }
 
 static void place(struct end *peer, uint32_t key, uint64_t address, const uint8_t *bytes, uint32_t length) {
-    struct fordlinnet_answer a = fordlinnet_place(&peer->group, SLOT, offset_at(peer, key, address), bytes, length);
+    uint32_t offset = offset_at(peer, key, address);
+    struct fordlinnet_answer a = fordlinnet_place(&peer->group, SLOT, offset, bytes, length);
     expect(a.said == FORDLINNET_ACCEPTED, "the bytes are placed");
+    expect(fordlinnet_place_direct(&peer->group, SLOT, offset, bytes, length) == 0, "the small answer says the same");
     printf("%s: %u bytes are placed\n", peer->name, (unsigned)length);
+}
+
+/* Field by field: what lies between the fields is nobody's. */
+static int same_cursor(struct fordlinnet_cursor a, struct fordlinnet_cursor b) { return a.offset == b.offset && a.wrap == b.wrap; }
+
+static int same_urgent(struct fordlinnet_urgent a, struct fordlinnet_urgent b) {
+    return a.standing == b.standing && same_cursor(a.place, b.place);
+}
+
+static int same_record(struct fordlinnet_record a, struct fordlinnet_record b) {
+    return a.id.opened == b.id.opened && a.id.own == b.id.own && a.id.peer == b.id.peer && a.id.link == b.id.link &&
+           a.remote.size == b.remote.size && a.remote.index == b.remote.index && a.remote.link1.base == b.remote.link1.base &&
+           same_cursor(a.inbound.producer, b.inbound.producer) && same_cursor(a.inbound.consumer, b.inbound.consumer) &&
+           same_cursor(a.inbound.told, b.inbound.told) && a.inbound.last == b.inbound.last && a.inbound.blocked == b.inbound.blocked &&
+           a.inbound.request == b.inbound.request && same_urgent(a.inbound.urgent, b.inbound.urgent) &&
+           same_cursor(a.outbound.producer, b.outbound.producer) && same_cursor(a.outbound.consumer, b.outbound.consumer) &&
+           a.outbound.next == b.outbound.next && a.outbound.blocked == b.outbound.blocked &&
+           same_urgent(a.outbound.urgent, b.outbound.urgent) && a.marks.sent.done == b.marks.sent.done &&
+           a.marks.sent.closed == b.marks.sent.closed && a.marks.heard.done == b.marks.heard.done &&
+           a.marks.heard.closed == b.marks.heard.closed && a.marks.first == b.marks.first && a.marks.abort == b.marks.abort;
+}
+
+static int same_table(const struct fordlinnet_record *a, const struct fordlinnet_record *b) {
+    int i;
+    for (i = 0; i < SLOTS; i++) {
+        if (!same_record(a[i], b[i])) return 0;
+    }
+    return 1;
+}
+
+/* A hear, and the hear with a small answer on a copy of the table before: it says and leaves the same. */
+static struct fordlinnet_answer hear(struct end *me, const uint8_t *bytes, size_t length) {
+    struct fordlinnet_group copy = me->group;
+    struct fordlinnet_record table[SLOTS];
+    uint8_t message[44] = {0};
+    struct fordlinnet_hear_answer r;
+    struct fordlinnet_answer a;
+    memcpy(table, me->table, sizeof table);
+    copy.table = table;
+    r = fordlinnet_hear_direct(&copy, bytes, length, message);
+    a = fordlinnet_hear(&me->group, bytes, length);
+    expect(r.refusal == a.refusal && r.made == a.made && r.state == a.state && r.moved == a.moved, "the small answer says the same");
+    expect(memcmp(message, a.message, sizeof message) == 0 && same_table(table, me->table), "the same message and record");
+    return a;
 }
 
 /* What the card and the network do: the bytes first, then the message. */
@@ -67,20 +113,56 @@ static void carry(struct end *peer, struct fordlinnet_answer a, const uint8_t *b
     if (a.placings > 0) place(peer, a.first.key, a.first.address, bytes + a.first.start, a.first.len);
     if (a.placings > 1) place(peer, a.second.key, a.second.address, bytes + a.second.start, a.second.len);
     if (a.made) {
-        struct fordlinnet_answer h = fordlinnet_hear(&peer->group, a.message, sizeof a.message);
+        struct fordlinnet_answer h = hear(peer, a.message, sizeof a.message);
         expect(h.said == FORDLINNET_HEARD, "the message is heard");
         printf("%s: heard, the producer moved by %u, state %u\n", peer->name, (unsigned)h.moved, (unsigned)h.state);
         if (h.made) carry(peer == &left ? &right : &left, h, bytes);
     }
 }
 
+/* A send, and the send with a small answer on a copy of the table before: it says and leaves the same. */
+static struct fordlinnet_answer send(struct end *me, const char *bytes) {
+    struct fordlinnet_group copy = me->group;
+    struct fordlinnet_record table[SLOTS];
+    uint8_t message[44] = {0};
+    struct fordlinnet_send_answer r;
+    struct fordlinnet_answer a;
+    memcpy(table, me->table, sizeof table);
+    copy.table = table;
+    r = fordlinnet_send_direct(&copy, SLOT, (const uint8_t *)bytes, strlen(bytes), message);
+    a = fordlinnet_send(&me->group, SLOT, (const uint8_t *)bytes, strlen(bytes));
+    expect(r.refusal == a.refusal && r.made == a.made && r.taken == a.n && r.placings == a.placings, "the small answer says the same");
+    expect(r.first.key == a.first.key && r.first.address == a.first.address && r.first.start == a.first.start, "the same placing");
+    expect(r.first.len == a.first.len && r.second.address == a.second.address && r.second.len == a.second.len, "the same placings");
+    expect(memcmp(message, a.message, sizeof message) == 0 && same_table(table, me->table), "the same message and record");
+    return a;
+}
+
+/* The read with a small answer, on a copy of the table: it says and leaves the same. */
+static void read_again(const struct end *me, struct fordlinnet_record before, struct fordlinnet_answer a, const uint8_t *wanted) {
+    struct fordlinnet_group copy = me->group;
+    struct fordlinnet_record table[SLOTS];
+    uint8_t out[32], message[44] = {0};
+    struct fordlinnet_read_answer r;
+    memcpy(table, me->table, sizeof table);
+    table[SLOT - 1] = before;
+    copy.table = table;
+    memset(out, '.', sizeof out);
+    r = fordlinnet_read_direct(&copy, SLOT, out, sizeof out, message);
+    expect(r.refusal == 0 && !r.torn && r.count == a.n && r.made == a.made, "the small answer says the same");
+    expect(memcmp(out, wanted, sizeof out) == 0 && memcmp(message, a.message, sizeof message) == 0, "the same bytes");
+    expect(same_table(table, me->table), "the same record");
+}
+
 static void read_all(struct end *me, const char *wanted) {
     uint8_t out[32];
     struct fordlinnet_answer a;
+    struct fordlinnet_record before = me->table[SLOT - 1];
     memset(out, '.', sizeof out);
     a = fordlinnet_read(&me->group, SLOT, out, sizeof out);
     expect(a.said == FORDLINNET_WAS_READ && a.n == strlen(wanted) && memcmp(out, wanted, a.n) == 0, wanted);
     expect(a.n == sizeof out || out[a.n] == '.', "out beyond n stays");
+    read_again(me, before, a, out);
     printf("%s: read %u bytes, \"%.*s\"\n", me->name, (unsigned)a.n, (int)a.n, (const char *)out);
     carry(me == &left ? &right : &left, a, out);
 }
@@ -215,13 +297,13 @@ static void reset_and_torn(void) {
     struct fordlinnet_answer a;
     open_towards(&left, &right);
     open_towards(&right, &left);
-    carry(&right, fordlinnet_send(&left.group, SLOT, text("unread"), 6), text("unread"));
+    carry(&right, send(&left, "unread"), text("unread"));
     a = fordlinnet_close(&right.group, SLOT);
     expect(a.said == FORDLINNET_RESET && a.made, "unread bytes");
     left.memory[(SLOT - 1) * SIZE] ^= 1;
     a = fordlinnet_read(&left.group, SLOT, 0, 0);
     expect(a.said == FORDLINNET_TORN && a.made, "a damaged eye catcher");
-    a = fordlinnet_hear(&left.group, a.message, 43);
+    a = hear(&left, a.message, 43);
     expect(a.said == FORDLINNET_REFUSED && a.refusal == FORDLINNET_MALFORMED, "43 bytes are no message");
     printf("right: reset; left: torn\n");
 }
@@ -233,7 +315,7 @@ int main(void) {
     open_towards(&left, &right);
     open_towards(&right, &left);
 
-    a = fordlinnet_send(&left.group, SLOT, text("a chart"), 7);
+    a = send(&left, "a chart");
     expect(a.said == FORDLINNET_SENT && a.n == 7 && a.placings == 1 && a.made, "seven bytes are sent");
     carry(&right, a, text("a chart"));
     read_all(&right, "a chart");
@@ -262,7 +344,7 @@ int main(void) {
     a = fordlinnet_shutdown(&left.group, SLOT);
     expect(a.said == FORDLINNET_ACCEPTED && a.made, "D is sent");
     carry(&right, a, 0);
-    a = fordlinnet_send(&left.group, SLOT, text("x"), 1);
+    a = send(&left, "x");
     expect(a.refusal == FORDLINNET_STATE_FORBIDS, "no send after D");
     a = fordlinnet_close(&right.group, SLOT);
     expect(a.said == FORDLINNET_ACCEPTED && a.made, "C is sent");

@@ -1,5 +1,5 @@
 /*
- * Fordlinnet, the SMC-R core (RFC 7609): the proved calls for C and C++. x86-64 Linux; link with libexports.a (`rt staticlib exports`).
+ * Fordlinnet, the SMC-R core (RFC 7609): the proved calls for C and C++. x86-64 Linux; link with libfordlinnet.a (`bindings/archive`).
  *
  * A group is S elements of N bytes of receive memory, a table of S records, and four links with a gauge each, our role, the exchange of
  * link messages that runs, and those that wait for its end. The caller owns all of it and lends it to every call (struct
@@ -429,6 +429,37 @@ struct fordlinnet_setup_answer {
     uint8_t message[188];
 };
 
+/* The links' states, without what link messages need. */
+struct fordlinnet_link_states {
+    bool active[4];
+};
+
+/* What a read on the table itself answers. */
+struct fordlinnet_read_answer {
+    uint8_t refusal; /* the refusal's number, or 0 */
+    bool torn;       /* the eye catcher was damaged: an abort message is made */
+    bool made;       /* a message was made */
+    uint32_t count;  /* so many bytes were read */
+};
+
+/* What a send on the table itself answers. */
+struct fordlinnet_send_answer {
+    uint8_t refusal;  /* the refusal's number, or 0 */
+    bool made;        /* a message was made */
+    uint8_t placings; /* how many of the two are named; the others are zeros */
+    uint32_t taken;   /* so many of the bytes were taken */
+    struct fordlinnet_placing first;
+    struct fordlinnet_placing second;
+};
+
+/* What a hear on the table itself answers. */
+struct fordlinnet_hear_answer {
+    uint8_t refusal; /* the refusal's number, or 0 */
+    bool made;       /* a message was made */
+    uint8_t state;   /* the connection's state, FORDLINNET_ACTIVE and so on */
+    uint64_t moved;  /* how far the peer's producer moved */
+};
+
 /* THE PROVED FUNCTIONS */
 
 /* Makes the call that the command names. Every call of a connection and of management but gather, link message and link send;
@@ -436,6 +467,30 @@ struct fordlinnet_setup_answer {
 struct fordlinnet_answer fordlinnet_make(uint32_t s, uint32_t n, uint8_t *memory, size_t memory_length, struct fordlinnet_record *table,
                                          size_t table_length, struct fordlinnet_links links, struct fordlinnet_command command,
                                          const uint8_t *bytes, size_t bytes_length, uint8_t *out, size_t out_length);
+
+/* Reads, on the table itself and with a small answer: of the links it sees only their states. A message that is made stands in the first
+ * 44 bytes of `message`, which else stays as it is; a shorter buffer is refused with 1. */
+struct fordlinnet_read_answer fordlinnet_make_read(uint32_t s, uint32_t n, const uint8_t *memory, size_t memory_length,
+                                                   struct fordlinnet_record *table, size_t table_length,
+                                                   struct fordlinnet_link_states links, uint32_t slot, uint8_t *out, size_t out_length,
+                                                   uint8_t *message, size_t message_length);
+
+/* Places, likewise: the refusal's number, or 0 where the bytes are stored. */
+uint8_t fordlinnet_make_place(uint32_t s, uint32_t n, uint8_t *memory, size_t memory_length, const struct fordlinnet_record *table,
+                              size_t table_length, struct fordlinnet_link_states links, uint32_t slot, uint32_t offset,
+                              const uint8_t *bytes, size_t bytes_length);
+
+/* Sends, likewise. */
+struct fordlinnet_send_answer fordlinnet_make_send(uint32_t s, uint32_t n, const uint8_t *memory, size_t memory_length,
+                                                   struct fordlinnet_record *table, size_t table_length,
+                                                   struct fordlinnet_link_states links, uint32_t slot, const uint8_t *bytes,
+                                                   size_t bytes_length, uint8_t *message, size_t message_length);
+
+/* Hears, likewise. */
+struct fordlinnet_hear_answer fordlinnet_make_hear(uint32_t s, uint32_t n, const uint8_t *memory, size_t memory_length,
+                                                   struct fordlinnet_record *table, size_t table_length,
+                                                   struct fordlinnet_link_states links, const uint8_t *bytes, size_t bytes_length,
+                                                   uint8_t *message, size_t message_length);
 
 /* Sends a head and a body as if joined, head first. */
 struct fordlinnet_gathered fordlinnet_make_gather(uint32_t s, uint32_t n, const uint8_t *memory, size_t memory_length,
@@ -481,6 +536,10 @@ struct fordlinnet_command fordlinnet_shape_command(uint32_t one);
 struct fordlinnet_answer fordlinnet_shape_answer(uint32_t one);
 struct fordlinnet_link_answer fordlinnet_shape_link_answer(uint32_t one);
 struct fordlinnet_gathered fordlinnet_shape_gathered(uint32_t one);
+struct fordlinnet_link_states fordlinnet_shape_link_states(uint32_t one);
+struct fordlinnet_read_answer fordlinnet_shape_read_answer(uint32_t one);
+struct fordlinnet_send_answer fordlinnet_shape_send_answer(uint32_t one);
+struct fordlinnet_hear_answer fordlinnet_shape_hear_answer(uint32_t one);
 struct fordlinnet_piece fordlinnet_shape_piece(void);
 struct fordlinnet_view fordlinnet_shape_view(void);
 struct fordlinnet_pool_answer fordlinnet_shape_pool_answer(void);
@@ -609,14 +668,55 @@ static inline struct fordlinnet_answer fordlinnet_place(struct fordlinnet_group 
     return fordlinnet_call(g, c, bytes, length, 0, 0);
 }
 
+/* The states of a group's links. */
+static inline struct fordlinnet_link_states fordlinnet_states_of(const struct fordlinnet_group *g) {
+    struct fordlinnet_link_states states;
+    for (int i = 0; i < 4; i++) {
+        states.active[i] = g->links.active[i];
+    }
+    return states;
+}
+
+/* The same with a small answer, and the faster of the two: the refusal's number, or 0. */
+static inline uint8_t fordlinnet_place_direct(struct fordlinnet_group *g, uint32_t slot, uint32_t offset, const uint8_t *bytes,
+                                              size_t length) {
+    uint8_t none[1] = {0};
+    return fordlinnet_make_place(g->s, g->n, g->memory, g->memory_length, g->table, g->table_length, fordlinnet_states_of(g), slot, offset,
+                                 length ? bytes : none, length);
+}
+
 /* Copies the first unread bytes to out, as many as it has room for; the rest of out stays. Refused with 1, 2, 3, 6, 7. */
 static inline struct fordlinnet_answer fordlinnet_read(struct fordlinnet_group *g, uint32_t slot, uint8_t *out, size_t room) {
     return fordlinnet_call(g, fordlinnet_command_of(FORDLINNET_READ, slot), 0, 0, out, room);
 }
 
+/* A send with a small answer, and faster than fordlinnet_send: a message that is made is written to `message`, which has 44 bytes. */
+static inline struct fordlinnet_send_answer fordlinnet_send_direct(struct fordlinnet_group *g, uint32_t slot, const uint8_t *bytes,
+                                                                   size_t length, uint8_t *message) {
+    uint8_t none[1] = {0};
+    return fordlinnet_make_send(g->s, g->n, g->memory, g->memory_length, g->table, g->table_length, fordlinnet_states_of(g), slot,
+                                length ? bytes : none, length, message, 44);
+}
+
+/* The same with a small answer, and the faster of the two: a message that is made is written to `message`, which has 44 bytes. */
+static inline struct fordlinnet_read_answer fordlinnet_read_direct(struct fordlinnet_group *g, uint32_t slot, uint8_t *out, size_t room,
+                                                                 uint8_t *message) {
+    uint8_t none[1] = {0};
+    return fordlinnet_make_read(g->s, g->n, g->memory, g->memory_length, g->table, g->table_length, fordlinnet_states_of(g), slot,
+                                room ? out : none, room, message, 44);
+}
+
 /* Takes a message from the peer, for the slot whose token it carries. Refused with 1, 4, 5, 3, 6, 16, 8. */
 static inline struct fordlinnet_answer fordlinnet_hear(struct fordlinnet_group *g, const uint8_t *bytes, size_t length) {
     return fordlinnet_call(g, fordlinnet_command_of(FORDLINNET_HEAR, 0), bytes, length, 0, 0);
+}
+
+/* The same with a small answer, and the faster of the two: a message that is made is written to `answer`, which has 44 bytes. */
+static inline struct fordlinnet_hear_answer fordlinnet_hear_direct(struct fordlinnet_group *g, const uint8_t *bytes, size_t length,
+                                                                   uint8_t *answer) {
+    uint8_t none[1] = {0};
+    return fordlinnet_make_hear(g->s, g->n, g->memory, g->memory_length, g->table, g->table_length, fordlinnet_states_of(g),
+                                length ? bytes : none, length, answer, 44);
 }
 
 /* Sends D, done writing. Refused with 1, 2, 3, 6, 7. */

@@ -140,6 +140,25 @@ AT(piece, start, 4, 4);
 AT(piece, len, 8, 4);
 AT(piece, key, 12, 4);
 AT(piece, address, 16, 8);
+SIZE(link_states, 4);
+AT(link_states, active, 0, 4);
+SIZE(read_answer, 8);
+AT(read_answer, refusal, 0, 1);
+AT(read_answer, torn, 1, 1);
+AT(read_answer, made, 2, 1);
+AT(read_answer, count, 4, 4);
+SIZE(send_answer, 56);
+AT(send_answer, refusal, 0, 1);
+AT(send_answer, made, 1, 1);
+AT(send_answer, placings, 2, 1);
+AT(send_answer, taken, 4, 4);
+AT(send_answer, first, 8, 24);
+AT(send_answer, second, 32, 24);
+SIZE(hear_answer, 16);
+AT(hear_answer, refusal, 0, 1);
+AT(hear_answer, made, 1, 1);
+AT(hear_answer, state, 2, 1);
+AT(hear_answer, moved, 8, 8);
 SIZE(view, 24);
 AT(view, health, 0, 4);
 AT(view, shown, 4, 4);
@@ -397,6 +416,44 @@ static void see_view(struct fordlinnet_view v) {
     number_f(v.worst);
 }
 
+static void see_link_states(struct fordlinnet_link_states v) {
+    int i;
+    begin("link_states");
+    for (i = 0; i < 4; i++) flag(v.active[i]);
+}
+
+static void see_read_answer(struct fordlinnet_read_answer v) {
+    begin("read_answer");
+    NUMBER(v.refusal);
+    flag(v.torn);
+    flag(v.made);
+    NUMBER(v.count);
+}
+
+static void see_send_answer(struct fordlinnet_send_answer v) {
+    begin("send_answer");
+    NUMBER(v.refusal);
+    flag(v.made);
+    NUMBER(v.placings);
+    NUMBER(v.taken);
+    NUMBER(v.first.key);
+    NUMBER(v.first.address);
+    NUMBER(v.first.start);
+    NUMBER(v.first.len);
+    NUMBER(v.second.key);
+    NUMBER(v.second.address);
+    NUMBER(v.second.start);
+    NUMBER(v.second.len);
+}
+
+static void see_hear_answer(struct fordlinnet_hear_answer v) {
+    begin("hear_answer");
+    NUMBER(v.refusal);
+    flag(v.made);
+    NUMBER(v.state);
+    NUMBER(v.moved);
+}
+
 static void see_pool_answer(struct fordlinnet_pool_answer v) {
     begin("pool_answer");
     NUMBER(v.said);
@@ -471,6 +528,10 @@ int main(void) {
         see_link_answer(fordlinnet_shape_link_answer(one));
         see_answer(fordlinnet_shape_gathered(one).answer);
         see_record(fordlinnet_shape_gathered(one).found);
+        see_link_states(fordlinnet_shape_link_states(one));
+        see_read_answer(fordlinnet_shape_read_answer(one));
+        see_send_answer(fordlinnet_shape_send_answer(one));
+        see_hear_answer(fordlinnet_shape_hear_answer(one));
         see_settings(fordlinnet_shape_settings(one));
         see_setup_answer(fordlinnet_shape_setup_answer(one));
         begin("");

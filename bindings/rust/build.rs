@@ -1,5 +1,5 @@
-//! Finds the archive of the proved crate `exports`: in the directory that `FORDLINNET_LIB` names, or where `rt staticlib exports` leaves
-//! it, in `target/staticlib` at the top of the repository.
+//! Finds the proved archive: in the directory that `FORDLINNET_LIB` names, or where `bindings/archive` leaves it, in `target/staticlib` at
+//! the top of the repository.
 
 use std::env;
 use std::path::PathBuf;
@@ -11,11 +11,11 @@ fn main() {
         Some(named) => PathBuf::from(named),
         None => here.join("../../target/staticlib"),
     };
-    let archive = directory.join("libexports.a");
+    let archive = directory.join("libfordlinnet.a");
     println!("cargo:rerun-if-changed={}", archive.display());
     if !archive.exists() {
-        println!("cargo:warning=no {}: run `rt staticlib exports`, or set FORDLINNET_LIB", archive.display());
+        println!("cargo:warning=no {}: run `bindings/archive`, or set FORDLINNET_LIB", archive.display());
     }
     println!("cargo:rustc-link-search=native={}", directory.display());
-    println!("cargo:rustc-link-lib=static=exports");
+    println!("cargo:rustc-link-lib=static=fordlinnet");
 }

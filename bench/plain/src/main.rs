@@ -8,7 +8,7 @@ mod check;
 mod ours;
 mod plain;
 
-use fordlinnet::{Cursor, Group, Links, Opening, RToken, Record, Remote};
+use fordlinnet::{Cursor, Group, Links, Opening, RToken, Read, Record, Remote};
 use std::hint::black_box;
 use std::time::Instant;
 
@@ -79,10 +79,11 @@ impl Bench {
     fn ours(&mut self, case: &Case) -> (u64, Option<[u8; 44]>) {
         let mut group = Group::lend(case.s, N, &mut self.memory[..], &mut self.table[..], &mut self.links);
         match case.what {
-            What::Read => {
-                let read = black_box(group.read(case.slot, &mut self.out[..]));
-                read.map_or((u64::MAX, None), |r| (r.count() as u64, r.message().map(|m| *m.as_bytes())))
-            }
+            What::Read => match black_box(group.read(case.slot, &mut self.out[..])) {
+                Ok(Read::Bytes { count, message }) => (count as u64, message.map(Into::into)),
+                Ok(Read::Torn { message }) => (0, Some(message.into())),
+                Err(_) => (u64::MAX, None),
+            },
             What::Place => {
                 let placed = black_box(group.place(case.slot, case.offset, &self.bytes[..case.count]));
                 (u64::from(placed.is_ok()), None)
@@ -293,15 +294,16 @@ fn main() {
         let [laid, ours, plain] = time(&case, &mut bench);
         let (ours, plain) = (ours - laid, plain - laid);
         let ratio = ours / plain;
-        // a copy is what the larger calls spend their time on; send and hear copy nothing
-        let copies = matches!(case.what, What::Read | What::Place);
-        let target = if copies && case.count >= 1024 { TARGET_1K } else { TARGET };
-        if copies && case.count >= 1024 {
+        // the targets are read's; the other calls are measured beside it
+        let read = case.what == What::Read;
+        let target = if case.count >= 1024 { TARGET_1K } else { TARGET };
+        if read && case.count >= 1024 {
             worst_1k = worst_1k.max(ratio);
-        } else {
+        } else if read {
             worst = worst.max(ratio);
         }
-        over += u32::from(ratio > target);
+        let missed = read && ratio > target;
+        over += u32::from(missed);
         let run = if case.words.is_empty() {
             if case.wrapped {
                 "wrapped"
@@ -312,12 +314,12 @@ fn main() {
             case.words
         };
         let tells = if case.tells { "yes" } else { "no" };
-        let mark = if ratio > target { " (over)" } else { "" };
+        let mark = if missed { " (over)" } else { "" };
         println!("| {what} | {run} | {tells} | {} | {ours:.1} | {plain:.1} | {ratio:.2}{mark} |", case.count);
     }
     println!();
     println!(
-        "worst ratio {worst:.2} (target {TARGET}), of reads and places from 1 KB up {worst_1k:.2} (target {TARGET_1K}); {over} rows over"
+        "read: worst ratio {worst:.2} below 1 KB (target {TARGET}), {worst_1k:.2} from 1 KB up (target {TARGET_1K}); {over} rows over"
     );
     if over > 0 {
         std::process::exit(1);

@@ -75,6 +75,7 @@ pub struct Placings {
 }
 
 impl Placings {
+    #[inline]
     pub(crate) fn new(both: [Placing; 2], count: usize) -> Placings {
         Placings { both, count }
     }
@@ -134,6 +135,7 @@ pub enum Read {
 
 impl Read {
     /// How many bytes were read; 0 where the element is torn.
+    #[inline]
     pub fn count(&self) -> usize {
         match self {
             Read::Bytes { count, .. } => *count,
@@ -142,6 +144,7 @@ impl Read {
     }
 
     /// The message made, if one was.
+    #[inline]
     pub fn message(&self) -> Option<&Message> {
         match self {
             Read::Bytes { message, .. } => message.as_ref(),

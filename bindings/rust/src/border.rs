@@ -100,14 +100,10 @@ pub(crate) enum Number {
     Free = 2,
     LinkChange = 3,
     Sample = 4,
-    Send = 5,
     UrgentSend = 6,
-    Place = 7,
-    Read = 8,
     Shutdown = 9,
     Close = 10,
     Abort = 11,
-    Hear = 12,
 }
 
 /// What an answer says, as far as it is looked at.
@@ -115,9 +111,6 @@ pub(crate) mod said {
     pub const REFUSED: u32 = 1;
     pub const SENT: u32 = 3;
     pub const GATHERED: u32 = 4;
-    pub const WAS_READ: u32 = 5;
-    pub const TORN: u32 = 6;
-    pub const HEARD: u32 = 7;
     pub const RESET: u32 = 8;
     pub const LINK_HEARD: u32 = 13;
     pub const LINK_SENT: u32 = 14;
@@ -164,6 +157,49 @@ pub(crate) struct Answer {
     pub made: bool,
     pub message: [u8; 44],
     pub links: Links,
+}
+
+/// The links' states, without what link messages need.
+#[derive(Clone, Copy)]
+#[cfg_attr(test, derive(Debug, PartialEq))]
+#[repr(C)]
+pub(crate) struct LinkStates {
+    pub active: [bool; 4],
+}
+
+/// The answer of a read: a refusal's number or 0, whether the element was torn, whether a message was made, and how many bytes were read.
+#[derive(Clone, Copy)]
+#[cfg_attr(test, derive(Debug, PartialEq))]
+#[repr(C)]
+pub(crate) struct ReadAnswer {
+    pub refusal: u8,
+    pub torn: bool,
+    pub made: bool,
+    pub count: u32,
+}
+
+/// The answer of a send: a refusal's number or 0, whether a message was made, how many of the placings are named, and how many bytes were
+/// taken.
+#[derive(Clone, Copy)]
+#[cfg_attr(test, derive(Debug, PartialEq))]
+#[repr(C)]
+pub(crate) struct SendAnswer {
+    pub refusal: u8,
+    pub made: bool,
+    pub placings: u8,
+    pub taken: u32,
+    pub both: [Placing; 2],
+}
+
+/// The answer of hear: a refusal's number or 0, whether a message was made, the state's number, and how far P moved.
+#[derive(Clone, Copy)]
+#[cfg_attr(test, derive(Debug, PartialEq))]
+#[repr(C)]
+pub(crate) struct HearAnswer {
+    pub refusal: u8,
+    pub made: bool,
+    pub state: u8,
+    pub moved: u64,
 }
 
 /// The answer of a gather, and the record that it found.
@@ -336,6 +372,64 @@ extern "C" {
         out_length: usize,
     ) -> Answer;
 
+    fn fordlinnet_make_read(
+        s: u32,
+        n: u32,
+        memory: *const u8,
+        memory_length: usize,
+        table: *mut Record,
+        table_length: usize,
+        links: LinkStates,
+        slot: u32,
+        out: *mut u8,
+        out_length: usize,
+        message: *mut u8,
+        message_length: usize,
+    ) -> ReadAnswer;
+
+    fn fordlinnet_make_place(
+        s: u32,
+        n: u32,
+        memory: *mut u8,
+        memory_length: usize,
+        table: *const Record,
+        table_length: usize,
+        links: LinkStates,
+        slot: u32,
+        offset: u32,
+        bytes: *const u8,
+        bytes_length: usize,
+    ) -> u8;
+
+    fn fordlinnet_make_send(
+        s: u32,
+        n: u32,
+        memory: *const u8,
+        memory_length: usize,
+        table: *mut Record,
+        table_length: usize,
+        links: LinkStates,
+        slot: u32,
+        bytes: *const u8,
+        bytes_length: usize,
+        message: *mut u8,
+        message_length: usize,
+    ) -> SendAnswer;
+
+    fn fordlinnet_make_hear(
+        s: u32,
+        n: u32,
+        memory: *const u8,
+        memory_length: usize,
+        table: *mut Record,
+        table_length: usize,
+        links: LinkStates,
+        bytes: *const u8,
+        bytes_length: usize,
+        message: *mut u8,
+        message_length: usize,
+    ) -> HearAnswer;
+
     fn fordlinnet_make_gather(
         s: u32,
         n: u32,
@@ -403,6 +497,108 @@ pub(crate) fn make<M: Memory + ?Sized>(lent: Lent<'_, M>, links: &mut Links, com
     };
     *links = answer.links;
     answer
+}
+
+/// Reads, on the table itself. A message that is made stands in `message`, which else stays as it is.
+#[inline]
+pub(crate) fn read<M: Memory + ?Sized>(
+    lent: Lent<'_, M>,
+    active: [bool; 4],
+    slot: u32,
+    out: &mut [u8],
+    message: &mut [u8; 44],
+) -> ReadAnswer {
+    let (memory, length) = lent.memory.parts();
+    // SAFETY: as in `make`.
+    unsafe {
+        fordlinnet_make_read(
+            lent.s,
+            lent.n,
+            memory,
+            length,
+            lent.table.as_mut_ptr(),
+            lent.table.len(),
+            LinkStates { active },
+            slot,
+            out.as_mut_ptr(),
+            out.len(),
+            message.as_mut_ptr(),
+            message.len(),
+        )
+    }
+}
+
+/// Places, on the table itself: a refusal's number, or 0 where the bytes are stored.
+#[inline]
+pub(crate) fn place<M: Memory + ?Sized>(lent: Lent<'_, M>, active: [bool; 4], slot: u32, offset: u32, bytes: &[u8]) -> u8 {
+    let (memory, length) = lent.memory.parts();
+    // SAFETY: as in `make`.
+    unsafe {
+        fordlinnet_make_place(
+            lent.s,
+            lent.n,
+            memory,
+            length,
+            lent.table.as_ptr(),
+            lent.table.len(),
+            LinkStates { active },
+            slot,
+            offset,
+            bytes.as_ptr(),
+            bytes.len(),
+        )
+    }
+}
+
+/// Sends, on the table itself. A message that is made stands in `message`, which else stays as it is.
+#[inline]
+pub(crate) fn send<M: Memory + ?Sized>(
+    lent: Lent<'_, M>,
+    active: [bool; 4],
+    slot: u32,
+    bytes: &[u8],
+    message: &mut [u8; 44],
+) -> SendAnswer {
+    let (memory, length) = lent.memory.parts();
+    // SAFETY: as in `make`.
+    unsafe {
+        fordlinnet_make_send(
+            lent.s,
+            lent.n,
+            memory,
+            length,
+            lent.table.as_mut_ptr(),
+            lent.table.len(),
+            LinkStates { active },
+            slot,
+            bytes.as_ptr(),
+            bytes.len(),
+            message.as_mut_ptr(),
+            message.len(),
+        )
+    }
+}
+
+/// Hears, on the table itself. A message that is made stands in `message`, which else stays as it is.
+#[inline]
+pub(crate) fn hear<M: Memory + ?Sized>(lent: Lent<'_, M>, active: [bool; 4], bytes: &[u8], message: &mut [u8; 44]) -> HearAnswer {
+    let (memory, length) = lent.memory.parts();
+    // SAFETY: as in `make`.
+    unsafe {
+        fordlinnet_make_hear(
+            lent.s,
+            lent.n,
+            memory,
+            length,
+            lent.table.as_mut_ptr(),
+            lent.table.len(),
+            LinkStates { active },
+            bytes.as_ptr(),
+            bytes.len(),
+            message.as_mut_ptr(),
+            message.len(),
+        )
+    }
 }
 
 /// Sends a head and a body as if joined.

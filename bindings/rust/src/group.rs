@@ -335,8 +335,17 @@ where
     /// # Errors
     ///
     /// [`State`](Refusal::State) after D, C or A sent or C heard; and what every call tests.
+    #[inline]
     pub fn send(&mut self, slot: u32, bytes: &[u8]) -> Result<Sent, Refusal> {
-        sent(&self.call(command(Number::Send, slot), bytes, &mut []))
+        let lent = Lent { s: self.s, n: self.n, memory: &mut self.memory, table: self.table.as_mut() };
+        let mut message = [0; 44];
+        let links: &Links = self.links.borrow();
+        let answer = border::send(lent, links.active, slot, bytes, &mut message);
+        if answer.refusal != 0 {
+            return Err(crate::refusal::given(answer.refusal.into()));
+        }
+        let placings = Placings::new(answer.both, answer.placings.into());
+        Ok(Sent { taken: answer.taken as usize, placings, message: answer.made.then(|| Message::made(message)) })
     }
 
     /// Sends urgent bytes. Taken whole, they hold back later sends until the peer has read them.
@@ -379,9 +388,14 @@ where
     /// # Errors
     ///
     /// [`State`](Refusal::State) after A sent or D or C heard; [`Placing`](Refusal::Placing); and what every call tests.
+    #[inline]
     pub fn place(&mut self, slot: u32, offset: u32, bytes: &[u8]) -> Result<(), Refusal> {
-        let command = Command { offset, ..command(Number::Place, slot) };
-        refused(&self.call(command, bytes, &mut []))
+        let lent = Lent { s: self.s, n: self.n, memory: &mut self.memory, table: self.table.as_mut() };
+        let links: &Links = self.links.borrow();
+        match border::place(lent, links.active, slot, offset, bytes) {
+            0 => Ok(()),
+            number => Err(crate::refusal::given(number.into())),
+        }
     }
 
     /// Reads the first unread bytes, as many as `out` has room for. A message made is the window update that the peer waits for.
@@ -389,14 +403,19 @@ where
     /// # Errors
     ///
     /// [`State`](Refusal::State) after C or A sent; and what every call tests.
+    #[inline]
     pub fn read(&mut self, slot: u32, out: &mut [u8]) -> Result<Read, Refusal> {
-        let answer = self.call(command(Number::Read, slot), &[], out);
-        refused(&answer)?;
-        if answer.said == said::TORN {
-            return Ok(Read::Torn { message: Message::made(answer.message) });
+        let lent = Lent { s: self.s, n: self.n, memory: &mut self.memory, table: self.table.as_mut() };
+        let mut message = [0; 44];
+        let links: &Links = self.links.borrow();
+        let answer = border::read(lent, links.active, slot, out, &mut message);
+        if answer.refusal != 0 {
+            return Err(crate::refusal::given(answer.refusal.into()));
         }
-        debug_assert_eq!(answer.said, said::WAS_READ);
-        Ok(Read::Bytes { count: answer.n as usize, message: made(&answer) })
+        if answer.torn {
+            return Ok(Read::Torn { message: Message::made(message) });
+        }
+        Ok(Read::Bytes { count: answer.count as usize, message: answer.made.then(|| Message::made(message)) })
     }
 
     /// Takes a message from the peer, for the slot whose token it carries.
@@ -406,11 +425,17 @@ where
     /// Tested in this order: [`Sizes`](Refusal::Sizes), [`Malformed`](Refusal::Malformed), [`Token`](Refusal::Token),
     /// [`Incoherent`](Refusal::Incoherent), [`LinkDown`](Refusal::LinkDown), [`Sequence`](Refusal::Sequence),
     /// [`CursorRule`](Refusal::CursorRule).
+    #[inline]
     pub fn hear(&mut self, bytes: &[u8]) -> Result<Heard, Refusal> {
-        let answer = self.call(command(Number::Hear, 0), bytes, &mut []);
-        refused(&answer)?;
-        debug_assert_eq!(answer.said, said::HEARD);
-        Ok(Heard { moved: answer.moved, state: State::ALL[answer.state as usize], message: made(&answer) })
+        let lent = Lent { s: self.s, n: self.n, memory: &mut self.memory, table: self.table.as_mut() };
+        let mut message = [0; 44];
+        let links: &Links = self.links.borrow();
+        let answer = border::hear(lent, links.active, bytes, &mut message);
+        if answer.refusal != 0 {
+            return Err(crate::refusal::given(answer.refusal.into()));
+        }
+        let message = answer.made.then(|| Message::made(message));
+        Ok(Heard { moved: answer.moved, state: State::ALL[answer.state as usize], message })
     }
 
     /// Sends D: we are done writing.

@@ -55,8 +55,8 @@
 //!
 //! # Building
 //!
-//! `rt staticlib exports` at the top of the repository proves the archive and leaves it in `target/staticlib`, where the build script
-//! looks; `FORDLINNET_LIB` names another directory.
+//! `bindings/archive` at the top of the repository proves the archive and leaves it in `target/staticlib`, where the build script looks;
+//! `FORDLINNET_LIB` names another directory.
 
 #![warn(missing_docs)]
 #![deny(unsafe_code, unsafe_op_in_unsafe_fn)]

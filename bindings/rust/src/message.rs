@@ -50,11 +50,13 @@ impl Message {
     /// How many bytes a message has.
     pub const SIZE: usize = 44;
 
+    #[inline]
     pub(crate) const fn made(bytes: [u8; 44]) -> Message {
         Message(bytes)
     }
 
     /// The bytes, as they go on the wire.
+    #[inline]
     pub const fn as_bytes(&self) -> &[u8; 44] {
         &self.0
     }
@@ -124,6 +126,7 @@ impl AsRef<[u8]> for Message {
 }
 
 impl From<Message> for [u8; 44] {
+    #[inline]
     fn from(message: Message) -> [u8; 44] {
         message.0
     }

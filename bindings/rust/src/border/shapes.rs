@@ -2,8 +2,8 @@
 //! fills arrives with each number in its field.
 
 use super::{
-    Answer, Arguments, Command, GatheredAnswer, PoolAnswer, RawBooks, RawFields, RawLinkAnswer, RawPiece, RawSettings, RawTakenUp,
-    SetupAnswer, View,
+    Answer, Arguments, Command, GatheredAnswer, HearAnswer, LinkStates, PoolAnswer, RawBooks, RawFields, RawLinkAnswer, RawPiece,
+    RawSettings, RawTakenUp, ReadAnswer, SendAnswer, SetupAnswer, View,
 };
 use crate::{
     Cursor, Exchange, Gauge, Identity, Inbound, Links, Marks, Opening, Outbound, Placing, Queue, RToken, Record, Remote, Role, Side,
@@ -43,6 +43,10 @@ fn layouts() {
         Answer, 440, 8, said 0, refusal 4, n 8, state 12, moved 16, health 24, placings 28, both 32, mean 80, worst 88, made 96, message 97,
         links 144
     );
+    layout!(LinkStates, 4, 1, active 0);
+    layout!(ReadAnswer, 8, 4, refusal 0, torn 1, made 2, count 4);
+    layout!(SendAnswer, 56, 8, refusal 0, made 1, placings 2, taken 4, both 8);
+    layout!(HearAnswer, 16, 8, refusal 0, made 1, state 2, moved 8);
     layout!(GatheredAnswer, 608, 8, answer 0, found 440);
     layout!(RawFields, 104, 8, kind 0, values 8);
     layout!(RawTakenUp, 112, 8, some 0, link 1, fate 4, fields 8);
@@ -72,6 +76,10 @@ extern "C" {
     fn fordlinnet_shape_answer(one: u32) -> Answer;
     fn fordlinnet_shape_gathered(one: u32) -> GatheredAnswer;
     fn fordlinnet_shape_link_answer(one: u32) -> RawLinkAnswer;
+    fn fordlinnet_shape_link_states(one: u32) -> LinkStates;
+    fn fordlinnet_shape_read_answer(one: u32) -> ReadAnswer;
+    fn fordlinnet_shape_send_answer(one: u32) -> SendAnswer;
+    fn fordlinnet_shape_hear_answer(one: u32) -> HearAnswer;
     fn fordlinnet_shape_piece() -> RawPiece;
     fn fordlinnet_shape_view() -> View;
     fn fordlinnet_shape_pool_answer() -> PoolAnswer;
@@ -168,6 +176,10 @@ shape! {
     Command { number, slot, offset, ms, link, up, opening }
     Placing { key, address, start, len }
     Answer { said, refusal, n, state, moved, health, placings, both: each, mean, worst, made, message: bytes, links }
+    LinkStates { active: each }
+    ReadAnswer { refusal, torn, made, count }
+    SendAnswer { refusal, made, placings, taken, both: each }
+    HearAnswer { refusal, made, state, moved }
     RawFields { kind, values: each }
     RawTakenUp { some, link, fate, fields }
     RawLinkAnswer { said, refusal, fate, fields, up, made, message: bytes, links }
@@ -211,6 +223,10 @@ fn filled_structs() {
     same(fordlinnet_shape_answer);
     same(fordlinnet_shape_gathered);
     same(fordlinnet_shape_link_answer);
+    same(fordlinnet_shape_link_states);
+    same(fordlinnet_shape_read_answer);
+    same(fordlinnet_shape_send_answer);
+    same(fordlinnet_shape_hear_answer);
     same(fordlinnet_shape_settings);
     same(fordlinnet_shape_setup_answer);
     // SAFETY: values alone.

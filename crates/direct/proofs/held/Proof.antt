@@ -1,0 +1,27 @@
+-- `direct::held` meets its contract. Assumes nothing.
+use borrow.Author.Needs.{needs}
+use Rattle.direct.proofs.Laws.{held-is, held-none}
+use Rattle.direct.proofs.held.Statement.{statement}
+use Rattle.direct.proofs.held.Tie as tie
+
+link-active-requires : tie.Need-link-active-requires
+link-active-requires c κs = search needs
+
+slot-ok-requires : tie.Need-slot-ok-requires
+slot-ok-requires c κs = search needs
+
+refusal-requires : tie.Need-refusal-requires
+refusal-requires c κs = search needs
+
+returns : tie.Need-returns
+returns c =
+    let t = c .before in
+    let k = t .before .before in
+    let l = k .before in
+    held-is _ _ _ _ _ (k .slot-ok .ensures) (t .if1 .taken) (l .link-active .ensures) (c .refusal .ensures)
+
+returns-2 : tie.Need-returns-2
+returns-2 c = held-none _ _ _ _ _ (c .before .before .slot-ok .ensures) (c .if1 .left)
+
+pub held-spec : {M : Type 1} → statement M
+held-spec = tie.close (tie.spec link-active-requires slot-ok-requires refusal-requires returns returns-2)

@@ -1,0 +1,160 @@
+-- The small hearing says what the rules' hear says. Assumes nothing.
+use Prim.Native.Nat.{ℕ}
+use mathlib.Core.Path.{_≡_, refl, sym, ap}
+use mathlib.Core.Bool.{Bool, true, false, _&&_, _||_, not, cond}
+use lib.Dec.{ltb, eqb}
+use Rattle.cursor.specs.Cursor.{sameB}
+use Rattle.cdc.specs.declared.Message.{Message}
+use Rattle.cdc.specs.Cdc.{encodeOf}
+use Rattle.closing.specs.declared.Marks.{Marks}
+use Rattle.closing.specs.declared.State.{State}
+use Rattle.closing.specs.declared.State.the-variants.{PeerAbortWait, Closed}
+use Rattle.closing.specs.Closing.{numberOf, stateAt, stateOf, abortSent, marksHeard}
+use Rattle.closing.proofs.Laws.{state-back}
+use Rattle.connection.specs.declared.Record.{Record}
+use Rattle.connection.specs.Connection.{zeroRecord, noPlace, placeAt, reachedB, passedBy, refusalOf}
+use Rattle.connection.specs.Connection.{pTo, lastTo, flagsTo, urgentInTo, rTo, urgentOutTo, inboundTo, outboundTo, marksTo}
+use Rattle.outcome.specs.declared.Reply.the-variants.{Heard}
+use Rattle.outcome.specs.declared.Outcome.{Outcome}
+use Rattle.outcome.specs.Outcome.{noMessage, toldIn, usedIn, toldOf, messageOf, outcomeOf, refusedOf, closedIf}
+use Rattle.heard.specs.Heard.{producerB, consumerB, movedBy, urgesB, urgentIn, heardIn, heardOut, heardRecord, answersB, nextB}
+use Rattle.hear.specs.Hear.{abortedOf, acceptedOf, ruledOf, followedOf, hearOf}
+use Rattle.rules.specs.Rules.{heard, saysOf}
+use Rattle.hearing.specs.declared.Hearing.{Hearing}
+use Rattle.hearing.specs.Hearing.{refusedHearing, abortHearing, waitHearing, acceptedHearing, ruledHearing, hearingOf}
+use Rattle.hearing.specs.Hearing.{inboundLeft, outboundLeft, recordLeft, marksLeft, toldBy}
+use Rattle.direct_hear.specs.DirectHear.{saysIn}
+
+-- the record that a hearing leaves
+abbrev pub leftOf : Record → Message → Hearing → Record
+leftOf rec m t = cond (t .closes) zeroRecord (cond (t .takes) (recordLeft rec m t) rec)
+
+-- what a hearing t of the record rec shares with the outcome of the rules
+pub record Agrees (rec : Record) (m : Message) (t : Hearing) (o : Outcome) : Type 0 where
+  pub says : saysOf (o .reply) ≡ saysIn (t .said)
+  pub made : o .made ≡ t .said .made
+  pub message : o .message ≡ cond (t .said .made) (encodeOf (messageOf (toldBy rec t))) noMessage
+  pub after : o .after ≡ leftOf rec m t
+  pub apart : t .takes && t .closes ≡ false
+
+-- the marks, as a message tells them
+or-false : (b : Bool) → b || false ≡ b
+or-false true = refl
+or-false false = refl
+
+or-true : (b : Bool) → b || true ≡ true
+or-true true = refl
+or-true false = refl
+
+marks-kept : (m : Marks) → marksLeft m false ≡ m
+unfolding marksLeft
+marks-kept m = λ i. record { sent = m .sent; heard = m .heard; first = m .first; abort = or-false (m .abort) i }
+
+marks-aborted : (m : Marks) → marksLeft m true ≡ abortSent m
+unfolding marksLeft abortSent
+marks-aborted m = λ i. record { sent = m .sent; heard = m .heard; first = m .first; abort = or-true (m .abort) i }
+
+module _ (rec : Record) (m : Message) where
+  by-test : {x y : Hearing} {o p : Outcome} (b : Bool) → (b ≡ true → Agrees rec m x o) → (b ≡ false → Agrees rec m y p)
+      → Agrees rec m (cond b x y) (cond b o p)
+  by-test true f g = f refl
+  by-test false f g = g refl
+
+  pub refused-agrees : (j : ℕ) → eqb j 0 ≡ false → Agrees rec m (refusedHearing j) (refusedOf j rec)
+  unfolding refusedOf saysIn
+  refused-agrees j e = record { says = simp e; made = refl; message = refl; after = refl; apart = refl }
+
+  -- with A
+  aborted-by : (sent : Bool)
+      → Agrees rec m (abortHearing sent) (closedIf true (outcomeOf (Heard 0 Closed) (not sent) (marksTo rec (abortSent (rec .marks)))))
+  unfolding closedIf outcomeOf saysIn stateAt toldBy marksTo
+  aborted-by true = record { says = refl; made = refl; message = refl; after = refl; apart = refl }
+  aborted-by false =
+      record {
+        says = refl;
+        made = refl;
+        message = ap (λ (w : Marks). encodeOf (messageOf (marksTo rec w))) (sym (marks-aborted (rec .marks)));
+        after = refl;
+        apart = refl;
+      }
+
+  aborted-agrees : Agrees rec m (abortHearing (rec .marks .abort)) (abortedOf rec)
+  unfolding abortedOf
+  aborted-agrees = aborted-by (rec .marks .abort)
+
+  -- once we have sent A
+  wait-agrees : Agrees rec m waitHearing (outcomeOf (Heard 0 PeerAbortWait) false rec)
+  unfolding outcomeOf saysIn stateAt
+  wait-agrees = record { says = refl; made = refl; message = refl; after = refl; apart = refl }
+
+  -- accepted: by how far P moves, the state, whether a message is made, whether the slot is closed, and what becomes of the urgent places
+  module _ (moved : ℕ) (state : State) (urged passed : Bool) where
+    abbrev next : Record
+    next =
+        marksTo
+        (outboundTo
+        (inboundTo rec
+        (urgentInTo (flagsTo (lastTo (pTo (rec .inbound) (m .producer)) (m .sequence)) (m .flags .blocked) (m .flags .request))
+        (cond urged (placeAt (m .producer)) (rec .inbound .urgent))))
+        (urgentOutTo (rTo (rec .outbound) (m .consumer)) (cond passed noPlace (rec .outbound .urgent))))
+        (marksHeard (rec .marks) (m .flags .done) (m .flags .closed))
+
+    abbrev small : Bool → Bool → Hearing
+    small made shut =
+        record {
+          said = record { refusal = 0; made = made; state = numberOf state; moved = moved };
+          takes = not shut;
+          closes = shut;
+          urged = urged;
+          passed = passed;
+          aborts = false;
+        }
+
+    abbrev tells : Record
+    tells = outboundTo rec (urgentOutTo (rec .outbound) (cond passed noPlace (rec .outbound .urgent)))
+
+    says-is : (made shut : Bool) → heard moved state ≡ saysIn (small made shut .said)
+    unfolding saysIn
+    says-is made shut = ap (heard moved) (sym (state-back state))
+
+    message-is : (shut : Bool) → encodeOf (messageOf next) ≡ encodeOf (messageOf (toldBy rec (small true shut)))
+    unfolding messageOf toldBy marksTo marksHeard
+    message-is shut = ap (λ (w : Marks). encodeOf (messageOf (marksTo tells w))) (sym (marks-kept (rec .marks)))
+
+    accepted-by : (made shut : Bool) → Agrees rec m (small made shut) (closedIf shut (outcomeOf (Heard moved state) made next))
+    unfolding closedIf outcomeOf toldOf toldIn usedIn recordLeft inboundLeft outboundLeft marksTo
+    accepted-by true true =
+        record { says = says-is true true; made = refl; message = message-is true; after = refl; apart = refl }
+    accepted-by true false =
+        record { says = says-is true false; made = refl; message = message-is false; after = refl; apart = refl }
+    accepted-by false true = record { says = says-is false true; made = refl; message = refl; after = refl; apart = refl }
+    accepted-by false false = record { says = says-is false false; made = refl; message = refl; after = refl; apart = refl }
+
+  module _ (n : ℕ) where
+    accepted-agrees : Agrees rec m (acceptedHearing n rec m) (acceptedOf n rec m)
+    unfolding acceptedHearing acceptedOf heardRecord heardIn heardOut urgentIn passedBy answersB urgesB marksTo
+    accepted-agrees =
+        let moved = movedBy n (rec .inbound) m in
+        let marks = marksHeard (rec .marks) (m .flags .done) (m .flags .closed) in
+        let urged = m .flags .urgent && ltb 0 moved in
+        accepted-by moved (stateOf marks) urged
+        (reachedB (rec .remote .size) (m .consumer) (rec .outbound .producer) (rec .outbound .urgent))
+        (urged || (m .flags .request && not (sameB (rec .inbound .told) (rec .inbound .consumer))))
+        (marks .heard .closed && marks .sent .closed)
+
+    ruled-agrees : Agrees rec m (ruledHearing n rec m) (ruledOf n rec m)
+    unfolding ruledHearing ruledOf
+    ruled-agrees =
+        by-test (producerB n rec (m .producer) && consumerB rec (m .consumer)) (λ e. accepted-agrees) (λ e. refused-agrees 8 refl)
+
+    pub agree : (active : Bool) → Agrees rec m (hearingOf n active rec m 0) (hearOf n active rec m)
+    unfolding hearingOf hearOf followedOf
+    agree active =
+        let no = refusalOf n active rec false in
+        by-test (eqb no 0)
+        (λ e.
+        by-test (m .flags .abort) (λ e. aborted-agrees)
+        (λ e.
+        by-test (rec .marks .abort) (λ e. wait-agrees)
+        (λ e. by-test (nextB rec m) (λ e. ruled-agrees) (λ e. refused-agrees 16 refl))))
+        (λ e. refused-agrees no e)

@@ -1,0 +1,299 @@
+-- What the walks of `hearing_at`, `take_at`, `put`, `tell_at` and `fordlinnet_make_hear` give. Assumes nothing.
+use Prim.Native.Nat.{ℕ, _≤_, _<_}
+use mathlib.Core.Path.{_≡_, refl, sym, ap, _∙_, subst}
+use mathlib.Core.Bool.{Bool, true, false, _&&_, not, cond, false≢true}
+use mathlib.Core.List.{List, []}
+use lib.Dec.{T as Holds, ltb, eqb}
+use lib.ListN.{length, take, getD, set}
+use borrow.Author.Tests.{le-leb, lt-leb}
+use Rattle.cdc.specs.declared.Message.{Message}
+use Rattle.cdc.specs.declared.Decoded.{Decoded}
+use Rattle.cdc.specs.declared.Decoded.the-variants.{Good, Malformed}
+use Rattle.cdc.specs.Cdc.{encodeOf, decodeOf}
+use Rattle.cdc.proofs.RoundTrip.{encode-length}
+use Rattle.connection.specs.declared.Record.{Record}
+use Rattle.connection.specs.Connection.{zeroRecord, numbersOk, coherentB}
+use Rattle.connection.proofs.Laws.{refusal-3}
+use Rattle.outcome.specs.declared.Outcome.{Outcome}
+use Rattle.outcome.specs.Outcome.{noMessage, messageOf, refusedOf}
+use Rattle.hear.specs.Hear.{hearOf}
+use Rattle.table.specs.declared.Links.{Links}
+use Rattle.table.specs.Table.{sizesB, indexOf, recordAt, withRecord, activeB, holderIn, refusedBy, keptBy, turnedBy, settledBy}
+use Rattle.table.proofs.Laws.{record-kept}
+use Rattle.slots.proofs.Laws.{record-at-returns, record-at-returns-2, put-record-returns, put-record-returns-2}
+use Rattle.rules.specs.Rules.{Call, Did, groupOf}
+use Rattle.rules.specs.Promises.{Promise}
+use Rattle.calls.specs.Calls.{tokenIs, tokenIn, heardBy}
+use Rattle.calls.proofs.Laws.{hear-unsized, hear-bad, hear-good}
+use Rattle.direct.specs.declared.LinkStates.{LinkStates}
+use Rattle.direct.specs.Direct.{writtenIn, BufferKept}
+use Rattle.direct.proofs.Laws.{front, kept}
+use Rattle.hearing.specs.declared.HearAnswer.{HearAnswer}
+use Rattle.hearing.specs.declared.Parsed.{Parsed}
+use Rattle.hearing.specs.declared.Hearing.{Hearing}
+use Rattle.hearing.specs.Hearing.{parsedOf, parsedIn, refusedBefore, refusedHearing, hearingOf, noneHearing}
+use Rattle.hearing.specs.Hearing.{recordLeft, toldBy, messageLeft}
+use Rattle.direct_hear.specs.TableLeft.{slotIf, tableLeft}
+use Rattle.direct_hear.specs.DirectHear.{answerIn, refusedAnswer, HearMade}
+use Rattle.direct_hear.proofs.Agree.{leftOf, Agrees, refused-agrees, agree}
+
+-- THE RECORD THAT THE SLOT SHOWS
+pub hearing-at-returns : (n : ℕ) (t : List Record) (links : LinkStates) (k : ℕ) (m : Message) (j : ℕ)
+    → (r : ℕ) → r ≡ indexOf k (length t) → Holds (ltb r (length t))
+    → (q : Hearing) → q ≡ hearingOf n (activeB (links .active) (getD t r zeroRecord .id .link)) (getD t r zeroRecord) m j
+    → q ≡ hearingOf n (activeB (links .active) (recordAt t k .id .link)) (recordAt t k) m j
+hearing-at-returns n t links k m j r e h q eq =
+    eq ∙ ap (λ (c : Record). hearingOf n (activeB (links .active) (c .id .link)) c m j) (record-at-returns t k r e h)
+
+zero-incoherent : (n : ℕ) → coherentB n zeroRecord ≡ false
+unfolding coherentB numbersOk zeroRecord
+zero-incoherent n = refl
+
+none-is : (n : ℕ) (active : Bool) (m : Message) (j : ℕ) → noneHearing j ≡ hearingOf n active zeroRecord m j
+unfolding noneHearing hearingOf
+none-is n active m j = simp (refusal-3 n active zeroRecord false (zero-incoherent n))
+
+pub hearing-at-returns-2 : (n : ℕ) (t : List Record) (links : LinkStates) (k : ℕ) (m : Message) (j : ℕ)
+    → (r : ℕ) → r ≡ indexOf k (length t) → Holds (not (ltb r (length t))) → (q : Hearing) → q ≡ noneHearing j
+    → q ≡ hearingOf n (activeB (links .active) (recordAt t k .id .link)) (recordAt t k) m j
+hearing-at-returns-2 n t links k m j r e h q eq =
+    eq
+    ∙ none-is n (activeB (links .active) (zeroRecord .id .link)) m j
+    ∙ ap (λ (c : Record). hearingOf n (activeB (links .active) (c .id .link)) c m j) (record-at-returns-2 t k r e h zeroRecord refl)
+
+pub tell-at-returns : (t : List Record) (k : ℕ) (q : Hearing) (b : List ℕ)
+    → (r : ℕ) → r ≡ indexOf k (length t) → Holds (ltb r (length t)) → (u : Unit {0}) (c : List ℕ)
+    → c ≡ messageLeft (getD t r zeroRecord) q b → c ≡ messageLeft (recordAt t k) q b
+tell-at-returns t k q b r e h u c ec = ec ∙ ap (λ (x : Record). messageLeft x q b) (record-at-returns t k r e h)
+
+pub tell-at-returns-2 : (t : List Record) (k : ℕ) (q : Hearing) (b : List ℕ)
+    → (r : ℕ) → r ≡ indexOf k (length t) → Holds (not (ltb r (length t))) → (z : Record) → z ≡ zeroRecord → (u : Unit {0}) (c : List ℕ)
+    → c ≡ messageLeft z q b → c ≡ messageLeft (recordAt t k) q b
+tell-at-returns-2 t k q b r e h z ez u c ec = ec ∙ ap (λ (x : Record). messageLeft x q b) (record-at-returns-2 t k r e h z ez)
+
+pub take-at-returns : (t : List Record) (k : ℕ) (m : Message) (q : Hearing)
+    → (r : ℕ) → r ≡ indexOf k (length t) → Holds (ltb r (length t)) → (c : Record) → c ≡ recordLeft (getD t r zeroRecord) m q
+    → set t r c ≡ withRecord t k (recordLeft (recordAt t k) m q)
+take-at-returns t k m q r e h c ec =
+    put-record-returns t k c r e h
+    ∙ ap (withRecord t k) (ec ∙ ap (λ (x : Record). recordLeft x m q) (record-at-returns t k r e h))
+
+pub take-at-returns-2 : (t : List Record) (k : ℕ) (m : Message) (q : Hearing)
+    → (r : ℕ) → r ≡ indexOf k (length t) → Holds (not (ltb r (length t)))
+    → t ≡ withRecord t k (recordLeft (recordAt t k) m q)
+take-at-returns-2 t k m q r e h = put-record-returns-2 t k (recordLeft (recordAt t k) m q) r e h
+
+pub put-returns : (t : List Record) (k : ℕ) (m : Message) (q : Hearing)
+    → (i : ℕ) → i ≡ slotIf (q .takes) k
+    → (v : Unit {0}) (u : List Record) → u ≡ withRecord t i (recordLeft (recordAt t i) m q)
+    → (g : ℕ) → g ≡ slotIf (q .closes) k → (z : Record) → z ≡ zeroRecord
+    → (w : Unit {0}) (l : List Record) → l ≡ withRecord u g z
+    → l ≡ tableLeft t k m q
+unfolding tableLeft
+put-returns t k m q i ei v u eu g eg z ez w l el =
+    el
+    ∙ (λ x. withRecord (eu x) (eg x) (ez x))
+    ∙ ap (λ (y : ℕ). withRecord (withRecord t y (recordLeft (recordAt t y) m q)) (slotIf (q .closes) k) zeroRecord) ei
+
+-- THE TABLE that is left: one slot has another record, or none has
+left-by : (t : List Record) (k : ℕ) (m : Message) (q : Hearing) (takes closes : Bool) → takes && closes ≡ false
+    → withRecord (withRecord t (cond takes k 0) (recordLeft (recordAt t (cond takes k 0)) m q)) (cond closes k 0) zeroRecord
+    ≡ withRecord t k (cond closes zeroRecord (cond takes (recordLeft (recordAt t k) m q) (recordAt t k)))
+unfolding withRecord
+left-by t k m q true true e = absurd (false≢true (sym e))
+left-by t k m q true false e = refl
+left-by t k m q false true e = refl
+left-by t k m q false false e = sym (record-kept t k)
+
+left-is : (t : List Record) (k : ℕ) (m : Message) (q : Hearing) → q .takes && q .closes ≡ false
+    → tableLeft t k m q ≡ withRecord t k (leftOf (recordAt t k) m q)
+unfolding tableLeft slotIf
+left-is t k m q e = left-by t k m q (q .takes) (q .closes) e
+
+-- WHAT IS TESTED FIRST
+module _ (s n len count buffer : ℕ) (good : Bool) (k : ℕ) where
+  first-short : buffer < 44 → refusedBefore s n len count buffer good k ≡ 1
+  unfolding refusedBefore
+  first-short h = simp (lt-leb 44 buffer h)
+
+  module _ (h : 44 ≤ buffer) where
+    first-1 : sizesB s n len count ≡ false → refusedBefore s n len count buffer good k ≡ 1
+    unfolding refusedBefore
+    first-1 y = simp (le-leb 44 buffer h, y)
+
+    first-4 : sizesB s n len count ≡ true → good ≡ false → refusedBefore s n len count buffer good k ≡ 4
+    unfolding refusedBefore
+    first-4 y g = simp (le-leb 44 buffer h, y, g)
+
+    first-5 : sizesB s n len count ≡ true → good ≡ true → eqb k 0 ≡ true → refusedBefore s n len count buffer good k ≡ 5
+    unfolding refusedBefore
+    first-5 y g e = simp (le-leb 44 buffer h, y, g, e)
+
+    first-0 : sizesB s n len count ≡ true → good ≡ true → eqb k 0 ≡ false → refusedBefore s n len count buffer good k ≡ 0
+    unfolding refusedBefore
+    first-0 y g e = simp (le-leb 44 buffer h, y, g, e)
+
+hearing-refused : (n : ℕ) (active : Bool) (rec : Record) (m : Message) (j : ℕ) → eqb j 0 ≡ false
+    → hearingOf n active rec m j ≡ refusedHearing j
+unfolding hearingOf
+hearing-refused n active rec m j e = simp e
+
+-- a message's token, and the slot that has it
+token-same : (d : Decoded) → parsedOf d .message .token ≡ tokenIs d
+token-same (Good m) = refl
+token-same Malformed = refl
+
+refused-same : (j : ℕ) (ls : Links) (rec : Record) → turnedBy ls (refusedOf j rec) ≡ keptBy rec (refusedBy j ls)
+unfolding turnedBy refusedOf keptBy refusedBy
+refused-same j ls rec = refl
+
+module _ (n : ℕ) (ls : Links) (k : ℕ) (rec : Record) (m : Message) where
+  heard-none : eqb k 0 ≡ true → heardBy n ls k rec m ≡ keptBy rec (refusedBy 5 ls)
+  unfolding heardBy settledBy
+  heard-none e = simp e
+
+  heard-some : eqb k 0 ≡ false → heardBy n ls k rec m ≡ turnedBy ls (hearOf n (activeB (ls .active) (rec .id .link)) rec m)
+  unfolding heardBy settledBy
+  heard-some e = simp e
+
+-- THE HEAR
+module _
+    (s n : ℕ) (mem : List ℕ) (t : List Record) (states : LinkStates) (bytes b : List ℕ)
+    (w : Parsed) (ew : w ≡ parsedIn bytes) (token : ℕ) (et : token ≡ w .message .token) (k : ℕ) (ek : k ≡ holderIn t token)
+    (j : ℕ) (ej : j ≡ refusedBefore s n (length mem) (length t) (length b) (w .good) k)
+    (r : Hearing) (er : r ≡ hearingOf n (activeB (states .active) (recordAt t k .id .link)) (recordAt t k) (w .message) j)
+    (c : List ℕ) (ec : c ≡ messageLeft (recordAt t k) r b) (u : List Record) (eu : u ≡ tableLeft t k (w .message) r)
+  where
+    abbrev rec : Record
+    rec = recordAt t k
+
+    abbrev active : Bool
+    active = activeB (states .active) (rec .id .link)
+
+    holder-is : k ≡ holderIn t (tokenIn bytes)
+    unfolding tokenIn parsedIn
+    holder-is = ek ∙ ap (holderIn t) (et ∙ ap (λ (p : Parsed). p .message .token) ew ∙ token-same (decodeOf bytes))
+
+    told : c ≡ cond (r .said .made) (writtenIn (encodeOf (messageOf (toldBy rec r))) b) b
+    unfolding messageLeft
+    told = ec
+
+    long : length (encodeOf (messageOf (toldBy rec r))) ≡ 44
+    long = encode-length (messageOf (toldBy rec r))
+
+    refused-is : (x : ℕ) → j ≡ x → eqb x 0 ≡ false → r ≡ refusedHearing x
+    refused-is x e z = er ∙ ap (hearingOf n active rec (w .message)) e ∙ hearing-refused n active rec (w .message) x z
+
+    -- a buffer of 44 bytes or more
+    module _ (h : 44 ≤ length b) (ls : Links) (ea : ls .active ≡ states .active) where
+      abbrev Done : Type 0
+      Done = Did (groupOf s n t ls mem) (Call.hear bytes) (answerIn (r .said) c) (groupOf s n u ls mem)
+
+      module _ (o : Outcome) (g : Agrees rec (w .message) r o) where
+        message-is : cond (r .said .made) (take 44 c) noMessage ≡ o .message
+        message-is = front (encodeOf (messageOf (toldBy rec r))) b c long h (r .said .made) told ∙ sym (g .message)
+
+        table-is : u ≡ withRecord t k (o .after)
+        table-is = eu ∙ left-is t k (w .message) r (g .apart) ∙ ap (withRecord t k) (sym (g .after))
+
+        settles : Promise s n mem mem t ls (Call.hear bytes) k (turnedBy ls o) [] → Done
+        unfolding turnedBy answerIn
+        settles d =
+            record {
+              answered = (λ i. record { says = sym (g .says) i; made = sym (g .made) i; message = message-is i; out = [] }) ∙ d .answered;
+              left = (λ i. groupOf s n (table-is i) ls mem) ∙ d .left;
+            }
+
+      -- 1, 4 and 5
+      refuses : (x : ℕ) → j ≡ x → eqb x 0 ≡ false → Promise s n mem mem t ls (Call.hear bytes) k (turnedBy ls (refusedOf x rec)) [] → Done
+      refuses x e z =
+          settles (refusedOf x rec)
+          (subst (λ (q : Hearing). Agrees rec (w .message) q (refusedOf x rec)) (sym (refused-is x e z))
+          (refused-agrees rec (w .message) x z))
+
+      unsized : sizesB s n (length mem) (length t) ≡ false → Done
+      unsized y =
+          refuses 1 (ej ∙ first-1 s n (length mem) (length t) (length b) (w .good) k h y) refl
+          (hear-unsized s n t ls mem bytes k holder-is rec refl (turnedBy ls (refusedOf 1 rec)) y (refused-same 1 ls rec))
+
+      module _ (y : sizesB s n (length mem) (length t) ≡ true) where
+        parsed-is : (d : Decoded) → decodeOf bytes ≡ d → w ≡ parsedOf d
+        unfolding parsedIn
+        parsed-is d e = ew ∙ ap parsedOf e
+
+        malformed : decodeOf bytes ≡ Malformed → Done
+        malformed d =
+            refuses 4
+            (ej ∙ first-4 s n (length mem) (length t) (length b) (w .good) k h y (ap (λ (p : Parsed). p .good) (parsed-is Malformed d)))
+            refl
+            (hear-bad s n t ls mem bytes k holder-is rec refl (turnedBy ls (refusedOf 4 rec)) y d (refused-same 4 ls rec))
+
+        module _ (g : w .good ≡ true) (d : decodeOf bytes ≡ Good (w .message)) where
+          by-holder : (z : Bool) → eqb k 0 ≡ z → Done
+          by-holder true z =
+              refuses 5 (ej ∙ first-5 s n (length mem) (length t) (length b) (w .good) k h y g z) refl
+              (hear-good s n t ls mem bytes k holder-is rec refl (turnedBy ls (refusedOf 5 rec)) y (w .message) d
+              (refused-same 5 ls rec ∙ sym (heard-none n ls k rec (w .message) z)))
+          by-holder false z =
+              let o = hearOf n active rec (w .message) in
+              let first = ej ∙ first-0 s n (length mem) (length t) (length b) (w .good) k h y g z in
+              settles o
+              (subst (λ (q : Hearing). Agrees rec (w .message) q o) (sym (er ∙ ap (hearingOf n active rec (w .message)) first))
+              (agree rec (w .message) n active))
+              (hear-good s n t ls mem bytes k holder-is rec refl (turnedBy ls o) y (w .message) d
+              (sym
+              (heard-some n ls k rec (w .message) z
+              ∙ ap (λ (a : List Bool). turnedBy ls (hearOf n (activeB a (rec .id .link)) rec (w .message))) ea)))
+
+        by-bytes : (d : Decoded) → decodeOf bytes ≡ d → Done
+        by-bytes (Good m) d =
+            let e = parsed-is (Good m) d in
+            by-holder (ap (λ (p : Parsed). p .good) e) (d ∙ sym (ap (λ (p : Parsed). Good (p .message)) e)) (eqb k 0) refl
+        by-bytes Malformed d = malformed d
+
+      by-sizes : (y : Bool) → sizesB s n (length mem) (length t) ≡ y → Done
+      by-sizes true y = by-bytes y (decodeOf bytes) refl
+      by-sizes false y = unsized y
+
+      pub hears : Done
+      hears = by-sizes (sizesB s n (length mem) (length t)) refl
+
+    pub buffer-kept : 44 ≤ length b → BufferKept (r .said .made) b c
+    buffer-kept h = kept (encodeOf (messageOf (toldBy rec r))) b c long h (r .said .made) told
+
+    -- a shorter one
+    module _ (h : length b < 44) where
+      short-is : r ≡ refusedHearing 1
+      short-is = refused-is 1 (ej ∙ first-short s n (length mem) (length t) (length b) (w .good) k h) refl
+
+      pub short-table : u ≡ t
+      short-table =
+          eu ∙ ap (tableLeft t k (w .message)) short-is ∙ left-is t k (w .message) (refusedHearing 1) refl ∙ record-kept t k
+
+      pub short-message : c ≡ b
+      unfolding messageLeft
+      short-message = ec ∙ ap (λ (q : Hearing). messageLeft rec q b) short-is
+
+      pub short-answer : r .said ≡ refusedAnswer 1
+      short-answer = ap (λ (q : Hearing). q .said) short-is
+
+pub fordlinnet-make-hear-returns : (s n : ℕ) (mem : List ℕ) (t : List Record) (states : LinkStates) (bytes b : List ℕ)
+    → (w : Parsed) → w ≡ parsedIn bytes → (token : ℕ) → token ≡ w .message .token → (k : ℕ) → k ≡ holderIn t token
+    → (j : ℕ) → j ≡ refusedBefore s n (length mem) (length t) (length b) (w .good) k
+    → (r : Hearing) → r ≡ hearingOf n (activeB (states .active) (recordAt t k .id .link)) (recordAt t k) (w .message) j
+    → (v : Unit {0}) (c : List ℕ) → c ≡ messageLeft (recordAt t k) r b
+    → (x : Unit {0}) (u : List Record) → u ≡ tableLeft t k (w .message) r
+    → (a : HearAnswer) → a ≡ r .said
+    → HearMade s n mem t (states .active) bytes b a u c
+fordlinnet-make-hear-returns s n mem t states bytes b w ew token et k ek j ej r er v c ec x u eu a ea =
+    subst (λ (y : HearAnswer). HearMade s n mem t (states .active) bytes b y u c) (sym ea) (
+      λ h. (
+        λ ls e. hears s n mem t states bytes b w ew token et k ek j ej r er c ec u eu h ls e,
+        buffer-kept s n mem t states bytes b w ew token et k ek j ej r er c ec u eu h,
+      ),
+      λ h. (
+        short-answer s n mem t states bytes b w ew token et k ek j ej r er c ec u eu h,
+        short-table s n mem t states bytes b w ew token et k ek j ej r er c ec u eu h,
+        short-message s n mem t states bytes b w ew token et k ek j ej r er c ec u eu h,
+      ),
+    )

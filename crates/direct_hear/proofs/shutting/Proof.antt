@@ -1,0 +1,15 @@
+-- `direct_hear::shutting` meets its contract. Assumes nothing.
+use Rattle.direct_hear.specs.TableLeft.{slotIf}
+use Rattle.direct_hear.proofs.shutting.Statement.{statement}
+use Rattle.direct_hear.proofs.shutting.Tie as tie
+
+returns : tie.Need-returns
+unfolding slotIf
+returns c = simp (c .if1 .taken)
+
+returns-2 : tie.Need-returns-2
+unfolding slotIf
+returns-2 c = simp (c .if1 .left)
+
+pub shutting-spec : {M : Type 1} → statement M
+shutting-spec = tie.close (tie.spec returns returns-2)

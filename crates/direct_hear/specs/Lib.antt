@@ -1,0 +1,2 @@
+pub mod TableLeft
+pub mod DirectHear

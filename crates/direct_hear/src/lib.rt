@@ -1,0 +1,135 @@
+// Hear, on the lent table itself and with a small answer, for a program in C or Rust (document 01, "Calls of a connection"; document 02,
+// 2026-11). It is given the links' states in place of the links, and writes a message that it makes into a lent buffer.
+//
+// The record is read where it is needed and its changed fields alone are put back, as in crate `direct_read`.
+ghost use mathlib.Core.Path.{_≡_};
+ghost use Rattle.table.specs.Table.{activeB, recordAt, withRecord};
+ghost use Rattle.hearing.specs.Hearing.{hearingOf, recordLeft, messageLeft};
+ghost use Rattle.direct_hear.specs.DirectHear.{HearMade, shapeHearAnswer};
+ghost use Rattle.direct_hear.specs.TableLeft.{slotIf, tableLeft};
+use cdc::Message;
+use connection::Record;
+use direct::LinkStates;
+use hearing::HearAnswer;
+use hearing::Hearing;
+
+// A hear of the record that the slot shows; one outside the table shows all zeros.
+fn hearing_at(
+    n: u32,
+    table: &[Record],
+    links: LinkStates,
+    slot: usize,
+    m: Message,
+    j: u8,
+) -> Hearing
+    ensures { λ r.
+        ⌜ r ≡ hearingOf n (activeB (links .active) (recordAt (now (table .entry)) slot .id .link))
+        (recordAt (now (table .entry)) slot) m j ⌝ }
+{
+    let i = slots::index(slot, table.len());
+    if i < table.len() {
+        let rec = table[i];
+        return hearing::hear_record(n, links, rec, m, j);
+    } else {
+        return hearing::hear_none(j);
+    }
+}
+
+// The slot into which the message is put; 0 for none.
+fn taking(t: Hearing, slot: usize) -> usize
+    ensures { λ r. ⌜ r ≡ slotIf (t .takes) slot ⌝ }
+{
+    if t.takes { slot } else { 0 }
+}
+
+// The slot that is closed; 0 for none.
+fn shutting(t: Hearing, slot: usize) -> usize
+    ensures { λ r. ⌜ r ≡ slotIf (t .closes) slot ⌝ }
+{
+    if t.closes { slot } else { 0 }
+}
+
+fn take_at(table: &mut [Record], slot: usize, m: Message, t: Hearing)
+    ensures { λ _. ⌜ now (table .exit) ≡ withRecord (now (table .entry)) slot (recordLeft (recordAt (now (table .entry)) slot) m t) ⌝ }
+{
+    let i = slots::index(slot, table.len());
+    if i < table.len() {
+        let rec = table[i];
+        let next = hearing::left(rec, m, t);
+        table[i] = next;
+        return;
+    } else {
+        return;
+    }
+}
+
+fn put(table: &mut [Record], slot: usize, m: Message, t: Hearing)
+    ensures { λ _. ⌜ now (table .exit) ≡ tableLeft (now (table .entry)) slot m t ⌝ }
+{
+    let at = taking(t, slot);
+    take_at(table, at, m, t);
+    let gone = shutting(t, slot);
+    let none = connection::zero_record();
+    slots::put_record(table, gone, none);
+}
+
+fn tell_at(table: &[Record], slot: usize, t: Hearing, to: &mut [u8])
+    ensures { λ _. ⌜ now (to .exit) ≡ messageLeft (recordAt (now (table .entry)) slot) t (now (to .entry)) ⌝ }
+{
+    let i = slots::index(slot, table.len());
+    if i < table.len() {
+        let rec = table[i];
+        hearing::tell(rec, t, to);
+        return;
+    } else {
+        let none = connection::zero_record();
+        hearing::tell(none, t, to);
+        return;
+    }
+}
+
+// What the caller sees of it.
+fn answer_of(t: Hearing) -> HearAnswer
+    ensures { λ r. ⌜ r ≡ t .said ⌝ }
+{
+    t.said
+}
+
+// Hears. A buffer for the message under 44 bytes is refused by 1.
+#[no_mangle]
+pub extern "C" fn fordlinnet_make_hear(
+    s: u32,
+    n: u32,
+    mem: &[u8],
+    table: &mut [Record],
+    links: LinkStates,
+    bytes: &[u8],
+    message: &mut [u8],
+) -> HearAnswer
+    ensures { λ r.
+        ⌜ HearMade s n (now (mem .entry)) (now (table .entry)) (links .active) (now (bytes .entry)) (now (message .entry))
+        r (now (table .exit)) (now (message .exit)) ⌝ }
+{
+    let what = hearing::parse(bytes);
+    let token = hearing::token_of(what);
+    let slot = slots::find(table, token);
+    let no = hearing::before(s, n, mem.len(), table.len(), message.len(), what, slot);
+    let m = what.message;
+    let t = hearing_at(n, table, links, slot, m, no);
+    tell_at(table, slot, t, message);
+    put(table, slot, m, t);
+    answer_of(t)
+}
+
+// For a binding's test: the answer filled, as the structs of crate `shapes` are.
+#[no_mangle]
+pub extern "C" fn fordlinnet_shape_hear_answer(one: u32) -> HearAnswer
+    ensures { λ r. ⌜ r ≡ shapeHearAnswer one ⌝ }
+{
+    HearAnswer {
+        refusal: 1,
+        made: one == 2,
+        state: 3,
+        moved: 288230376151711748,
+    }
+}

@@ -1,0 +1,12 @@
+-- `direct_send::moved` meets its contract. Assumes nothing.
+use mathlib.Core.Path.{refl}
+use Rattle.direct_send.specs.Sending.{movedOf}
+use Rattle.direct_send.proofs.moved.Statement.{statement}
+use Rattle.direct_send.proofs.moved.Tie as tie
+
+returns : tie.Need-returns
+unfolding movedOf
+returns c = refl
+
+pub moved-spec : {M : Type 1} → statement M
+moved-spec = tie.close (tie.spec returns)

@@ -1,0 +1,23 @@
+-- `hearing::hear_none` meets its contract. Assumes nothing.
+use borrow.Author.Needs.{needs}
+use borrow.Author.Tests.{eq-eqb, ne-eqb}
+use Rattle.hearing.specs.Hearing.{noneHearing}
+use Rattle.hearing.proofs.hear_none.Statement.{statement}
+use Rattle.hearing.proofs.hear_none.Tie as tie
+
+refused-requires : tie.Need-refused-requires
+refused-requires c κs = search needs
+
+refused-requires-2 : tie.Need-refused-requires-2
+refused-requires-2 c κs = search needs
+
+returns : tie.Need-returns
+unfolding noneHearing
+returns c = simp (eq-eqb _ _ (c .before .if1 .taken), c .refused .ensures)
+
+returns-2 : tie.Need-returns-2
+unfolding noneHearing
+returns-2 c = simp (ne-eqb _ _ (c .before .if1 .left), c .refused2 .ensures)
+
+pub hear-none-spec : {M : Type 1} → statement M
+hear-none-spec = tie.close (tie.spec refused-requires refused-requires-2 returns returns-2)

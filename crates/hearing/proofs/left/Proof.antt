@@ -1,0 +1,24 @@
+-- `hearing::left` meets its contract. Assumes nothing.
+use borrow.Author.Needs.{needs}
+use Rattle.connection.specs.Connection.{marksTo}
+use Rattle.hearing.specs.Hearing.{recordLeft}
+use Rattle.hearing.proofs.left.Statement.{statement}
+use Rattle.hearing.proofs.left.Tie as tie
+
+inbound-left-requires : tie.Need-inbound-left-requires
+inbound-left-requires c κs = search needs
+
+outbound-left-requires : tie.Need-outbound-left-requires
+outbound-left-requires c κs = search needs
+
+marks-heard-requires : tie.Need-marks-heard-requires
+marks-heard-requires c κs = search needs
+
+returns : tie.Need-returns
+unfolding recordLeft marksTo
+returns c =
+    let o = c .before in
+    simp (c .marks-heard .ensures, o .outbound-left .ensures, o .before .inbound-left .ensures)
+
+pub left-spec : {M : Type 1} → statement M
+left-spec = tie.close (tie.spec inbound-left-requires outbound-left-requires marks-heard-requires returns)

@@ -1,0 +1,18 @@
+-- `hearing::outbound_left` meets its contract. Assumes nothing.
+use borrow.Author.Needs.{needs}
+use Rattle.hearing.specs.Hearing.{outboundLeft}
+use Rattle.hearing.proofs.outbound_left.Statement.{statement}
+use Rattle.hearing.proofs.outbound_left.Tie as tie
+
+next-left-requires : tie.Need-next-left-requires
+next-left-requires c κs = search needs
+
+cleared-if-requires : tie.Need-cleared-if-requires
+cleared-if-requires c κs = search needs
+
+returns : tie.Need-returns
+unfolding outboundLeft
+returns c = simp (c .cleared-if .ensures, c .before .next-left .ensures)
+
+pub outbound-left-spec : {M : Type 1} → statement M
+outbound-left-spec = tie.close (tie.spec next-left-requires cleared-if-requires returns)
