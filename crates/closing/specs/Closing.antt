@@ -52,15 +52,10 @@ stateAt k =
     (cond (eqb k 4) AppCloseWait2
     (cond (eqb k 5) PeerAbortWait Closed)))))
 
-abbrev pub weightOf : Bool → ℕ → ℕ
-weightOf true w = w
-weightOf false w = 0
-
 -- the five marks packed: D sent 16, C sent 8, D heard 4, C heard 2, ours first 1
 unfoldable pub packedOf : Marks → ℕ
 packedOf m =
-    weightOf (m .sent .done) 16 + weightOf (m .sent .closed) 8 + weightOf (m .heard .done) 4 + weightOf (m .heard .closed) 2
-    + weightOf (m .first) 1
+    cond (m .sent .done) 16 0 + cond (m .sent .closed) 8 0 + cond (m .heard .done) 4 0 + cond (m .heard .closed) 2 0 + cond (m .first) 1 0
 
 -- sending D or C: the mark "ours first" is set with our first D or C if none was heard
 abbrev pub firstOf : Marks → Bool

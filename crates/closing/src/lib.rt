@@ -1,7 +1,8 @@
 // Close marks, and the state that they name (document 01, "State names"; RFC 7609, Figure 22).
 ghost use mathlib.Core.Path.{_≡_};
+ghost use mathlib.Core.Bool.{cond};
 ghost use Prim.Native.Nat.{_≤_, _<_};
-ghost use Rattle.closing.specs.Closing.{weightOf, packedOf, numberOf, closeStateOf, stateAt, stateOf, firstOf, doneSent, closedSent, abortSent, marksHeard};
+ghost use Rattle.closing.specs.Closing.{packedOf, numberOf, closeStateOf, stateAt, stateOf, firstOf, doneSent, closedSent, abortSent, marksHeard};
 
 // One side's marks: D done writing, C closed.
 #[repr(C)]
@@ -66,7 +67,7 @@ const STATES: [u8; 32] = [
 ];
 
 fn weight(b: bool, w: usize) -> usize
-    ensures { λ r. ⌜ (r ≡ weightOf b w) × (r ≤ w) ⌝ }
+    ensures { λ r. ⌜ (r ≡ cond b w 0) × (r ≤ w) ⌝ }
 {
     if b { w } else { 0 }
 }

@@ -20,8 +20,8 @@ use Rattle.order.proofs.Records.{long-by}
 use Rattle.order.proofs.Near.{enough}
 use Rattle.order.proofs.Slots.{slot-in, open-in, element-long, Put, put}
 use Rattle.safety.specs.Statement.{OpenAt, acceptedB, changedBy}
-use Rattle.safety.specs.Refusals.{lentOut}
-use Rattle.safety.proofs.Answers.{clash}
+use Rattle.refusals.specs.Refusals.{lentOut}
+use Rattle.refusals.proofs.Answers.{clash}
 use Rattle.safety.proofs.Effects.{Openable, open-facts, openTurn, free-facts, freeTurn, Acts, asks, hears, opens, frees, Incoherent, Effect, refuses-it, links-it, samples-it, puts-turn, Quiet, relinked, resampled}
 use Rattle.linktheorems.specs.Statements.{Call as LinkCall}
 use Rattle.safety.specs.Links.{callOf}

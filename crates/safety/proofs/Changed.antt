@@ -11,7 +11,7 @@ use Rattle.element.specs.Element.{splice, freshElement}
 use Rattle.connection.specs.declared.Opening as Given
 use Rattle.rules.specs.Rules.{Request, send, gather, urgent, place, read, shutdown, close, abort, openSlot, freeSlot, linkChange, linkMessage, linkSend, sample, Call, on, hear, manage}
 use Rattle.safety.specs.Statement.{placedBy, changedBy}
-use Rattle.safety.proofs.Answers.{clash}
+use Rattle.refusals.proofs.Answers.{clash}
 
 -- of the bytes e of slot k's element
 pub data Changes (n k : ℕ) (c : Call) (e : List ℕ) : Type 0 where

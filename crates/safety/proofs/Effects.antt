@@ -34,9 +34,9 @@ use Rattle.linktheorems.specs.Statements as Link
 use Rattle.linktheorems.specs.Statements.{Call as LinkCall}
 use Rattle.order.proofs.Slots.{found-open}
 use Rattle.safety.specs.Statement.{OpenAt, ownOf}
-use Rattle.safety.specs.Refusals.{lentOut}
+use Rattle.refusals.specs.Refusals.{lentOut}
 use Rattle.safety.specs.Links.{callOf}
-use Rattle.safety.proofs.Answers.{clash}
+use Rattle.refusals.proofs.Answers.{clash}
 
 -- the turn of an accepted open, and that of an accepted free
 abbrev pub openTurn : Group → Given.Opening → Turn

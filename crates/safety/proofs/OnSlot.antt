@@ -11,7 +11,7 @@ use Rattle.receive.proofs.Laws.{Placeable, place-accepted}
 use Rattle.table.specs.Table.{openB}
 use Rattle.rules.specs.Rules.{Group, Request, place, on, refusal, accepted, saysOf, turnOf, requestTurn, Done, does, answer, refuses, putTurn, onDoes, outOf, recordOf, elementIn, linkOf, sizesOk}
 use Rattle.safety.specs.Statement.{OpenAt}
-use Rattle.safety.proofs.Answers.{clash}
+use Rattle.refusals.proofs.Answers.{clash}
 use Rattle.safety.proofs.Invariant.{Sound, sizes}
 
 module _ (g : Group) (k : ℕ) (q : Request) (ok : sizesOk g ≡ true) where

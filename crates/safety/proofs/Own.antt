@@ -23,7 +23,8 @@ use Rattle.order.proofs.Slots.{open-in, element-long}
 use Rattle.safety.specs.Statement.{acceptedB, changedBy, heldAfter, OpenAt, InData, OwnTouched, SameOwn, dataIn}
 use Rattle.safety.proofs.Invariant.{no-slot-0, Sound, sizes}
 use Rattle.safety.proofs.Changed.{Changes, opens, places, stays, changes}
-use Rattle.safety.proofs.Answers.{clash, says-accepted}
+use Rattle.refusals.proofs.Answers.{clash}
+use Rattle.safety.proofs.Accepted.{says-accepted}
 use Rattle.safety.proofs.Held.{held-next}
 use Rattle.safety.proofs.OnSlot.{placed-inside, on-open, on-closed, on-answer}
 use Rattle.safety.proofs.Lists.{same-byte, splice-none}

@@ -24,7 +24,7 @@ use Rattle.transmit.proofs.Laws.{writes-a-byte, send-takes, send-within, urgent
 use Rattle.receive.specs.Receive.{readForbids, unreadOf, takeOf, readOf}
 use Rattle.rules.specs.Rules.{Group, Request, send, gather, read, on, sent, gathered, saysOf, placingList, turnOf, requestTurn, readInto, Answer, Done, does, answer, refuses, onDoes, outOf, sizesOk, recordOf, elementIn, linkOf}
 use Rattle.safety.specs.Statement.{totalOf, AllWithin, OneByte, plainly, urgently, PlacingsWithin, OneRead}
-use Rattle.safety.proofs.Answers.{clash}
+use Rattle.refusals.proofs.Answers.{clash}
 use Rattle.safety.proofs.OnSlot.{on-was-open, on-answer}
 
 -- the record's law, of the list that the answer names

@@ -18,7 +18,7 @@ use Rattle.outcome.specs.Outcome.{effectOf}
 use Rattle.rules.specs.Rules.{Group, read, on, wasRead, saysOf, readInto, turnOf, requestTurn, answer, recordOf, elementIn, linkOf}
 use Rattle.order.proofs.Slots.{open-in, element-long}
 use Rattle.safety.specs.Statement.{OpenAt, offsetC, offsetFrom}
-use Rattle.safety.proofs.Answers.{clash}
+use Rattle.refusals.proofs.Answers.{clash}
 use Rattle.safety.proofs.Invariant.{Sound, sizes, no-slot-0}
 use Rattle.safety.proofs.OnSlot.{on-was-open, on-answer}
 use Rattle.cursor.specs.Cursor.{gapOf}

@@ -15,7 +15,7 @@ use Rattle.rules.specs.Rules.{Group, read, Call, on, wasRead, answer, recordOf,
 use Rattle.order.specs.Statement.{leaves}
 use Rattle.order.proofs.Slots.{slot-in, open-in, found-open, open-found}
 use Rattle.safety.specs.Statement.{OpenAt, ownOf, offsetC, Apart, TokensApart, AlwaysCoherent, AlwaysIntact, held, heldFrom, Stored, Unstored, offsetFrom, Handed, NoStaleBytes, NobodyElses}
-use Rattle.safety.proofs.Answers.{clash}
+use Rattle.refusals.proofs.Answers.{clash}
 use Rattle.safety.proofs.Invariant.{no-slot-0, Sound}
 use Rattle.safety.proofs.Calls.{call-does}
 use Rattle.safety.proofs.Sound.{sound-fresh, sound-leaves, leaves-sizes}

@@ -27,9 +27,9 @@ use Rattle.finish.proofs.Laws.{shutdown-coherent, close-coherent, abort-coheren
 use Rattle.pieces.specs.Pieces.{piecesOf}
 use Rattle.rules.specs.Rules.{Request, send, gather, urgent, place, read, shutdown, close, abort, refusal, torn, reset, saysOf, inPieces, Turn, turnOf, requestTurn, hearTurn, placedIn}
 use Rattle.safety.specs.Statement.{acceptedB, placedBy}
-use Rattle.safety.proofs.Answers.{Answers, fair-3, fair-torn, send-answers, urgent-answers, place-answers, read-answers, hear-answers, shutdown-answers, close-answers, abort-answers}
+use Rattle.refusals.proofs.Answers.{Answers, fair-3, fair-torn, send-answers, urgent-answers, place-answers, read-answers, hear-answers, shutdown-answers, close-answers, abort-answers}
 use Rattle.safety.proofs.Lists.{splice-none}
-use Rattle.safety.proofs.Gathered.{refused-in, torn-in}
+use Rattle.refusals.proofs.Gathered.{refused-in, torn-in}
 
 -- the turn of an element of n bytes; `now` is what it must hold after
 pub record Kept (n : ℕ) (now : List ℕ) (t : Turn) : Type 0 where

@@ -1,9 +1,2 @@
 pub mod Statement
-pub mod Refusals
 pub mod Links
-pub mod Changes
-pub mod Positions
-pub mod Numbers
-pub mod Gauges
-pub mod Urgent
-pub mod Gather

@@ -1,0 +1,128 @@
+-- What a connection call never answers, once its record is coherent and its element intact: refusal 3, or "torn". Assumes nothing.
+use mathlib.Core.Path.{_≡_}
+use mathlib.Core.Bool.{Bool, true, false, cond}
+use Prim.Native.Nat.{ℕ}
+use native.Mathlib.Omega.{arith}
+use Rattle.cdc.specs.declared.Message.{Message}
+use Rattle.connection.specs.declared.Record.{Record}
+use Rattle.outcome.specs.declared.Reply.{Reply}
+use Rattle.outcome.specs.declared.Reply.the-variants.{Refused, Accepted, Sent, Read, Torn, Reset, Heard, Sampled}
+use Rattle.outcome.specs.declared.Outcome.{Outcome}
+use Rattle.connection.specs.Connection.{coherentB, refusalOf}
+use Rattle.outcome.specs.Outcome.{refusedOf, outcomeOf, urgentOutcome, closedIf}
+use Rattle.transmit.specs.Transmit.{sendOf, sentOf, urgentOf, urgentSendOf}
+use Rattle.receive.specs.Receive.{placeOf, readOf, takeOf}
+use Rattle.hear.specs.Hear.{ruledOf, hearOf, abortedOf, followedOf, acceptedOf}
+use Rattle.finish.specs.Finish.{resetOf, closingOf, shutdownOf, closeOf, abortOf}
+use Rattle.rules.specs.Rules.{refusal, torn, saysOf}
+
+-- from an equation of two constructors
+pub clash : {A : Type 0} → _≡_ {A = ℕ} 0 1 → A
+clash e = absurd (omega (arith, e))
+
+-- neither refusal 3 nor torn
+abbrev Fair : Reply → Type 0
+Fair (Refused k) = k ≡ 3 → ⊥
+Fair Accepted = Unit {0}
+Fair (Sent n p) = Unit {0}
+Fair (Read n) = Unit {0}
+Fair Torn = ⊥
+Fair (Heard moved state) = Unit {0}
+Fair Reset = Unit {0}
+Fair (Sampled q) = Unit {0}
+
+pub fair-3 : (r : Reply) → Fair r → saysOf r ≡ refusal 3 → ⊥
+fair-3 (Refused k) f e = f (cc)
+fair-3 Accepted f e = clash (cc)
+fair-3 (Sent n p) f e = clash (cc)
+fair-3 (Read n) f e = clash (cc)
+fair-3 Torn f e = f
+fair-3 (Heard moved state) f e = clash (cc)
+fair-3 Reset f e = clash (cc)
+fair-3 (Sampled q) f e = clash (cc)
+
+pub fair-torn : (r : Reply) → Fair r → saysOf r ≡ torn → ⊥
+fair-torn (Refused k) f e = clash (cc)
+fair-torn Accepted f e = clash (cc)
+fair-torn (Sent n p) f e = clash (cc)
+fair-torn (Read n) f e = clash (cc)
+fair-torn Torn f e = f
+fair-torn (Heard moved state) f e = clash (cc)
+fair-torn Reset f e = clash (cc)
+fair-torn (Sampled q) f e = clash (cc)
+
+pub record Answers (o : Outcome) : Type 0 where
+  pub fair : Fair (o .reply)
+
+module _ (n : ℕ) (active : Bool) (c : Record) (ok : coherentB n c ≡ true) where
+  by-test : (t : Bool) (o p : Outcome) → Answers o → Answers p → Answers (cond t o p)
+  by-test true o p h k = h
+  by-test false o p h k = k
+
+  -- what is tested before all else is never 3
+  first : (forbids : Bool) → Answers (refusedOf (refusalOf n active c forbids) c)
+  unfolding refusedOf refusalOf
+  first forbids = record { fair = rw ok (go active forbids) }
+    where
+      go : (a f : Bool) → _≡_ {A = ℕ} (cond a (cond f 7 0) 6) 3 → ⊥
+      go true true e = omega (arith, e)
+      go true false e = omega (arith, e)
+      go false f e = omega (arith, e)
+
+  cursors : Answers (refusedOf 8 c)
+  unfolding refusedOf
+  cursors = record { fair = λ e. omega (arith, e) }
+
+  number : Answers (refusedOf 16 c)
+  unfolding refusedOf
+  number = record { fair = λ e. omega (arith, e) }
+
+  outside : Answers (refusedOf 9 c)
+  unfolding refusedOf
+  outside = record { fair = λ e. omega (arith, e) }
+
+  outcome : (r : Reply) (t : Bool) (d : Record) → Fair r → Answers (outcomeOf r t d)
+  unfolding outcomeOf
+  outcome r true d h = record { fair = h }
+  outcome r false d h = record { fair = h }
+
+  short : (r : Reply) (m : Message) (d : Record) → Fair r → Answers (urgentOutcome r m d)
+  unfolding urgentOutcome
+  short r m d h = record { fair = h }
+
+  shut : (t : Bool) (o : Outcome) → Answers o → Answers (closedIf t o)
+  unfolding closedIf
+  shut true o h = record { fair = h .fair }
+  shut false o h = h
+
+  pub send-answers : (k : ℕ) → Answers (sendOf n active c k)
+  unfolding sendOf sentOf
+  send-answers k = search (by-test, first, outcome) depth 9
+
+  pub urgent-answers : (k : ℕ) → Answers (urgentSendOf n active c k)
+  unfolding urgentSendOf urgentOf
+  urgent-answers k = search (by-test, first, outcome, short) depth 9
+
+  pub place-answers : (at k : ℕ) → Answers (placeOf n active c at k)
+  unfolding placeOf
+  place-answers at k = search (by-test, first, outside, outcome) depth 9
+
+  pub read-answers : (k : ℕ) → Answers (readOf n active c true k)
+  unfolding readOf takeOf
+  read-answers k = search (by-test, first, outcome) depth 9
+
+  pub hear-answers : (m : Message) → Answers (hearOf n active c m)
+  unfolding hearOf abortedOf followedOf ruledOf acceptedOf
+  hear-answers m = search (by-test, first, number, cursors, outcome, shut) depth 9
+
+  pub shutdown-answers : Answers (shutdownOf n active c)
+  unfolding shutdownOf
+  shutdown-answers = search (by-test, first, outcome) depth 9
+
+  pub close-answers : Answers (closeOf n active c)
+  unfolding closeOf resetOf closingOf
+  close-answers = search (by-test, first, outcome, shut) depth 9
+
+  pub abort-answers : Answers (abortOf n active c)
+  unfolding abortOf
+  abort-answers = search (by-test, first, outcome) depth 9

@@ -1,0 +1,2 @@
+pub mod Urgent
+pub mod Gather
