@@ -74,53 +74,67 @@ impl Bench {
         self.table[case.slot as usize - 1] = case.before;
     }
 
-    /// What the answer says, as numbers, so that nothing of it can be left out.
+    /// The call alone: its answer is laid where all of it can be seen, and not looked at.
     #[inline(never)]
-    fn ours(&mut self, case: &Case) -> (u64, Option<[u8; 44]>) {
+    fn ours(&mut self, case: &Case) {
         let mut group = Group::lend(case.s, N, &mut self.memory[..], &mut self.table[..], &mut self.links);
         match case.what {
-            What::Read => match black_box(group.read(case.slot, &mut self.out[..])) {
+            What::Read => drop(black_box(&group.read(case.slot, &mut self.out[..]))),
+            What::Place => drop(black_box(&group.place(case.slot, case.offset, &self.bytes[..case.count]))),
+            What::Send => drop(black_box(&group.send(case.slot, &self.bytes[..case.count]))),
+            What::Hear => drop(black_box(&group.hear(&case.message))),
+        }
+    }
+
+    #[inline(never)]
+    fn plain(&mut self, case: &Case) {
+        let mut group = plain::Group { s: case.s, n: N, memory: &mut self.memory, table: &mut self.table, active: &self.links.active };
+        match case.what {
+            What::Read => drop(black_box(&group.read(case.slot, &mut self.out[..]))),
+            What::Place => drop(black_box(&group.place(case.slot, case.offset, &self.bytes[..case.count]))),
+            What::Send => drop(black_box(&group.send(case.slot, &self.bytes[..case.count]))),
+            What::Hear => drop(black_box(&group.hear(&case.message))),
+        }
+    }
+
+    /// What our answer says, as numbers.
+    fn our_answer(&mut self, case: &Case) -> (u64, Option<[u8; 44]>) {
+        let mut group = Group::lend(case.s, N, &mut self.memory[..], &mut self.table[..], &mut self.links);
+        match case.what {
+            What::Read => match group.read(case.slot, &mut self.out[..]) {
                 Ok(Read::Bytes { count, message }) => (count as u64, message.map(Into::into)),
                 Ok(Read::Torn { message }) => (0, Some(message.into())),
                 Err(_) => (u64::MAX, None),
             },
             What::Place => {
-                let placed = black_box(group.place(case.slot, case.offset, &self.bytes[..case.count]));
+                let placed = group.place(case.slot, case.offset, &self.bytes[..case.count]);
                 (u64::from(placed.is_ok()), None)
             }
             What::Send => {
-                let sent = black_box(group.send(case.slot, &self.bytes[..case.count]));
+                let sent = group.send(case.slot, &self.bytes[..case.count]);
                 sent.map_or((u64::MAX, None), |s| (s.taken as u64, s.message.map(Into::into)))
             }
-            What::Hear => {
-                let heard = black_box(group.hear(&case.message));
-                heard.map_or((u64::MAX, None), |h| (h.moved, h.message.map(Into::into)))
-            }
+            What::Hear => group.hear(&case.message).map_or((u64::MAX, None), |h| (h.moved, h.message.map(Into::into))),
         }
     }
 
-    #[inline(never)]
-    fn plain(&mut self, case: &Case) -> (u64, Option<[u8; 44]>) {
-        let mut group =
-            plain::Group { s: case.s, n: N, memory: &mut self.memory[..], table: &mut self.table[..], active: &self.links.active };
+    fn plain_answer(&mut self, case: &Case) -> (u64, Option<[u8; 44]>) {
+        let mut group = plain::Group { s: case.s, n: N, memory: &mut self.memory, table: &mut self.table, active: &self.links.active };
         match case.what {
-            What::Read => match black_box(group.read(case.slot, &mut self.out[..])) {
+            What::Read => match group.read(case.slot, &mut self.out[..]) {
                 Ok(plain::Read::Bytes { count, message }) => (count.into(), message),
                 Ok(plain::Read::Torn { message }) => (0, Some(message)),
                 Err(_) => (u64::MAX, None),
             },
             What::Place => {
-                let placed = black_box(group.place(case.slot, case.offset, &self.bytes[..case.count]));
+                let placed = group.place(case.slot, case.offset, &self.bytes[..case.count]);
                 (u64::from(placed.is_ok()), None)
             }
             What::Send => {
-                let sent = black_box(group.send(case.slot, &self.bytes[..case.count]));
+                let sent = group.send(case.slot, &self.bytes[..case.count]);
                 sent.map_or((u64::MAX, None), |s| (s.taken.into(), s.message))
             }
-            What::Hear => {
-                let heard = black_box(group.hear(&case.message));
-                heard.map_or((u64::MAX, None), |h| (h.moved, h.message))
-            }
+            What::Hear => group.hear(&case.message).map_or((u64::MAX, None), |h| (h.moved, h.message)),
         }
     }
 }
@@ -253,8 +267,8 @@ fn time(case: &Case, bench: &mut Bench) -> [f64; 3] {
                 bench.lay(case);
                 match way {
                     0 => {}
-                    1 => drop(black_box(bench.ours(case))),
-                    _ => drop(black_box(bench.plain(case))),
+                    1 => bench.ours(case),
+                    _ => bench.plain(case),
                 }
             }
             best[way] = best[way].min(start.elapsed().as_nanos() as f64 / turns as f64);
@@ -286,9 +300,9 @@ fn main() {
             continue;
         }
         let mut bench = Bench::new(&case);
-        let ours = bench.ours(&case);
+        let ours = bench.our_answer(&case);
         bench.lay(&case);
-        assert!(ours == bench.plain(&case), "{what}: not the same answer");
+        assert!(ours == bench.plain_answer(&case), "{what}: not the same answer");
         let expected = if case.words == "refused" { u64::MAX } else { ours.0 };
         assert!(ours.0 == expected && ours.1.is_some() == case.tells, "{what} {}: another answer", case.count);
         let [laid, ours, plain] = time(&case, &mut bench);

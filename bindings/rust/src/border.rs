@@ -4,8 +4,9 @@
 //! valid for their lengths, buffers that do not overlap, and bools that are 0 or 1. Rust's own types keep all of this, and whoever
 //! implements [`Memory`] by hand promises it.
 
-use crate::{Links, Opening, Placing, Record, Role};
+use crate::{Heard, Links, Message, Opening, Placing, Placings, Read, Record, Refusal, Role, Sent, State};
 use std::marker::PhantomData;
+use std::mem::MaybeUninit;
 
 #[cfg(test)]
 mod shapes;
@@ -499,18 +500,37 @@ pub(crate) fn make<M: Memory + ?Sized>(lent: Lent<'_, M>, links: &mut Links, com
     answer
 }
 
-/// Reads, on the table itself. A message that is made stands in `message`, which else stays as it is.
+/// Where a call lays the message that it makes: it writes all 44 bytes, and none where it makes no message.
+struct Unwritten(MaybeUninit<[u8; Message::SIZE]>);
+
+impl Unwritten {
+    #[inline]
+    fn new() -> Unwritten {
+        Unwritten(MaybeUninit::uninit())
+    }
+
+    #[inline]
+    fn as_mut_ptr(&mut self) -> *mut u8 {
+        self.0.as_mut_ptr().cast()
+    }
+
+    /// # Safety
+    ///
+    /// The call that was lent the buffer has said that it made a message.
+    #[inline]
+    unsafe fn message(self) -> Message {
+        // SAFETY: a call that says so has written every byte.
+        Message::made(unsafe { self.0.assume_init() })
+    }
+}
+
+/// Reads, on the table itself.
 #[inline]
-pub(crate) fn read<M: Memory + ?Sized>(
-    lent: Lent<'_, M>,
-    active: [bool; 4],
-    slot: u32,
-    out: &mut [u8],
-    message: &mut [u8; 44],
-) -> ReadAnswer {
+pub(crate) fn read<M: Memory + ?Sized>(lent: Lent<'_, M>, active: [bool; 4], slot: u32, out: &mut [u8]) -> Result<Read, Refusal> {
     let (memory, length) = lent.memory.parts();
+    let mut message = Unwritten::new();
     // SAFETY: as in `make`.
-    unsafe {
+    let answer = unsafe {
         fordlinnet_make_read(
             lent.s,
             lent.n,
@@ -523,9 +543,22 @@ pub(crate) fn read<M: Memory + ?Sized>(
             out.as_mut_ptr(),
             out.len(),
             message.as_mut_ptr(),
-            message.len(),
+            Message::SIZE,
         )
+    };
+    if answer.refusal != 0 {
+        return Err(crate::refusal::given(answer.refusal.into()));
     }
+    if answer.torn {
+        // SAFETY: a torn element is always told.
+        return Ok(Read::Torn { message: unsafe { message.message() } });
+    }
+    let count = answer.count as usize;
+    if answer.made {
+        // SAFETY: it has said so.
+        return Ok(Read::Bytes { count, message: Some(unsafe { message.message() }) });
+    }
+    Ok(Read::Bytes { count, message: None })
 }
 
 /// Places, on the table itself: a refusal's number, or 0 where the bytes are stored.
@@ -550,18 +583,13 @@ pub(crate) fn place<M: Memory + ?Sized>(lent: Lent<'_, M>, active: [bool; 4], sl
     }
 }
 
-/// Sends, on the table itself. A message that is made stands in `message`, which else stays as it is.
+/// Sends, on the table itself.
 #[inline]
-pub(crate) fn send<M: Memory + ?Sized>(
-    lent: Lent<'_, M>,
-    active: [bool; 4],
-    slot: u32,
-    bytes: &[u8],
-    message: &mut [u8; 44],
-) -> SendAnswer {
+pub(crate) fn send<M: Memory + ?Sized>(lent: Lent<'_, M>, active: [bool; 4], slot: u32, bytes: &[u8]) -> Result<Sent, Refusal> {
     let (memory, length) = lent.memory.parts();
+    let mut message = Unwritten::new();
     // SAFETY: as in `make`.
-    unsafe {
+    let answer = unsafe {
         fordlinnet_make_send(
             lent.s,
             lent.n,
@@ -574,17 +602,27 @@ pub(crate) fn send<M: Memory + ?Sized>(
             bytes.as_ptr(),
             bytes.len(),
             message.as_mut_ptr(),
-            message.len(),
+            Message::SIZE,
         )
+    };
+    if answer.refusal != 0 {
+        return Err(crate::refusal::given(answer.refusal.into()));
     }
+    let (taken, placings) = (answer.taken as usize, Placings::new(answer.both, answer.placings.into()));
+    if answer.made {
+        // SAFETY: it has said so.
+        return Ok(Sent { taken, placings, message: Some(unsafe { message.message() }) });
+    }
+    Ok(Sent { taken, placings, message: None })
 }
 
-/// Hears, on the table itself. A message that is made stands in `message`, which else stays as it is.
+/// Hears, on the table itself.
 #[inline]
-pub(crate) fn hear<M: Memory + ?Sized>(lent: Lent<'_, M>, active: [bool; 4], bytes: &[u8], message: &mut [u8; 44]) -> HearAnswer {
+pub(crate) fn hear<M: Memory + ?Sized>(lent: Lent<'_, M>, active: [bool; 4], bytes: &[u8]) -> Result<Heard, Refusal> {
     let (memory, length) = lent.memory.parts();
+    let mut message = Unwritten::new();
     // SAFETY: as in `make`.
-    unsafe {
+    let answer = unsafe {
         fordlinnet_make_hear(
             lent.s,
             lent.n,
@@ -596,9 +634,18 @@ pub(crate) fn hear<M: Memory + ?Sized>(lent: Lent<'_, M>, active: [bool; 4], byt
             bytes.as_ptr(),
             bytes.len(),
             message.as_mut_ptr(),
-            message.len(),
+            Message::SIZE,
         )
+    };
+    if answer.refusal != 0 {
+        return Err(crate::refusal::given(answer.refusal.into()));
     }
+    let (moved, state) = (answer.moved, State::ALL[answer.state as usize]);
+    if answer.made {
+        // SAFETY: it has said so.
+        return Ok(Heard { moved, state, message: Some(unsafe { message.message() }) });
+    }
+    Ok(Heard { moved, state, message: None })
 }
 
 /// Sends a head and a body as if joined.

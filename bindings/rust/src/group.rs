@@ -3,7 +3,7 @@
 use crate::border::{self, health, said, Answer, Command, Lent, Memory, Number};
 use crate::{
     Closed, Exchange, Gathered, Health, Heard, LinkFields, LinkHeard, LinkSent, Links, Message, Opening, Placings, Queue, Read, Record,
-    Refusal, Role, Sent, State,
+    Refusal, Role, Sent,
 };
 use std::borrow::BorrowMut;
 
@@ -338,14 +338,8 @@ where
     #[inline]
     pub fn send(&mut self, slot: u32, bytes: &[u8]) -> Result<Sent, Refusal> {
         let lent = Lent { s: self.s, n: self.n, memory: &mut self.memory, table: self.table.as_mut() };
-        let mut message = [0; 44];
         let links: &Links = self.links.borrow();
-        let answer = border::send(lent, links.active, slot, bytes, &mut message);
-        if answer.refusal != 0 {
-            return Err(crate::refusal::given(answer.refusal.into()));
-        }
-        let placings = Placings::new(answer.both, answer.placings.into());
-        Ok(Sent { taken: answer.taken as usize, placings, message: answer.made.then(|| Message::made(message)) })
+        border::send(lent, links.active, slot, bytes)
     }
 
     /// Sends urgent bytes. Taken whole, they hold back later sends until the peer has read them.
@@ -406,16 +400,8 @@ where
     #[inline]
     pub fn read(&mut self, slot: u32, out: &mut [u8]) -> Result<Read, Refusal> {
         let lent = Lent { s: self.s, n: self.n, memory: &mut self.memory, table: self.table.as_mut() };
-        let mut message = [0; 44];
         let links: &Links = self.links.borrow();
-        let answer = border::read(lent, links.active, slot, out, &mut message);
-        if answer.refusal != 0 {
-            return Err(crate::refusal::given(answer.refusal.into()));
-        }
-        if answer.torn {
-            return Ok(Read::Torn { message: Message::made(message) });
-        }
-        Ok(Read::Bytes { count: answer.count as usize, message: answer.made.then(|| Message::made(message)) })
+        border::read(lent, links.active, slot, out)
     }
 
     /// Takes a message from the peer, for the slot whose token it carries.
@@ -428,14 +414,8 @@ where
     #[inline]
     pub fn hear(&mut self, bytes: &[u8]) -> Result<Heard, Refusal> {
         let lent = Lent { s: self.s, n: self.n, memory: &mut self.memory, table: self.table.as_mut() };
-        let mut message = [0; 44];
         let links: &Links = self.links.borrow();
-        let answer = border::hear(lent, links.active, bytes, &mut message);
-        if answer.refusal != 0 {
-            return Err(crate::refusal::given(answer.refusal.into()));
-        }
-        let message = answer.made.then(|| Message::made(message));
-        Ok(Heard { moved: answer.moved, state: State::ALL[answer.state as usize], message })
+        border::hear(lent, links.active, bytes)
     }
 
     /// Sends D: we are done writing.

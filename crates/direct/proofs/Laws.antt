@@ -48,23 +48,28 @@ module _ (s n : ℕ) (active : List Bool) (k : ℕ) (c : Record) {b : Bool} (e :
   unfolding heldOf
   held-none h = simp (← e, h)
 
--- the walk of `refusal_at`
+-- the walks of `held_at` and `refusal_at`
+pub held-at-returns : (s n : ℕ) (t : List Record) (links : LinkStates) (k : ℕ) (i : ℕ) → i ≡ indexOf k (length t) → Holds (ltb i (length t))
+    → (j : ℕ) → j ≡ heldOf s n (links .active) k (getD t i zeroRecord) → j ≡ heldOf s n (links .active) k (recordAt t k)
+held-at-returns s n t links k i e h j f = f ∙ ap (heldOf s n (links .active) k) (record-at-returns t k i e h)
+
+pub held-at-returns-2 : (s n : ℕ) (t : List Record) (links : LinkStates) (k : ℕ)
+    → (i : ℕ) → i ≡ indexOf k (length t) → Holds (not (ltb i (length t))) → 2 ≡ heldOf s n (links .active) k (recordAt t k)
+held-at-returns-2 s n t links k i e h =
+    sym (held-shut s n (links .active) k) ∙ ap (heldOf s n (links .active) k) (record-at-returns-2 t k i e h zeroRecord refl)
+
 module _ (s n len : ℕ) (t : List Record) (links : LinkStates) (k : ℕ) where
-  refusal-of : (sized : Bool) → sized ≡ sizesB s n len (length t) → (j : ℕ) → j ≡ heldOf s n (links .active) k (recordAt t k)
-      → cond sized j 1 ≡ refusalAt s n len t (links .active) k
+  sized-is : (b : Bool) → sizesB s n len (length t) ≡ b
+      → refusalAt s n len t (links .active) k ≡ cond b (heldOf s n (links .active) k (recordAt t k)) 1
   unfolding refusalAt
-  refusal-of sized z j f = ap (λ (b : Bool). cond b j 1) z ∙ ap (λ (i : ℕ). cond (sizesB s n len (length t)) i 1) f
+  sized-is b e = ap (λ (x : Bool). cond x (heldOf s n (links .active) k (recordAt t k)) 1) e
 
-  module _ (sized : Bool) (z : sized ≡ sizesB s n len (length t)) (i : ℕ) (e : i ≡ indexOf k (length t)) where
-    pub refusal-at-returns : Holds (ltb i (length t)) → (j : ℕ) → j ≡ heldOf s n (links .active) k (getD t i zeroRecord)
-        → (r : ℕ) → r ≡ cond sized j 1 → r ≡ refusalAt s n len t (links .active) k
-    refusal-at-returns h j f r g =
-        g ∙ refusal-of sized z j (f ∙ ap (heldOf s n (links .active) k) (record-at-returns t k i e h))
+  pub refusal-at-returns : (b : Bool) → b ≡ sizesB s n len (length t) → Holds b
+      → (j : ℕ) → j ≡ heldOf s n (links .active) k (recordAt t k) → j ≡ refusalAt s n len t (links .active) k
+  refusal-at-returns true e h j f = f ∙ sym (sized-is true (sym e))
 
-    pub refusal-at-returns-2 : Holds (not (ltb i (length t))) → (r : ℕ) → r ≡ cond sized 2 1 → r ≡ refusalAt s n len t (links .active) k
-    refusal-at-returns-2 h r g =
-        let closed = record-at-returns-2 t k i e h zeroRecord refl in
-        g ∙ refusal-of sized z 2 (sym (held-shut s n (links .active) k) ∙ ap (heldOf s n (links .active) k) closed)
+  pub refusal-at-returns-2 : (b : Bool) → b ≡ sizesB s n len (length t) → Holds (not b) → 1 ≡ refusalAt s n len t (links .active) k
+  refusal-at-returns-2 false e h = sym (sized-is false (sym e))
 
 -- a turn's store: one more byte of s at the front of d
 front-suc : (s d : List ℕ) (i : ℕ) → i < length s → i < length d

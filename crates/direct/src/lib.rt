@@ -1,7 +1,7 @@
 // What the calls that change a record where it lies in the lent table share (document 02, 2026-11): which links are active, what a call on
 // a slot tests first, and a message written into a lent buffer.
 ghost use mathlib.Core.Path.{_≡_};
-ghost use Rattle.table.specs.Table.{activeB, indexOf};
+ghost use Rattle.table.specs.Table.{activeB, indexOf, recordAt};
 ghost use Rattle.direct.specs.Direct.{heldOf, refusalAt, writtenIn};
 use connection::Record;
 
@@ -29,8 +29,8 @@ pub fn link_active(links: LinkStates, link: u8) -> bool
 fn held(s: u32, n: u32, links: LinkStates, slot: u32, rec: Record) -> u8
     ensures { λ r. ⌜ r ≡ heldOf s n (links .active) slot rec ⌝ }
 {
-    let active = link_active(links, rec.id.link);
     if table::slot_ok(s, slot) & rec.id.opened {
+        let active = link_active(links, rec.id.link);
         connection::refusal(n, active, rec, false)
     } else {
         2
@@ -44,18 +44,28 @@ pub fn place_of(slot: u32, count: usize) -> usize
     slots::index(slot as usize, count)
 }
 
-// The same of the slot's record, and 1 before it.
+// The same of the slot's record; one outside the table is closed.
+fn held_at(s: u32, n: u32, table: &[Record], links: LinkStates, slot: u32) -> u8
+    ensures { λ r. ⌜ r ≡ heldOf s n (links .active) slot (recordAt (now (table .entry)) slot) ⌝ }
+{
+    let i = place_of(slot, table.len());
+    if i < table.len() {
+        let rec = table[i];
+        return held(s, n, links, slot, rec);
+    } else {
+        return 2;
+    }
+}
+
+// And 1 before it.
 pub fn refusal_at(s: u32, n: u32, len: usize, table: &[Record], links: LinkStates, slot: u32) -> u8
     ensures { λ r. ⌜ r ≡ refusalAt s n len (now (table .entry)) (links .active) slot ⌝ }
 {
     let sized = table::sizes_ok(s, n, len, table.len());
-    let i = place_of(slot, table.len());
-    if i < table.len() {
-        let rec = table[i];
-        let no = held(s, n, links, slot, rec);
-        return table::refusal_if(sized, no, 1);
+    if sized {
+        return held_at(s, n, table, links, slot);
     } else {
-        return table::refusal_if(sized, 2, 1);
+        return 1;
     }
 }
 

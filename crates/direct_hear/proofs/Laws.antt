@@ -3,9 +3,10 @@ use Prim.Native.Nat.{ℕ, _≤_, _<_}
 use mathlib.Core.Path.{_≡_, refl, sym, ap, _∙_, subst}
 use mathlib.Core.Bool.{Bool, true, false, _&&_, not, cond, false≢true}
 use mathlib.Core.List.{List, []}
-use lib.Dec.{T as Holds, ltb, eqb}
+use native.Mathlib.Omega.{arith}
+use lib.Dec.{T as Holds, ltb, eqb, ltb→lt, nltb→le}
 use lib.ListN.{length, take, getD, set}
-use borrow.Author.Tests.{le-leb, lt-leb}
+use borrow.Author.Tests.{le-leb, lt-leb, ne-eqb}
 use Rattle.cdc.specs.declared.Message.{Message}
 use Rattle.cdc.specs.declared.Decoded.{Decoded}
 use Rattle.cdc.specs.declared.Decoded.the-variants.{Good, Malformed}
@@ -33,7 +34,7 @@ use Rattle.hearing.specs.declared.Parsed.{Parsed}
 use Rattle.hearing.specs.declared.Hearing.{Hearing}
 use Rattle.hearing.specs.Hearing.{parsedOf, parsedIn, refusedBefore, refusedHearing, hearingOf, noneHearing}
 use Rattle.hearing.specs.Hearing.{recordLeft, toldBy, messageLeft}
-use Rattle.direct_hear.specs.TableLeft.{slotIf, tableLeft}
+use Rattle.direct_hear.specs.TableLeft.{slotIf, tableLeft, HeardBy}
 use Rattle.direct_hear.specs.DirectHear.{answerIn, refusedAnswer, HearMade}
 use Rattle.direct_hear.proofs.Agree.{leftOf, Agrees, refused-agrees, agree}
 
@@ -277,23 +278,55 @@ module _
       pub short-answer : r .said ≡ refusedAnswer 1
       short-answer = ap (λ (q : Hearing). q .said) short-is
 
+-- THE PARTS OF THE CALL
+pub hear-on-returns : (n : ℕ) (t : List Record) (links : LinkStates) (k : ℕ) (m : Message) (b : List ℕ)
+    → (r : Hearing) → r ≡ hearingOf n (activeB (links .active) (recordAt t k .id .link)) (recordAt t k) m 0
+    → (v : Unit {0}) (c : List ℕ) → c ≡ messageLeft (recordAt t k) r b
+    → (x : Unit {0}) (u : List Record) → u ≡ tableLeft t k m r
+    → (a : HearAnswer) → a ≡ r .said
+    → HeardBy 0 n t (links .active) k m b a u c
+hear-on-returns n t links k m b r er v c ec x u eu a ea = (
+  ea ∙ ap (λ (q : Hearing). q .said) er,
+  eu ∙ ap (tableLeft t k m) er,
+  ec ∙ ap (λ (q : Hearing). messageLeft (recordAt t k) q b) er,
+)
+
+none-refused : (j : ℕ) → eqb j 0 ≡ false → noneHearing j ≡ refusedHearing j
+unfolding noneHearing
+none-refused j e = simp e
+
+pub hear-unless-returns : (j n : ℕ) (t : List Record) (links : LinkStates) (k : ℕ) (m : Message) (b : List ℕ) → Holds (ltb 0 j)
+    → (r : Hearing) → r ≡ noneHearing j → (a : HearAnswer) → a ≡ r .said → HeardBy j n t (links .active) k m b a t b
+unfolding messageLeft
+hear-unless-returns j n t links k m b h r er a ea =
+    let z = ne-eqb j 0 (λ e. absurd (omega (arith, e, ltb→lt 0 j h))) in
+    let e = hearing-refused n (activeB (links .active) (recordAt t k .id .link)) (recordAt t k) m j z in (
+      ea ∙ ap (λ (q : Hearing). q .said) (er ∙ none-refused j z ∙ sym e),
+      sym (ap (tableLeft t k m) e ∙ left-is t k m (refusedHearing j) refl ∙ record-kept t k),
+      sym (ap (λ (q : Hearing). messageLeft (recordAt t k) q b) e),
+    )
+
+pub hear-unless-returns-2 : (j n : ℕ) (t : List Record) (links : LinkStates) (k : ℕ) (m : Message) (b : List ℕ) → Holds (not (ltb 0 j))
+    → (a : HearAnswer) (u : List Record) (c : List ℕ) → HeardBy 0 n t (links .active) k m b a u c
+    → HeardBy j n t (links .active) k m b a u c
+hear-unless-returns-2 j n t links k m b h a u c e =
+    let z : 0 ≡ j = omega (arith, nltb→le 0 j h) in subst (λ (x : ℕ). HeardBy x n t (links .active) k m b a u c) z e
+
 pub fordlinnet-make-hear-returns : (s n : ℕ) (mem : List ℕ) (t : List Record) (states : LinkStates) (bytes b : List ℕ)
     → (w : Parsed) → w ≡ parsedIn bytes → (token : ℕ) → token ≡ w .message .token → (k : ℕ) → k ≡ holderIn t token
     → (j : ℕ) → j ≡ refusedBefore s n (length mem) (length t) (length b) (w .good) k
-    → (r : Hearing) → r ≡ hearingOf n (activeB (states .active) (recordAt t k .id .link)) (recordAt t k) (w .message) j
-    → (v : Unit {0}) (c : List ℕ) → c ≡ messageLeft (recordAt t k) r b
-    → (x : Unit {0}) (u : List Record) → u ≡ tableLeft t k (w .message) r
-    → (a : HearAnswer) → a ≡ r .said
+    → (a : HearAnswer) (u : List Record) (c : List ℕ) → HeardBy j n t (states .active) k (w .message) b a u c
     → HearMade s n mem t (states .active) bytes b a u c
-fordlinnet-make-hear-returns s n mem t states bytes b w ew token et k ek j ej r er v c ec x u eu a ea =
+fordlinnet-make-hear-returns s n mem t states bytes b w ew token et k ek j ej a u c (ea, eu, ec) =
+    let r = hearingOf n (activeB (states .active) (recordAt t k .id .link)) (recordAt t k) (w .message) j in
     subst (λ (y : HearAnswer). HearMade s n mem t (states .active) bytes b y u c) (sym ea) (
       λ h. (
-        λ ls e. hears s n mem t states bytes b w ew token et k ek j ej r er c ec u eu h ls e,
-        buffer-kept s n mem t states bytes b w ew token et k ek j ej r er c ec u eu h,
+        λ ls e. hears s n mem t states bytes b w ew token et k ek j ej r refl c ec u eu h ls e,
+        buffer-kept s n mem t states bytes b w ew token et k ek j ej r refl c ec u eu h,
       ),
       λ h. (
-        short-answer s n mem t states bytes b w ew token et k ek j ej r er c ec u eu h,
-        short-table s n mem t states bytes b w ew token et k ek j ej r er c ec u eu h,
-        short-message s n mem t states bytes b w ew token et k ek j ej r er c ec u eu h,
+        short-answer s n mem t states bytes b w ew token et k ek j ej r refl c ec u eu h,
+        short-table s n mem t states bytes b w ew token et k ek j ej r refl c ec u eu h,
+        short-message s n mem t states bytes b w ew token et k ek j ej r refl c ec u eu h,
       ),
     )

@@ -36,7 +36,3 @@ abbrev pub HearMade : ℕ → ℕ → List ℕ → List Record → List Bool →
 HearMade s n m t active bytes b r u c =
     (44 ≤ length b → Hears s n m t active bytes r u c × BufferKept (r .made) b c)
     × (length b < 44 → (r ≡ refusedAnswer 1) × (u ≡ t) × (c ≡ b))
-
--- for a binding's test: field i is the number i, in the lowest and the highest byte, and a bool is whether `one` is i
-abbrev pub shapeHearAnswer : ℕ → HearAnswer
-shapeHearAnswer one = record { refusal = 1; made = eqb one 2; state = 3; moved = 288230376151711748 }

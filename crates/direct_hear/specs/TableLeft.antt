@@ -1,13 +1,15 @@
--- The table that a hear leaves. Assumes nothing.
+-- The table that a hear leaves, and what a hear leaves in all. Assumes nothing.
 use Prim.Native.Nat.{ℕ}
+use mathlib.Core.Path.{_≡_}
 use mathlib.Core.Bool.{Bool, cond}
 use mathlib.Core.List.{List}
 use Rattle.cdc.specs.declared.Message.{Message}
 use Rattle.connection.specs.declared.Record.{Record}
 use Rattle.connection.specs.Connection.{zeroRecord}
-use Rattle.table.specs.Table.{recordAt, withRecord}
+use Rattle.table.specs.Table.{recordAt, withRecord, activeB}
+use Rattle.hearing.specs.declared.HearAnswer.{HearAnswer}
 use Rattle.hearing.specs.declared.Hearing.{Hearing}
-use Rattle.hearing.specs.Hearing.{recordLeft}
+use Rattle.hearing.specs.Hearing.{hearingOf, recordLeft, messageLeft}
 
 -- the slot, where b; else none
 unfoldable pub slotIf : Bool → ℕ → ℕ
@@ -18,3 +20,9 @@ unfoldable pub tableLeft : List Record → ℕ → Message → Hearing → List 
 tableLeft t k m h =
     let i = slotIf (h .takes) k in
     withRecord (withRecord t i (recordLeft (recordAt t i) m h)) (slotIf (h .closes) k) zeroRecord
+
+-- where j is what was refused before: of the table t and the message's buffer b it leaves u and c
+abbrev pub HeardBy : ℕ → ℕ → List Record → List Bool → ℕ → Message → List ℕ → HearAnswer → List Record → List ℕ → Type 0
+HeardBy j n t active k m b r u c =
+    let q = hearingOf n (activeB active (recordAt t k .id .link)) (recordAt t k) m j in
+    (r ≡ q .said) × (u ≡ tableLeft t k m q) × (c ≡ messageLeft (recordAt t k) q b)

@@ -5,8 +5,8 @@
 ghost use mathlib.Core.Path.{_≡_};
 ghost use Rattle.table.specs.Table.{activeB, recordAt, withRecord};
 ghost use Rattle.hearing.specs.Hearing.{hearingOf, recordLeft, messageLeft};
-ghost use Rattle.direct_hear.specs.DirectHear.{HearMade, shapeHearAnswer};
-ghost use Rattle.direct_hear.specs.TableLeft.{slotIf, tableLeft};
+ghost use Rattle.direct_hear.specs.DirectHear.{HearMade};
+ghost use Rattle.direct_hear.specs.TableLeft.{HeardBy, slotIf, tableLeft};
 use cdc::Message;
 use connection::Record;
 use direct::LinkStates;
@@ -95,7 +95,46 @@ fn answer_of(t: Hearing) -> HearAnswer
     t.said
 }
 
-// Hears. A buffer for the message under 44 bytes is refused by 1.
+// A hear that 1, 4 and 5 do not refuse, with a buffer for the message.
+fn hear_on(
+    n: u32,
+    table: &mut [Record],
+    links: LinkStates,
+    slot: usize,
+    m: Message,
+    message: &mut [u8],
+) -> HearAnswer
+    ensures { λ r.
+        ⌜ HeardBy 0 n (now (table .entry)) (links .active) slot m (now (message .entry)) r (now (table .exit)) (now (message .exit)) ⌝ }
+{
+    let t = hearing_at(n, table, links, slot, m, 0);
+    tell_at(table, slot, t, message);
+    put(table, slot, m, t);
+    answer_of(t)
+}
+
+// The same, and one that is refused by `j`, where that is not 0.
+fn hear_unless(
+    j: u8,
+    n: u32,
+    table: &mut [Record],
+    links: LinkStates,
+    slot: usize,
+    m: Message,
+    message: &mut [u8],
+) -> HearAnswer
+    ensures { λ r.
+        ⌜ HeardBy j n (now (table .entry)) (links .active) slot m (now (message .entry)) r (now (table .exit)) (now (message .exit)) ⌝ }
+{
+    if 0 < j {
+        let t = hearing::hear_none(j);
+        return answer_of(t);
+    } else {
+        return hear_on(n, table, links, slot, m, message);
+    }
+}
+
+// Hears. A buffer for the message under 44 bytes is refused by 1. What refuses comes first, as in `direct_read`.
 #[no_mangle]
 pub extern "C" fn fordlinnet_make_hear(
     s: u32,
@@ -113,23 +152,7 @@ pub extern "C" fn fordlinnet_make_hear(
     let what = hearing::parse(bytes);
     let token = hearing::token_of(what);
     let slot = slots::find(table, token);
-    let no = hearing::before(s, n, mem.len(), table.len(), message.len(), what, slot);
+    let j = hearing::before(s, n, mem.len(), table.len(), message.len(), what, slot);
     let m = what.message;
-    let t = hearing_at(n, table, links, slot, m, no);
-    tell_at(table, slot, t, message);
-    put(table, slot, m, t);
-    answer_of(t)
-}
-
-// For a binding's test: the answer filled, as the structs of crate `shapes` are.
-#[no_mangle]
-pub extern "C" fn fordlinnet_shape_hear_answer(one: u32) -> HearAnswer
-    ensures { λ r. ⌜ r ≡ shapeHearAnswer one ⌝ }
-{
-    HearAnswer {
-        refusal: 1,
-        made: one == 2,
-        state: 3,
-        moved: 288230376151711748,
-    }
+    hear_unless(j, n, table, links, slot, m, message)
 }

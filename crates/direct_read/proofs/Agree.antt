@@ -2,7 +2,7 @@
 use mathlib.Core.Path.{_≡_, refl, sym, ap, subst, _∙_}
 use mathlib.Core.Bool.{Bool, true, false, _&&_, _||_, cond}
 use mathlib.Core.List.{List}
-use Prim.Native.Nat.{ℕ, _-_, _≤_}
+use Prim.Native.Nat.{ℕ, _-_}
 use native.Mathlib.Omega.{arith}
 use lib.Dec.{eqb}
 use borrow.Author.Tests.{eq-eqb, ne-eqb}
@@ -27,10 +27,10 @@ use Rattle.table.specs.Table.{sizesB, slotB, activeB, foundOf, refusedBy, keptB
 use Rattle.rules.specs.Rules.{saysOf}
 use Rattle.receiving.specs.Receiving.{copiedOf}
 use Rattle.direct.specs.Direct.{heldOf}
-use Rattle.direct_read.specs.declared.Reading.{Reading}
-use Rattle.direct_read.specs.Reading.{unreadIn, dueIn, tookOf, tornReading, readingOf, refusedReading, inboundLeft, outboundLeft, marksLeft, recordLeft, movedOf}
+use Rattle.reading.specs.declared.Reading.{Reading}
+use Rattle.reading.specs.Reading.{unreadIn, dueIn, tookOf, tornReading, readingOf, refusedReading, inboundLeft, outboundLeft, marksLeft, recordLeft, movedOf}
 use Rattle.direct_read.specs.DirectRead.{saysIn}
-use Rattle.direct_read.proofs.Steps.{tookBy, read-short, read-before, read-forbidden, read-took, read-torn}
+use Rattle.reading.proofs.Steps.{tookBy, read-forbidden, read-took, read-torn}
 
 -- what a reading t of the record rec shares with the answer and the record that the rules leave
 pub record Agrees (rec : Record) (t : Reading) (a : Turned) : Type 0 where
@@ -171,21 +171,30 @@ module _ (n : ℕ) (active : Bool) (rec : Record) (intact : Bool) (room : ℕ) w
   unfolding readOf
   whole-is e w = simp (eq-eqb (refusalOf n active rec (readForbids (rec .marks))) 0 e, w)
 
-module _ (s n len count k : ℕ) (active : List Bool) (rec : Record) (intact : Bool) (room buffer : ℕ) (ls : Links) (h : 44 ≤ buffer) where
+module _ (s n len count k : ℕ) (active : List Bool) (rec : Record) (intact : Bool) (room : ℕ) (ls : Links) where
   abbrev up : Bool
   up = activeB active (rec .id .link)
 
+  -- what 1, 2, 3 and 6 say, and what the rules' read gives
   abbrev before : ℕ
   before = cond (sizesB s n len count) (heldOf s n active k rec) 1
 
+  abbrev large : Turned
+  large = settledBy (foundOf s n len count k rec) ls rec (readOf n up rec intact room)
+
   abbrev Both : Type 0
   Both =
-      Agrees rec (readingOf n intact rec before room buffer) (settledBy (foundOf s n len count k rec) ls rec (readOf n up rec intact room))
+      ((before ≡ 0 → ⊥) → Agrees rec (refusedReading before (rec .inbound .consumer)) large)
+      × (before ≡ 0 → Agrees rec (readingOf n intact rec room) large)
 
-  small-is : (j : ℕ) → (j ≡ 0 → ⊥) → before ≡ j → readingOf n intact rec before room buffer ≡ refusedReading j (rec .inbound .consumer)
-  small-is j z e =
-      ap (λ (x : ℕ). readingOf n intact rec x room buffer) e
-      ∙ sym (read-before n intact rec j room buffer (refusedReading j (rec .inbound .consumer)) h z refl)
+  refused-both : (j : ℕ) → (j ≡ 0 → ⊥) → before ≡ j → large ≡ keptBy rec (refusedBy j ls) → Both
+  refused-both j z e f = (
+    λ _. move (ap (λ (x : ℕ). refusedReading x (rec .inbound .consumer)) e) f (refused-agrees ls rec j z),
+    λ y. absurd (z (sym e ∙ y)),
+  )
+
+  accepted-both : before ≡ 0 → Agrees rec (readingOf n intact rec room) large → Both
+  accepted-both e a = (λ z. absurd (z e), λ _. a)
 
   kept-is : (j : ℕ) (o : Outcome) → (j ≡ 0 → ⊥) → settledBy j ls rec o ≡ keptBy rec (refusedBy j ls)
   unfolding settledBy
@@ -194,9 +203,8 @@ module _ (s n len count k : ℕ) (active : List Bool) (rec : Record) (intact : B
   -- 1 and 2
   found-both : (j : ℕ) → (j ≡ 0 → ⊥) → before ≡ j → foundOf s n len count k rec ≡ j → Both
   found-both j z e f =
-      move (small-is j z e)
+      refused-both j z e
       (ap (λ (x : ℕ). settledBy x ls rec (readOf n up rec intact room)) f ∙ kept-is j (readOf n up rec intact room) z)
-      (refused-agrees ls rec j z)
 
   unsized : sizesB s n len count ≡ false → Both
   unfolding foundOf
@@ -219,34 +227,32 @@ module _ (s n len count k : ℕ) (active : List Bool) (rec : Record) (intact : B
     abbrev whole : ℕ
     whole = refusalOf n up rec (readForbids (rec .marks))
 
-    large-is : (o : Outcome) → readOf n up rec intact room ≡ o
-        → settledBy (foundOf s n len count k rec) ls rec (readOf n up rec intact room) ≡ turnedBy ls o
+    large-is : (o : Outcome) → readOf n up rec intact room ≡ o → large ≡ turnedBy ls o
     large-is o e = turned-is (readOf n up rec intact room) ∙ ap (turnedBy ls) e
 
-    large-refused : (j : ℕ) → (j ≡ 0 → ⊥) → whole ≡ j
-        → settledBy (foundOf s n len count k rec) ls rec (readOf n up rec intact room) ≡ keptBy rec (refusedBy j ls)
+    large-refused : (j : ℕ) → (j ≡ 0 → ⊥) → whole ≡ j → large ≡ keptBy rec (refusedBy j ls)
     large-refused j z f = large-is (refusedOf j rec) (refused-is n up rec intact room j z f) ∙ refused-same ls rec j
 
     -- 3 and 6
     step-both : (j : ℕ) → (j ≡ 0 → ⊥) → refusalOf n up rec false ≡ j → whole ≡ j → Both
-    step-both j z e f = move (small-is j z (held-is ∙ e)) (large-refused j z f) (refused-agrees ls rec j z)
+    step-both j z e f = refused-both j z (held-is ∙ e) (large-refused j z f)
 
     by-marks : coherentB n rec ≡ true → up ≡ true → (f : Bool) → readForbids (rec .marks) ≡ f → (i : Bool) → intact ≡ i → Both
     by-marks g a true f i v =
-        let z : before ≡ 0 = held-is ∙ refusal-0 n up rec false g a refl in
-        move (sym (read-forbidden n intact rec before room buffer (refusedReading 7 (rec .inbound .consumer)) h z f refl))
+        accepted-both (held-is ∙ refusal-0 n up rec false g a refl)
+        (move (sym (read-forbidden n intact rec room (refusedReading 7 (rec .inbound .consumer)) f refl))
         (large-refused 7 (λ e. absurd (omega (arith, e))) (refusal-7 n up rec (readForbids (rec .marks)) g a f))
-        (refused-agrees ls rec 7 (λ e. absurd (omega (arith, e))))
+        (refused-agrees ls rec 7 (λ e. absurd (omega (arith, e)))))
     by-marks g a false f true v =
-        let z : before ≡ 0 = held-is ∙ refusal-0 n up rec false g a refl in
-        move (sym (read-took n intact rec before room buffer (tookOf n (rec .inbound) room) h z f v refl))
+        accepted-both (held-is ∙ refusal-0 n up rec false g a refl)
+        (move (sym (read-took n intact rec room (tookOf n (rec .inbound) room) f v refl))
         (large-is (takeOf n rec room) (whole-is n up rec intact room (refusal-0 n up rec (readForbids (rec .marks)) g a f) v))
-        (took-agrees ls rec n room g)
+        (took-agrees ls rec n room g))
     by-marks g a false f false v =
-        let z : before ≡ 0 = held-is ∙ refusal-0 n up rec false g a refl in
-        move (sym (read-torn n intact rec before room buffer (tornReading (rec .inbound .consumer)) h z f v refl))
+        accepted-both (held-is ∙ refusal-0 n up rec false g a refl)
+        (move (sym (read-torn n intact rec room (tornReading (rec .inbound .consumer)) f v refl))
         (large-is (tornOf rec) (torn-is n up rec intact room (refusal-0 n up rec (readForbids (rec .marks)) g a f) v))
-        (torn-agrees ls rec)
+        (torn-agrees ls rec))
 
     by-link : coherentB n rec ≡ true → (a : Bool) → up ≡ a → Both
     by-link g true a = by-marks g a (readForbids (rec .marks)) refl intact refl
@@ -266,11 +272,11 @@ module _ (s n len count k : ℕ) (active : List Bool) (rec : Record) (intact : B
   by-sizes true y = by-slot y (slotB s k && rec .id .opened) refl
   by-sizes false y = unsized y
 
-  pub agree : Both
-  agree = by-sizes (sizesB s n len count) refl
+  both : Both
+  both = by-sizes (sizesB s n len count) refl
 
--- a buffer too short for a message
-pub short : (n : ℕ) (intact : Bool) (rec : Record) (j room buffer : ℕ) → (44 ≤ buffer → ⊥)
-    → readingOf n intact rec j room buffer ≡ refusedReading 1 (rec .inbound .consumer)
-short n intact rec j room buffer h =
-    sym (read-short n intact rec j room buffer (refusedReading 1 (rec .inbound .consumer)) (omega (arith, h)) refl)
+  pub refused-agree : (before ≡ 0 → ⊥) → Agrees rec (refusedReading before (rec .inbound .consumer)) large
+  refused-agree = both .0
+
+  pub agree : before ≡ 0 → Agrees rec (readingOf n intact rec room) large
+  agree = both .1

@@ -1,10 +1,10 @@
 -- What the walks of `reading_at`, `put`, `tell_at` and `fordlinnet_make_read` give. Assumes nothing.
-use Prim.Native.Nat.{ℕ, _≤_, _<_}
+use Prim.Native.Nat.{ℕ, zero, suc, _≤_}
 use mathlib.Core.Path.{_≡_, refl, sym, ap, _∙_, subst}
 use mathlib.Core.Bool.{Bool, true, false, _||_, not, cond}
 use mathlib.Core.List.{List}
 use native.Mathlib.Omega.{arith}
-use lib.Dec.{T as Holds, ltb, leb, eqb}
+use lib.Dec.{T as Holds, ltb, eqb, ltb→lt, nltb→le}
 use lib.ListN.{length, take, getD, set}
 use Rattle.cdc.specs.Cdc.{encodeOf}
 use Rattle.cdc.proofs.RoundTrip.{encode-length}
@@ -28,26 +28,27 @@ use Rattle.receiving.proofs.Laws.{read-did}
 use Rattle.direct.specs.declared.LinkStates.{LinkStates}
 use Rattle.direct.specs.Direct.{heldOf, refusalAt, writtenIn, BufferKept}
 use Rattle.direct.proofs.Laws.{front, kept, links-stay}
-use Rattle.direct_read.specs.declared.ReadAnswer.{ReadAnswer}
-use Rattle.direct_read.specs.declared.Reading.{Reading}
-use Rattle.direct_read.specs.Reading.{refusedReading, tornReading, tookOf, readingOf, inboundLeft, outboundLeft, marksLeft, recordLeft, movedOf, messageLeft, copiedBy}
-use Rattle.direct_read.specs.DirectRead.{saysIn, answerIn, Reads, refusedAnswer, ReadMade}
-use Rattle.direct_read.proofs.Agree.{Agrees, agree, short}
+use Rattle.reading.specs.declared.ReadAnswer.{ReadAnswer}
+use Rattle.reading.specs.declared.Reading.{Reading}
+use Rattle.reading.specs.Reading.{refusedAnswer, refusedReading, tornReading, tookOf, readingOf, inboundLeft, outboundLeft, marksLeft, recordLeft, movedOf, messageLeft, copiedBy}
+use Rattle.direct_read.specs.ReadLeft.{LeftBy, LeftUnless}
+use Rattle.direct_read.specs.DirectRead.{answerIn, ReadMade}
+use Rattle.direct_read.proofs.Agree.{Agrees, agree, refused-agree}
 
 -- THE RECORD THAT THE SLOT SHOWS
-pub reading-at-returns : (n : ℕ) (m : List ℕ) (t : List Record) (k first room buffer : ℕ)
+pub reading-at-returns : (n : ℕ) (m : List ℕ) (t : List Record) (k room : ℕ)
     → (r : ℕ) → r ≡ indexOf k (length t) → Holds (ltb r (length t))
-    → (q : Reading) → q ≡ readingOf n (intactAt m (baseOf n k)) (getD t r zeroRecord) first room buffer
-    → q ≡ readingOf n (intactAt m (baseOf n k)) (recordAt t k) first room buffer
-reading-at-returns n m t k first room buffer r e h q eq =
-    eq ∙ ap (λ (c : Record). readingOf n (intactAt m (baseOf n k)) c first room buffer) (record-at-returns t k r e h)
+    → (q : Reading) → q ≡ readingOf n (intactAt m (baseOf n k)) (getD t r zeroRecord) room
+    → q ≡ readingOf n (intactAt m (baseOf n k)) (recordAt t k) room
+reading-at-returns n m t k room r e h q eq =
+    eq ∙ ap (λ (c : Record). readingOf n (intactAt m (baseOf n k)) c room) (record-at-returns t k r e h)
 
-pub reading-at-returns-2 : (n : ℕ) (m : List ℕ) (t : List Record) (k first room buffer : ℕ)
+pub reading-at-returns-2 : (n : ℕ) (m : List ℕ) (t : List Record) (k room : ℕ)
     → (r : ℕ) → r ≡ indexOf k (length t) → Holds (not (ltb r (length t))) → (z : Record) → z ≡ zeroRecord
-    → (q : Reading) → q ≡ readingOf n (intactAt m (baseOf n k)) z first room buffer
-    → q ≡ readingOf n (intactAt m (baseOf n k)) (recordAt t k) first room buffer
-reading-at-returns-2 n m t k first room buffer r e h z ez q eq =
-    eq ∙ ap (λ (c : Record). readingOf n (intactAt m (baseOf n k)) c first room buffer) (record-at-returns-2 t k r e h z ez)
+    → (q : Reading) → q ≡ readingOf n (intactAt m (baseOf n k)) z room
+    → q ≡ readingOf n (intactAt m (baseOf n k)) (recordAt t k) room
+reading-at-returns-2 n m t k room r e h z ez q eq =
+    eq ∙ ap (λ (c : Record). readingOf n (intactAt m (baseOf n k)) c room) (record-at-returns-2 t k r e h z ez)
 
 pub tell-at-returns : (t : List Record) (k : ℕ) (q : Reading) (b : List ℕ)
     → (r : ℕ) → r ≡ indexOf k (length t) → Holds (ltb r (length t)) → (u : Unit {0}) (c : List ℕ)
@@ -87,15 +88,11 @@ either true x y e = refl
 either false x y e = e
 
 -- so that what is put back is what the rules leave
-module _ (n first room : ℕ) (rec : Record) where
-  picked : Bool → Bool → Bool → Bool → Reading
-  picked fits free forbids intact =
+module _ (n room : ℕ) (rec : Record) where
+  picked : Bool → Bool → Reading
+  picked forbids intact =
       let c = rec .inbound .consumer in
-      cond fits
-      (cond free
-      (cond forbids (refusedReading 7 c) (cond intact (tookOf n (rec .inbound) room) (tornReading c)))
-      (refusedReading first c))
-      (refusedReading 1 c)
+      cond forbids (refusedReading 7 c) (cond intact (tookOf n (rec .inbound) room) (tornReading c))
 
   abbrev Stays : Reading → Type 0
   Stays t = recordLeft rec t ≡ cond (eqb (t .said .refusal) 0) (recordLeft rec t) rec
@@ -103,146 +100,154 @@ module _ (n first room : ℕ) (rec : Record) where
   stays-refused : (k : ℕ) → Stays (refusedReading k (rec .inbound .consumer))
   stays-refused k = either (eqb k 0) (recordLeft rec (refusedReading k (rec .inbound .consumer))) rec (left-refused rec k)
 
-  stays : (fits free forbids intact : Bool) → Stays (picked fits free forbids intact)
+  stays : (forbids intact : Bool) → Stays (picked forbids intact)
   unfolding tookOf picked
-  stays false free forbids intact = stays-refused 1
-  stays true false forbids intact = stays-refused first
-  stays true true true intact = stays-refused 7
-  stays true true false true = refl
-  stays true true false false = refl
+  stays true intact = stays-refused 7
+  stays false true = refl
+  stays false false = refl
 
-  left-either : (intact : Bool) (buffer : ℕ) → Stays (readingOf n intact rec first room buffer)
+  left-either : (intact : Bool) → Stays (readingOf n intact rec room)
   unfolding readingOf picked
-  left-either intact buffer = stays (leb 44 buffer) (eqb first 0) (readForbids (rec .marks)) intact
+  left-either intact = stays (readForbids (rec .marks)) intact
 
 -- THE READ
-module _
-    (s n : ℕ) (m : List ℕ) (t : List Record) (states : LinkStates) (k : ℕ) (out b : List ℕ) (first : ℕ)
-    (eno : first ≡ refusalAt s n (length m) t (states .active) k) (r : Reading)
-    (er : r ≡ readingOf n (intactAt m (baseOf n k)) (recordAt t k) first (length out) (length b))
-  where
-    abbrev held : ℕ
-    held = cond (sizesB s n (length m) (length t)) (heldOf s n (states .active) k (recordAt t k)) 1
+module _ (s n : ℕ) (m : List ℕ) (t : List Record) (states : LinkStates) (k : ℕ) (out b : List ℕ) (h : 44 ≤ length b) where
+  abbrev held : ℕ
+  held = cond (sizesB s n (length m) (length t)) (heldOf s n (states .active) k (recordAt t k)) 1
 
-    held-is : first ≡ held
-    unfolding refusalAt
-    held-is = eno
+  held-is : refusalAt s n (length m) t (states .active) k ≡ held
+  unfolding refusalAt
+  held-is = refl
 
-    module _ (c : List ℕ) (ec : c ≡ messageLeft (recordAt t k) r b) (u : List Record) (eu : u ≡ withRecord t k (recordLeft (recordAt t k) r))
-        (l : List ℕ) (el : l ≡ copiedBy n m k r out)
-      where
-        -- a buffer of 44 bytes or more
-        module _ (h : 44 ≤ length b) (ls : Links) (ea : ls .active ≡ states .active) where
-          abbrev active : Bool
-          active = activeB (states .active) (recordAt t k .id .link)
+  abbrev active : Bool
+  active = activeB (states .active) (recordAt t k .id .link)
 
-          abbrev j : ℕ
-          j = foundOf s n (length m) (length t) k (recordAt t k)
+  abbrev j : ℕ
+  j = foundOf s n (length m) (length t) k (recordAt t k)
 
-          abbrev whole : Bool
-          whole = intactAt m (baseOf n k)
+  abbrev whole : Bool
+  whole = intactAt m (baseOf n k)
 
-          abbrev o : Outcome
-          o = readOf n active (recordAt t k) whole (length out)
+  abbrev o : Outcome
+  o = readOf n active (recordAt t k) whole (length out)
 
-          abbrev a : Turned
-          a = settledBy j ls (recordAt t k) o
+  -- a reading that agrees with the rules' read, and what it leaves
+  module _ (r : Reading) (stays : Stays n (length out) (recordAt t k) r) (c : List ℕ) (ec : c ≡ messageLeft (recordAt t k) r b)
+      (u : List Record) (eu : u ≡ withRecord t k (recordLeft (recordAt t k) r)) (l : List ℕ) (el : l ≡ copiedBy n m k r out)
+    where
+      module _ (ls : Links) (ea : ls .active ≡ states .active) (ag : Agrees (recordAt t k) r (settledBy j ls (recordAt t k) o)) where
+        abbrev a : Turned
+        a = settledBy j ls (recordAt t k) o
 
-          ag : Agrees (recordAt t k) r a
-          ag =
-              subst (λ (q : Reading). Agrees (recordAt t k) q a)
-              (sym (er ∙ ap (λ (x : ℕ). readingOf n whole (recordAt t k) x (length out) (length b)) held-is))
-              (agree s n (length m) (length t) k (states .active) (recordAt t k) whole (length out) (length b) ls h)
+        out-is : l ≡ Element.readOf m (baseOf n k) n (recordAt t k .inbound .consumer .offset) (r .said .count) out
+        unfolding copiedBy
+        out-is = el ∙ ap (λ (x : ℕ). Element.readOf m (baseOf n k) n x (r .said .count) out) (ag .from-is)
 
-          out-is : l ≡ Element.readOf m (baseOf n k) n (recordAt t k .inbound .consumer .offset) (r .said .count) out
-          unfolding copiedBy
-          out-is = el ∙ ap (λ (x : ℕ). Element.readOf m (baseOf n k) n x (r .said .count) out) (ag .from-is)
+        did : Did (groupOf s n t ls m) (Call.on k (Rules.Request.read out)) (answerOf (a .answer) l)
+            (groupOf s n (withRecord t k (a .after)) (a .answer .links) m)
+        did =
+            let up = ap (λ (x : List Bool). activeB x (recordAt t k .id .link)) (sym ea) in
+            read-did s n t ls m k out (recordAt t k) refl j refl active up whole refl o refl a refl
+            (r .said .count) (sym (ag .copied)) l out-is
 
-          did : Did (groupOf s n t ls m) (Call.on k (Rules.Request.read out)) (answerOf (a .answer) l)
-              (groupOf s n (withRecord t k (a .after)) (a .answer .links) m)
-          did =
-              read-did s n t ls m k out (recordAt t k) refl j refl active (ap (λ (x : List Bool). activeB x (recordAt t k .id .link)) (sym ea))
-              whole refl o refl a refl (r .said .count) (sym (ag .copied)) l out-is
-
-          told : c ≡ cond (r .said .made) (writtenIn (encodeOf (messageOf (movedOf (recordAt t k) r))) b) b
-          unfolding messageLeft
-          told = ec
-
-          long : length (encodeOf (messageOf (movedOf (recordAt t k) r))) ≡ 44
-          long = encode-length (messageOf (movedOf (recordAt t k) r))
-
-          message-is : cond (r .said .made) (take 44 c) noMessage ≡ a .answer .message
-          message-is = front (encodeOf (messageOf (movedOf (recordAt t k) r))) b c long h (r .said .made) told ∙ sym (ag .message)
-
-          same : answerIn (r .said) c l ≡ answerOf (a .answer) l
-          unfolding answerIn
-          same =
-              λ i. record { says = sym (ag .says) i; made = sym (ag .made) i; message = message-is i; out = l }
-
-          after-is : recordLeft (recordAt t k) r ≡ a .after
-          after-is =
-              subst (λ (q : Reading). recordLeft (recordAt t k) q ≡ cond (eqb (q .said .refusal) 0) (recordLeft (recordAt t k) q) (recordAt t k)) (sym er)
-              (left-either n first (length out) (recordAt t k) whole (length b))
-              ∙ sym (ag .after)
-
-          pub reads : Did (groupOf s n t ls m) (Call.on k (Rules.Request.read out)) (answerIn (r .said) c l) (groupOf s n u ls m)
-          reads =
-              record {
-                answered = same ∙ did .answered;
-                left =
-                    (λ i. groupOf s n ((eu ∙ ap (withRecord t k) after-is) i) (sym (links-stay j ls (recordAt t k) o) i) m) ∙ did .left;
-              }
-
-        pub buffer-kept : 44 ≤ length b → BufferKept (r .said .made) b c
+        told : c ≡ cond (r .said .made) (writtenIn (encodeOf (messageOf (movedOf (recordAt t k) r))) b) b
         unfolding messageLeft
-        buffer-kept h =
-            kept (encodeOf (messageOf (movedOf (recordAt t k) r))) b c (encode-length (messageOf (movedOf (recordAt t k) r))) h (r .said .made) ec
+        told = ec
 
-        -- a shorter one
-        module _ (h : length b < 44) where
-          refused-is : r ≡ refusedReading 1 (recordAt t k .inbound .consumer)
-          refused-is =
-              er ∙ short n (intactAt m (baseOf n k)) (recordAt t k) first (length out) (length b) (λ x. absurd (omega (arith, x, h)))
+        long : length (encodeOf (messageOf (movedOf (recordAt t k) r))) ≡ 44
+        long = encode-length (messageOf (movedOf (recordAt t k) r))
 
-          pub short-table : u ≡ t
-          short-table =
-              eu
-              ∙ ap (λ (q : Reading). withRecord t k (recordLeft (recordAt t k) q)) refused-is
-              ∙ ap (withRecord t k) (left-refused (recordAt t k) 1)
-              ∙ record-kept t k
+        message-is : cond (r .said .made) (take 44 c) noMessage ≡ a .answer .message
+        message-is = front (encodeOf (messageOf (movedOf (recordAt t k) r))) b c long h (r .said .made) told ∙ sym (ag .message)
 
-          pub short-out : l ≡ out
-          unfolding copiedBy
-          short-out =
-              el
-              ∙ ap (λ (q : Reading). Element.readOf m (baseOf n k) n (q .from) (q .said .count) out) refused-is
-              ∙ read-none m (baseOf n k) n (recordAt t k .inbound .consumer .offset) out
+        same : answerIn (r .said) c l ≡ answerOf (a .answer) l
+        unfolding answerIn
+        same =
+            λ i. record { says = sym (ag .says) i; made = sym (ag .made) i; message = message-is i; out = l }
 
-          pub short-message : c ≡ b
-          unfolding messageLeft
-          short-message = ec ∙ ap (λ (q : Reading). messageLeft (recordAt t k) q b) refused-is
+        reads : Did (groupOf s n t ls m) (Call.on k (Rules.Request.read out)) (answerIn (r .said) c l) (groupOf s n u ls m)
+        reads =
+            record {
+              answered = same ∙ did .answered;
+              left =
+                  (λ i. groupOf s n ((eu ∙ ap (withRecord t k) (stays ∙ sym (ag .after))) i) (sym (links-stay j ls (recordAt t k) o) i) m)
+                  ∙ did .left;
+            }
 
-          pub short-answer : r .said ≡ refusedAnswer 1
-          short-answer = ap (λ (q : Reading). q .said) refused-is
+      buffer-kept : BufferKept (r .said .made) b c
+      unfolding messageLeft
+      buffer-kept =
+          let tells = messageOf (movedOf (recordAt t k) r) in kept (encodeOf tells) b c (encode-length tells) h (r .said .made) ec
 
-pub fordlinnet-make-read-returns : (s n : ℕ) (m : List ℕ) (t : List Record) (states : LinkStates) (k : ℕ) (out b : List ℕ)
-    → (first : ℕ) → first ≡ refusalAt s n (length m) t (states .active) k
-    → (r : Reading) → r ≡ readingOf n (intactAt m (baseOf n k)) (recordAt t k) first (length out) (length b)
+      made : ((ls : Links) → Agrees (recordAt t k) r (settledBy j ls (recordAt t k) o))
+          → ReadMade s n m t (states .active) k out b (r .said) u l c
+      made ag = (λ _. (λ ls ea. reads ls ea (ag ls), buffer-kept), λ x. absurd (omega (arith, x, h)))
+
+  -- one that 1, 2, 3 and 6 do not refuse
+  pub read-made : refusalAt s n (length m) t (states .active) k ≡ 0
+      → (a : ReadAnswer) (u : List Record) (l c : List ℕ) → LeftBy n m t k out b a u l c
+      → ReadMade s n m t (states .active) k out b a u l c
+  read-made z a u l c (ea, eu, el, ec) =
+      subst (λ (y : ReadAnswer). ReadMade s n m t (states .active) k out b y u l c) (sym ea)
+      (made (readingOf n whole (recordAt t k) (length out)) (left-either n (length out) (recordAt t k) whole) c ec u eu l el
+      (λ ls. agree s n (length m) (length t) k (states .active) (recordAt t k) whole (length out) ls (sym held-is ∙ z)))
+
+  -- one that they refuse
+  pub refused-made : (refusalAt s n (length m) t (states .active) k ≡ 0 → ⊥)
+      → ReadMade s n m t (states .active) k out b (refusedAnswer (refusalAt s n (length m) t (states .active) k)) t out b
+  unfolding messageLeft copiedBy
+  refused-made z =
+      subst (λ (x : ℕ). ReadMade s n m t (states .active) k out b (refusedAnswer x) t out b) (sym held-is)
+      (made (refusedReading held (recordAt t k .inbound .consumer)) (stays-refused n (length out) (recordAt t k) held) b refl t
+      (sym (ap (withRecord t k) (left-refused (recordAt t k) held) ∙ record-kept t k)) out
+      (sym (read-none m (baseOf n k) n (recordAt t k .inbound .consumer .offset) out))
+      (λ ls. refused-agree s n (length m) (length t) k (states .active) (recordAt t k) whole (length out) ls (λ y. z (held-is ∙ y))))
+
+same-made : (s n : ℕ) (m : List ℕ) (t : List Record) (active : List Bool) (k : ℕ) (out b : List ℕ)
+    → (x y : ReadAnswer) → x ≡ y → (u v : List Record) → u ≡ v → (l q : List ℕ) → l ≡ q → (c d : List ℕ) → c ≡ d
+    → ReadMade s n m t active k out b y v q d → ReadMade s n m t active k out b x u l c
+same-made s n m t active k out b x y e u v f l q g c d i w =
+    subst (λ (z : ReadAnswer). ReadMade s n m t active k out b z u l c) (sym e)
+    (subst (λ (z : List Record). ReadMade s n m t active k out b y z l c) (sym f)
+    (subst (λ (z : List ℕ). ReadMade s n m t active k out b y v z c) (sym g)
+    (subst (λ (z : List ℕ). ReadMade s n m t active k out b y v q z) (sym i) w)))
+
+pub read-on-returns : (n : ℕ) (m : List ℕ) (t : List Record) (k : ℕ) (out b : List ℕ)
+    → (r : Reading) → r ≡ readingOf n (intactAt m (baseOf n k)) (recordAt t k) (length out)
     → (v : Unit {0}) (c : List ℕ) → c ≡ messageLeft (recordAt t k) r b
     → (w : Unit {0}) (u : List Record) → u ≡ withRecord t k (recordLeft (recordAt t k) r)
     → (x : Unit {0}) (l : List ℕ) → l ≡ copiedBy n m k r out
     → (a : ReadAnswer) → a ≡ r .said
+    → LeftBy n m t k out b a u l c
+read-on-returns n m t k out b r er v c ec w u eu x l el a ea = (
+  ea ∙ ap (λ (q : Reading). q .said) er,
+  eu ∙ ap (λ (q : Reading). withRecord t k (recordLeft (recordAt t k) q)) er,
+  el ∙ ap (λ (q : Reading). copiedBy n m k q out) er,
+  ec ∙ ap (λ (q : Reading). messageLeft (recordAt t k) q b) er,
+)
+
+pub read-unless-returns : (j n : ℕ) (m : List ℕ) (t : List Record) (k : ℕ) (out b : List ℕ) → Holds (ltb 0 j)
+    → (a : ReadAnswer) → a ≡ refusedAnswer j → LeftUnless j n m t k out b a t out b
+read-unless-returns j n m t k out b h a e =
+    (λ z. absurd (omega (arith, z, ltb→lt 0 j h)), λ _. (e, refl, refl, refl))
+
+pub read-unless-returns-2 : (j n : ℕ) (m : List ℕ) (t : List Record) (k : ℕ) (out b : List ℕ) → Holds (not (ltb 0 j))
+    → (a : ReadAnswer) (u : List Record) (l c : List ℕ) → LeftBy n m t k out b a u l c → LeftUnless j n m t k out b a u l c
+read-unless-returns-2 j n m t k out b h a u l c e = (λ _. e, λ z. absurd (z (omega (arith, nltb→le 0 j h))))
+
+pub fordlinnet-make-read-returns : (s n : ℕ) (m : List ℕ) (t : List Record) (states : LinkStates) (k : ℕ) (out b : List ℕ)
+    → Holds (ltb (length b) 44) → (a : ReadAnswer) → a ≡ refusedAnswer 1 → ReadMade s n m t (states .active) k out b a t out b
+fordlinnet-make-read-returns s n m t states k out b h a e =
+    (λ x. absurd (omega (arith, x, ltb→lt (length b) 44 h)), λ _. (e, refl, refl, refl))
+
+pub fordlinnet-make-read-returns-2 : (s n : ℕ) (m : List ℕ) (t : List Record) (states : LinkStates) (k : ℕ) (out b : List ℕ)
+    → Holds (not (ltb (length b) 44)) → (j : ℕ) → j ≡ refusalAt s n (length m) t (states .active) k
+    → (a : ReadAnswer) (u : List Record) (l c : List ℕ) → LeftUnless j n m t k out b a u l c
     → ReadMade s n m t (states .active) k out b a u l c
-fordlinnet-make-read-returns s n m t states k out b first eno r er v c ec w u eu x l el a ea =
-    subst (λ (y : ReadAnswer). ReadMade s n m t (states .active) k out b y u l c) (sym ea) (
-      λ h. (
-        λ ls e. reads s n m t states k out b first eno r er c ec u eu l el h ls e,
-        buffer-kept s n m t states k out b first eno r er c ec u eu l el h,
-      ),
-      λ h. (
-        short-answer s n m t states k out b first eno r er c ec u eu l el h,
-        short-table s n m t states k out b first eno r er c ec u eu l el h,
-        short-out s n m t states k out b first eno r er c ec u eu l el h,
-        short-message s n m t states k out b first eno r er c ec u eu l el h,
-      ),
-    )
+fordlinnet-make-read-returns-2 s n m t states k out b h zero e a u l c (f, g) =
+    read-made s n m t states k out b (nltb→le (length b) 44 h) (sym e) a u l c (f refl)
+fordlinnet-make-read-returns-2 s n m t states k out b h (suc j) e a u l c (f, g) =
+    let some : suc j ≡ 0 → ⊥ = λ z. absurd (omega (arith, z)) in
+    let (ea, eu, el, ec) = g some in
+    let refused = refusedAnswer (refusalAt s n (length m) t (states .active) k) in
+    same-made s n m t (states .active) k out b a refused (ea ∙ ap refusedAnswer e) u t eu l out el c b ec (refused-made s n m t states k out b (nltb→le (length b) 44 h) (λ z. some (e ∙ z)))

@@ -3,7 +3,7 @@
 use Prim.Native.Nat.{ℕ, _≤_, _<_}
 use mathlib.Core.Path.{_≡_}
 use mathlib.Core.Bool.{Bool, false, cond}
-use mathlib.Core.List.{List, [], _∷_}
+use mathlib.Core.List.{List}
 use lib.Dec.{eqb}
 use lib.ListN.{length, take}
 use Rattle.connection.specs.declared.Record.{Record}
@@ -11,9 +11,9 @@ use Rattle.outcome.specs.Outcome.{noMessage}
 use Rattle.table.specs.declared.Links.{Links}
 use Rattle.rules.specs.Rules.{Says, refusal, wasRead, torn, Answer, Call, Did, groupOf}
 use Rattle.rules.specs.Rules as Rules
-use Rattle.direct.specs.declared.LinkStates.{LinkStates}
 use Rattle.direct.specs.Direct.{BufferKept}
-use Rattle.direct_read.specs.declared.ReadAnswer.{ReadAnswer}
+use Rattle.reading.specs.declared.ReadAnswer.{ReadAnswer}
+use Rattle.reading.specs.Reading.{refusedAnswer}
 
 -- what the small answer says: a refusal's number, torn, or how many bytes were read
 unfoldable pub saysIn : ReadAnswer → Says
@@ -29,19 +29,9 @@ Reads s n m t active k out r u left c =
     (links : Links) → links .active ≡ active
     → Did (groupOf s n t links m) (Call.on k (Rules.Request.read out)) (answerIn r c left) (groupOf s n u links m)
 
-abbrev pub refusedAnswer : ℕ → ReadAnswer
-refusedAnswer j = record { refusal = j; torn = false; made = false; count = 0 }
-
 -- of the table t, the out buffer and the message's buffer b it leaves u, `left` and c. A message's buffer under 44 bytes: 1, and nothing
 -- changes
 abbrev pub ReadMade : ℕ → ℕ → List ℕ → List Record → List Bool → ℕ → List ℕ → List ℕ → ReadAnswer → List Record → List ℕ → List ℕ → Type 0
 ReadMade s n m t active k out b r u left c =
     (44 ≤ length b → Reads s n m t active k out r u left c × BufferKept (r .made) b c)
     × (length b < 44 → (r ≡ refusedAnswer 1) × (u ≡ t) × (left ≡ out) × (c ≡ b))
-
--- for a binding's test: field i is the number i, in the lowest and the highest byte, and a bool is whether `one` is i
-abbrev pub shapeLinkStates : ℕ → LinkStates
-shapeLinkStates one = record { active = eqb one 1 ∷ eqb one 2 ∷ eqb one 3 ∷ eqb one 4 ∷ [] }
-
-abbrev pub shapeReadAnswer : ℕ → ReadAnswer
-shapeReadAnswer one = record { refusal = 1; torn = eqb one 2; made = eqb one 3; count = 67108868 }

@@ -2,9 +2,9 @@
 use mathlib.Core.Path.{_≡_, refl, sym, ap, subst, _∙_}
 use mathlib.Core.Bool.{Bool, true, false, _&&_, cond}
 use mathlib.Core.List.{List, [], _∷_}
-use Prim.Native.Nat.{ℕ, _≤_, _<_}
+use Prim.Native.Nat.{ℕ, _<_}
 use native.Mathlib.Omega.{arith}
-use lib.Dec.{leb, eqb}
+use lib.Dec.{eqb}
 use borrow.Author.Tests.{eq-eqb, ne-eqb}
 use Rattle.cursor.specs.declared.Cursor.{Cursor}
 use Rattle.cursor.specs.Cursor.{stepOf}
@@ -28,10 +28,18 @@ use Rattle.table.specs.declared.Turned.{Turned}
 use Rattle.table.specs.Table.{sizesB, slotB, activeB, foundOf, refusedBy, keptBy, turnedBy, settledBy}
 use Rattle.rules.specs.Rules.{sent, saysOf}
 use Rattle.direct.specs.Direct.{heldOf}
-use Rattle.direct_send.specs.declared.Sending.{Sending}
-use Rattle.direct_send.specs.Sending.{takenIn, tellsIn, placingIn, saidOf, unsentAnswer, unsent, sentBy, sendingOf, inboundLeft, outboundLeft, recordLeft, movedOf}
+use Rattle.transmitting.specs.declared.Sending.{Sending}
+use Rattle.transmitting.specs.Transmitting.{takenIn, tellsIn, placingIn, saidOf, unsentAnswer, unsent, sentBy, sendingOf}
+use Rattle.transmitted.specs.Transmitted.{inboundLeft, outboundLeft, recordLeft, movedOf}
 use Rattle.direct_send.specs.DirectSend.{saysIn, ZerosBeside}
-use Rattle.direct_send.proofs.Steps.{send-short, send-before, send-forbidden, send-waits, send-sent}
+use Rattle.transmitting.proofs.Steps.{send-forbidden, send-waits, send-sent}
+
+-- a send where `j` is what was refused before, 0 for nothing
+abbrev pub sendingUnless : ℕ → Record → ℕ → Sending
+sendingUnless j rec len = cond (eqb j 0) (sendingOf rec len) (unsent j (rec .outbound))
+
+pub refused-first : (j : ℕ) → (j ≡ 0 → ⊥) → (rec : Record) (len : ℕ) → sendingUnless j rec len ≡ unsent j (rec .outbound)
+refused-first j z rec len = simp (ne-eqb j 0 z)
 
 -- what a sending t of the record rec shares with the answer and the record that the rules leave
 pub record Agrees (rec : Record) (t : Sending) (a : Turned) : Type 0 where
@@ -136,7 +144,7 @@ module _ (n : ℕ) (active : Bool) (rec : Record) (len : ℕ) where
   unfolding sendOf
   sent-is e w = simp (eq-eqb no 0 e, w)
 
-module _ (s n size count k : ℕ) (active : List Bool) (rec : Record) (len buffer : ℕ) (ls : Links) (h : 44 ≤ buffer) where
+module _ (s n size count k : ℕ) (active : List Bool) (rec : Record) (len : ℕ) (ls : Links) where
   abbrev up : Bool
   up = activeB active (rec .id .link)
 
@@ -144,11 +152,13 @@ module _ (s n size count k : ℕ) (active : List Bool) (rec : Record) (len buffe
   before = cond (sizesB s n size count) (heldOf s n active k rec) 1
 
   abbrev Both : Type 0
-  Both = Agrees rec (sendingOf rec before len buffer) (settledBy (foundOf s n size count k rec) ls rec (sendOf n up rec len))
+  Both = Agrees rec (sendingUnless before rec len) (settledBy (foundOf s n size count k rec) ls rec (sendOf n up rec len))
 
-  small-is : (j : ℕ) → (j ≡ 0 → ⊥) → before ≡ j → sendingOf rec before len buffer ≡ unsent j (rec .outbound)
-  small-is j z e =
-      ap (λ (x : ℕ). sendingOf rec x len buffer) e ∙ sym (send-before rec j len buffer (unsent j (rec .outbound)) h z refl)
+  small-is : (j : ℕ) → (j ≡ 0 → ⊥) → before ≡ j → sendingUnless before rec len ≡ unsent j (rec .outbound)
+  small-is j z e = ap (λ (x : ℕ). sendingUnless x rec len) e ∙ refused-first j z rec len
+
+  free-is : before ≡ 0 → sendingUnless before rec len ≡ sendingOf rec len
+  free-is e = ap (λ (x : ℕ). sendingUnless x rec len) e
 
   kept-is : (j : ℕ) (o : Outcome) → (j ≡ 0 → ⊥) → settledBy j ls rec o ≡ keptBy rec (refusedBy j ls)
   unfolding settledBy
@@ -197,17 +207,17 @@ module _ (s n size count k : ℕ) (active : List Bool) (rec : Record) (len buffe
     by-marks : coherentB n rec ≡ true → up ≡ true → (f : Bool) → sendForbids (rec .marks) ≡ f → (i : Bool) → waitsB rec len ≡ i → Both
     by-marks g a true f i v =
         let z : before ≡ 0 = held-is ∙ refusal-0 n up rec false g a refl in
-        move (sym (send-forbidden rec before len buffer (unsent 7 (rec .outbound)) h z f refl))
+        move (free-is z ∙ sym (send-forbidden rec len (unsent 7 (rec .outbound)) f refl))
         (large-refused 7 (λ e. absurd (omega (arith, e))) (refusal-7 n up rec (sendForbids (rec .marks)) g a f))
         (refused-agrees ls rec 7 (λ e. absurd (omega (arith, e))))
     by-marks g a false f true v =
         let z : before ≡ 0 = held-is ∙ refusal-0 n up rec false g a refl in
-        move (sym (send-waits rec before len buffer (unsent 0 (rec .outbound)) h z f v refl))
+        move (free-is z ∙ sym (send-waits rec len (unsent 0 (rec .outbound)) f v refl))
         (large-is (nothingSent rec) (waits-is n up rec len (refusal-0 n up rec (sendForbids (rec .marks)) g a f) v))
         (nothing-agrees ls rec)
     by-marks g a false f false v =
         let z : before ≡ 0 = held-is ∙ refusal-0 n up rec false g a refl in
-        move (sym (send-sent rec before len buffer (sentBy rec len) h z f v refl))
+        move (free-is z ∙ sym (send-sent rec len (sentBy rec len) f v refl))
         (large-is (sentOf rec len) (sent-is n up rec len (refusal-0 n up rec (sendForbids (rec .marks)) g a f) v))
         (sent-agrees ls rec n g len)
 
@@ -232,10 +242,6 @@ module _ (s n size count k : ℕ) (active : List Bool) (rec : Record) (len buffe
   pub agree : Both
   agree = by-sizes (sizesB s n size count) refl
 
--- a buffer too short for a message
-pub short : (rec : Record) (j len buffer : ℕ) → buffer < 44 → sendingOf rec j len buffer ≡ unsent 1 (rec .outbound)
-short rec j len buffer h = sym (send-short rec j len buffer (unsent 1 (rec .outbound)) h refl)
-
 -- THE PLACINGS that are not named are all zeros
 zeros-beside : (go : Stretch → Placing) (n : ℕ) (tells : Bool) (s : Stretches) → ZerosBeside (saidOf go n tells s)
 zeros-beside go n tells Nowhere = record { most = omega arith; no-first = λ e. refl; no-second = λ e. refl }
@@ -254,19 +260,18 @@ module _ (rec : Record) (len : ℕ) where
       let n = takenIn (rec .remote .size) (rec .outbound) len in
       zeros-beside (placingBy rec) n (tellsIn (rec .outbound) n len) (stretchesOf (rec .remote .size) (rec .outbound .producer) n)
 
-  picked : ℕ → Bool → Bool → Bool → Bool → Sending
-  picked j fits free forbids waits =
+  picked : ℕ → Bool → Bool → Bool → Sending
+  picked j free forbids waits =
       let o = rec .outbound in
-      cond fits (cond free (cond forbids (unsent 7 o) (cond waits (unsent 0 o) (sentBy rec len))) (unsent j o)) (unsent 1 o)
+      cond free (cond forbids (unsent 7 o) (cond waits (unsent 0 o) (sentBy rec len))) (unsent j o)
 
-  by-tests : (j : ℕ) (fits free forbids waits : Bool) → ZerosBeside (picked j fits free forbids waits .said)
+  by-tests : (j : ℕ) (free forbids waits : Bool) → ZerosBeside (picked j free forbids waits .said)
   unfolding picked
-  by-tests j false free forbids waits = none-named 1
-  by-tests j true false forbids waits = none-named j
-  by-tests j true true true waits = none-named 7
-  by-tests j true true false true = none-named 0
-  by-tests j true true false false = zeros-sent
+  by-tests j false forbids waits = none-named j
+  by-tests j true true waits = none-named 7
+  by-tests j true false true = none-named 0
+  by-tests j true false false = zeros-sent
 
-  pub zeros-are : (j buffer : ℕ) → ZerosBeside (sendingOf rec j len buffer .said)
+  pub zeros-are : (j : ℕ) → ZerosBeside (sendingUnless j rec len .said)
   unfolding sendingOf picked
-  zeros-are j buffer = by-tests j (leb 44 buffer) (eqb j 0) (sendForbids (rec .marks)) (waitsB rec len)
+  zeros-are j = by-tests j (eqb j 0) (sendForbids (rec .marks)) (waitsB rec len)

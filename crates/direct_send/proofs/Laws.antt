@@ -1,12 +1,12 @@
--- What the walks of `sending_at`, `put`, `tell_at` and `fordlinnet_make_send` give. Assumes nothing.
-use Prim.Native.Nat.{ℕ, _≤_, _<_}
+-- What the walks of `sending_at`, `put`, `tell_at`, `send_on`, `send_unless` and `fordlinnet_make_send` give. Assumes nothing.
+use Prim.Native.Nat.{ℕ, zero, suc, _≤_, _<_}
 use mathlib.Core.Path.{_≡_, refl, sym, ap, _∙_, subst}
 use mathlib.Core.Bool.{Bool, true, false, not, cond}
 use mathlib.Core.List.{List, []}
 use native.Mathlib.Omega.{arith}
-use lib.Dec.{T as Holds, ltb}
+use lib.Dec.{T as Holds, ltb, ltb→lt, nltb→le, eqb}
 use lib.ListN.{length, take, getD, set}
-use borrow.Author.Tests.{ne-eqb}
+use borrow.Author.Tests.{eqb-true, eqb-false}
 use Rattle.cdc.specs.Cdc.{encodeOf}
 use Rattle.cdc.proofs.RoundTrip.{encode-length}
 use Rattle.connection.specs.declared.Record.{Record}
@@ -26,11 +26,13 @@ use Rattle.sending.proofs.Laws.{send-turn}
 use Rattle.direct.specs.declared.LinkStates.{LinkStates}
 use Rattle.direct.specs.Direct.{heldOf, refusalAt, writtenIn, BufferKept}
 use Rattle.direct.proofs.Laws.{held-shut, front, kept, links-stay}
-use Rattle.direct_send.specs.declared.SendAnswer.{SendAnswer}
-use Rattle.direct_send.specs.declared.Sending.{Sending}
-use Rattle.direct_send.specs.Sending.{unsentAnswer, unsent, sendingOf, outsideOf, sendingAt, inboundLeft, outboundLeft, recordLeft, movedOf, messageLeft}
-use Rattle.direct_send.specs.DirectSend.{answerIn, ZerosBeside, SendMade}
-use Rattle.direct_send.proofs.Agree.{Agrees, agree, short, zeros-are}
+use Rattle.transmitting.specs.declared.SendAnswer.{SendAnswer}
+use Rattle.transmitting.specs.declared.Sending.{Sending}
+use Rattle.transmitting.specs.Transmitting.{unsentAnswer, unsent, sendingOf}
+use Rattle.transmitted.specs.Transmitted.{inboundLeft, outboundLeft, recordLeft, movedOf, messageLeft}
+use Rattle.direct_send.specs.TableLeft.{sendingAt, LeftBy, LeftUnless}
+use Rattle.direct_send.specs.DirectSend.{answerIn, SendMade}
+use Rattle.direct_send.proofs.Agree.{sendingUnless, refused-first, Agrees, agree, zeros-are}
 
 -- THE RECORD THAT THE SLOT SHOWS
 inside : (b : Bool) → Holds b → b ≡ true
@@ -40,20 +42,20 @@ beyond : (b : Bool) → Holds (not b) → b ≡ false
 beyond true h = absurd h
 beyond false h = refl
 
-pub sending-at-returns : (t : List Record) (k first len buffer : ℕ) → (r : ℕ) → r ≡ indexOf k (length t) → Holds (ltb r (length t))
-    → (q : Sending) → q ≡ sendingOf (getD t r zeroRecord) first len buffer → q ≡ sendingAt t k first len buffer
+pub sending-at-returns : (t : List Record) (k len : ℕ) → (r : ℕ) → r ≡ indexOf k (length t) → Holds (ltb r (length t))
+    → (q : Sending) → q ≡ sendingOf (getD t r zeroRecord) len → q ≡ sendingAt t k len
 unfolding sendingAt
-sending-at-returns t k first len buffer r e h q eq =
+sending-at-returns t k len r e h q eq =
     let i : ltb (indexOf k (length t)) (length t) ≡ true = ap (λ (x : ℕ). ltb x (length t)) (sym e) ∙ inside (ltb r (length t)) h in
     let c : getD t r zeroRecord ≡ recordAt t k = record-at-returns t k r e h in
     simp (eq, c, i)
 
-pub sending-at-returns-2 : (t : List Record) (k first len buffer : ℕ) → (r : ℕ) → r ≡ indexOf k (length t)
-    → Holds (not (ltb r (length t))) → (q : Sending) → q ≡ outsideOf first buffer → q ≡ sendingAt t k first len buffer
+pub sending-at-returns-2 : (t : List Record) (k len : ℕ) → (r : ℕ) → r ≡ indexOf k (length t) → Holds (not (ltb r (length t)))
+    → (z : Record) → z ≡ zeroRecord → (q : Sending) → q ≡ unsent 0 (z .outbound) → q ≡ sendingAt t k len
 unfolding sendingAt
-sending-at-returns-2 t k first len buffer r e h q eq =
+sending-at-returns-2 t k len r e h z ez q eq =
     let i : ltb (indexOf k (length t)) (length t) ≡ false = ap (λ (x : ℕ). ltb x (length t)) (sym e) ∙ beyond (ltb r (length t)) h in
-    simp (eq, i)
+    simp (eq, ez, i)
 
 pub tell-at-returns : (t : List Record) (k : ℕ) (q : Sending) (b : List ℕ)
     → (r : ℕ) → r ≡ indexOf k (length t) → Holds (ltb r (length t)) → (u : Unit {0}) (c : List ℕ)
@@ -89,23 +91,18 @@ zero-refused s n size t active k first e h z =
     some (sizesB s n size (length t)) (heldOf s n active k (recordAt t k))
     (ap (heldOf s n active k) (sym e) ∙ held-shut s n active k) (sym h ∙ z)
 
-outside-is : (j len buffer : ℕ) → (j ≡ 0 → ⊥) → outsideOf j buffer ≡ sendingOf zeroRecord j len buffer
-unfolding outsideOf sendingOf
-outside-is j len buffer z = simp (ne-eqb j 0 z)
+module _ (s n size : ℕ) (t : List Record) (active : List Bool) (k first len : ℕ) (h : first ≡ refusalAt s n size t active k) (f : first ≡ 0)
+  where
+    by-place : (b : Bool) → ltb (indexOf k (length t)) (length t) ≡ b → sendingAt t k len ≡ sendingOf (recordAt t k) len
+    unfolding sendingAt
+    by-place true e = simp e
+    by-place false e =
+        let z : zeroRecord ≡ recordAt t k =
+        record-at-returns-2 t k (indexOf k (length t)) refl (subst (λ (b : Bool). Holds (not b)) (sym e) tt) zeroRecord refl in
+        absurd (zero-refused s n size t active k first z h f)
 
-module _ (s n size : ℕ) (t : List Record) (active : List Bool) (k first len buffer : ℕ) (h : first ≡ refusalAt s n size t active k) where
-  by-place : (b : Bool) → ltb (indexOf k (length t)) (length t) ≡ b
-      → sendingAt t k first len buffer ≡ sendingOf (recordAt t k) first len buffer
-  unfolding sendingAt
-  by-place true e = simp e
-  by-place false e =
-      let z : zeroRecord ≡ recordAt t k =
-      record-at-returns-2 t k (indexOf k (length t)) refl (subst (λ (b : Bool). Holds (not b)) (sym e) tt) zeroRecord refl in
-      let o : sendingAt t k first len buffer ≡ outsideOf first buffer = simp e in
-      o ∙ outside-is first len buffer (zero-refused s n size t active k first z h) ∙ ap (λ (c : Record). sendingOf c first len buffer) z
-
-  shown : sendingAt t k first len buffer ≡ sendingOf (recordAt t k) first len buffer
-  shown = by-place (ltb (indexOf k (length t)) (length t)) refl
+    shown : sendingAt t k len ≡ sendingOf (recordAt t k) len
+    shown = by-place (ltb (indexOf k (length t)) (length t)) refl
 
 -- nothing sent leaves the record as it was
 left-unsent : (rec : Record) (j : ℕ) → recordLeft rec (unsent j (rec .outbound)) ≡ rec
@@ -116,7 +113,7 @@ left-unsent rec j = refl
 module _
     (s n : ℕ) (m : List ℕ) (t : List Record) (states : LinkStates) (k : ℕ) (bytes b : List ℕ) (first : ℕ)
     (eno : first ≡ refusalAt s n (length m) t (states .active) k) (r : Sending)
-    (er : r ≡ sendingOf (recordAt t k) first (length bytes) (length b)) (c : List ℕ) (ec : c ≡ messageLeft (recordAt t k) r b)
+    (er : r ≡ sendingUnless first (recordAt t k) (length bytes)) (c : List ℕ) (ec : c ≡ messageLeft (recordAt t k) r b)
     (u : List Record) (eu : u ≡ withRecord t k (recordLeft (recordAt t k) r))
   where
     abbrev held : ℕ
@@ -151,8 +148,8 @@ module _
         ag : Agrees (recordAt t k) r a
         ag =
             subst (λ (q : Sending). Agrees (recordAt t k) q a)
-            (sym (er ∙ ap (λ (x : ℕ). sendingOf (recordAt t k) x (length bytes) (length b)) held-is))
-            (agree s n (length m) (length t) k (states .active) (recordAt t k) (length bytes) (length b) ls h)
+            (sym (er ∙ ap (λ (x : ℕ). sendingUnless x (recordAt t k) (length bytes)) held-is))
+            (agree s n (length m) (length t) k (states .active) (recordAt t k) (length bytes) ls)
 
         did : ls .active ≡ states .active → Did (groupOf s n t ls m) (Call.on k (Rules.Request.send bytes)) (answerOf (a .answer) [])
             (groupOf s n (withRecord t k (a .after)) (a .answer .links) m)
@@ -183,43 +180,92 @@ module _
       pub buffer-kept : BufferKept (r .said .made) b c
       buffer-kept = kept told b c (encode-length (messageOf (movedOf (recordAt t k) r))) h (r .said .made) told-is
 
-    -- a shorter one
-    module _ (h : length b < 44) where
-      refused-is : r ≡ unsent 1 (recordAt t k .outbound)
-      refused-is = er ∙ short (recordAt t k) first (length bytes) (length b) h
+-- the two ways of `send_unless` are one sending
+positive : (j : ℕ) → (j ≡ 0 → ⊥) → 0 < j
+positive zero z = absurd (z refl)
+positive (suc j) z = omega arith
 
-      pub short-table : u ≡ t
-      short-table =
-          eu
-          ∙ ap (λ (q : Sending). withRecord t k (recordLeft (recordAt t k) q)) refused-is
-          ∙ ap (withRecord t k) (left-unsent (recordAt t k) 1)
-          ∙ record-kept t k
+module _
+    (s n size : ℕ) (t : List Record) (active : List Bool) (k : ℕ) (bytes b : List ℕ) (first : ℕ) (eno : first ≡ refusalAt s n size t active k)
+    (a : SendAnswer) (u : List Record) (c : List ℕ) (h : LeftUnless first t k bytes b a u c)
+  where
+    abbrev all : Sending
+    all = sendingUnless first (recordAt t k) (length bytes)
 
-      pub short-message : c ≡ b
-      unfolding messageLeft
-      short-message = ec ∙ ap (λ (q : Sending). messageLeft (recordAt t k) q b) refused-is
+    pub record OneSending : Type 0 where
+      pub answer-is : a ≡ all .said
+      pub table-is : u ≡ withRecord t k (recordLeft (recordAt t k) all)
+      pub message-is : c ≡ messageLeft (recordAt t k) all b
 
-      pub short-answer : r .said ≡ unsentAnswer 1
-      short-answer = ap (λ (q : Sending). q .said) refused-is
+    one-by : (z : Bool) → eqb first 0 ≡ z → OneSending
+    unfolding messageLeft
+    one-by true z =
+        let f : first ≡ 0 = eqb-true first 0 z in
+        let l : LeftBy t k bytes b a u c = h .0 f in
+        let e : sendingAt t k (length bytes) ≡ all =
+        shown s n size t active k first (length bytes) eno f
+        ∙ ap (λ (x : ℕ). sendingUnless x (recordAt t k) (length bytes)) (sym f) in
+        record {
+          answer-is = l .0 ∙ ap (λ (q : Sending). q .said) e;
+          table-is = l .1 ∙ ap (λ (q : Sending). withRecord t k (recordLeft (recordAt t k) q)) e;
+          message-is = l .2 ∙ ap (λ (q : Sending). messageLeft (recordAt t k) q b) e;
+        }
+    one-by false z =
+        let f = eqb-false first 0 z in
+        let l = h .1 (positive first f) in
+        let e : unsent first (recordAt t k .outbound) ≡ all = sym (refused-first first f (recordAt t k) (length bytes)) in
+        record {
+          answer-is = l .0 ∙ ap (λ (q : Sending). q .said) e;
+          table-is =
+              l .1
+              ∙ sym (record-kept t k)
+              ∙ ap (withRecord t k) (sym (left-unsent (recordAt t k) first))
+              ∙ ap (λ (q : Sending). withRecord t k (recordLeft (recordAt t k) q)) e;
+          message-is = l .2 ∙ ap (λ (q : Sending). messageLeft (recordAt t k) q b) e;
+        }
 
-pub fordlinnet-make-send-returns : (s n : ℕ) (m : List ℕ) (t : List Record) (states : LinkStates) (k : ℕ) (bytes b : List ℕ)
-    → (first : ℕ) → first ≡ refusalAt s n (length m) t (states .active) k
-    → (r : Sending) → r ≡ sendingAt t k first (length bytes) (length b)
+    pub one-sending : OneSending
+    one-sending = one-by (eqb first 0) refl
+
+pub send-on-returns : (t : List Record) (k : ℕ) (bytes b : List ℕ)
+    → (r : Sending) → r ≡ sendingAt t k (length bytes)
     → (v : Unit {0}) (c : List ℕ) → c ≡ messageLeft (recordAt t k) r b
     → (w : Unit {0}) (u : List Record) → u ≡ withRecord t k (recordLeft (recordAt t k) r)
     → (a : SendAnswer) → a ≡ r .said
+    → LeftBy t k bytes b a u c
+send-on-returns t k bytes b r er v c ec w u eu a ea = (
+  ea ∙ ap (λ (q : Sending). q .said) er,
+  eu ∙ ap (λ (q : Sending). withRecord t k (recordLeft (recordAt t k) q)) er,
+  ec ∙ ap (λ (q : Sending). messageLeft (recordAt t k) q b) er,
+)
+
+pub send-unless-returns : (j : ℕ) (t : List Record) (k : ℕ) (bytes b : List ℕ) → Holds (ltb 0 j)
+    → (a : SendAnswer) → a ≡ unsentAnswer j → LeftUnless j t k bytes b a t b
+send-unless-returns j t k bytes b h a ea = (λ e. absurd (omega (arith, ltb→lt 0 j h, e)), λ e. (ea, refl, refl))
+
+pub send-unless-returns-2 : (j : ℕ) (t : List Record) (k : ℕ) (bytes b : List ℕ) → Holds (not (ltb 0 j))
+    → (a : SendAnswer) (u : List Record) (c : List ℕ) → LeftBy t k bytes b a u c → LeftUnless j t k bytes b a u c
+send-unless-returns-2 j t k bytes b h a u c l = (λ e. l, λ e. absurd (omega (arith, nltb→le 0 j h, e)))
+
+pub fordlinnet-make-send-returns : (s n : ℕ) (m : List ℕ) (t : List Record) (states : LinkStates) (k : ℕ) (bytes b : List ℕ)
+    → Holds (ltb (length b) 44) → (a : SendAnswer) → a ≡ unsentAnswer 1 → SendMade s n m t (states .active) k bytes b a t b
+fordlinnet-make-send-returns s n m t states k bytes b h a ea =
+    (λ e. absurd (omega (arith, ltb→lt (length b) 44 h, e)), λ e. (ea, refl, refl))
+
+pub fordlinnet-make-send-returns-2 : (s n : ℕ) (m : List ℕ) (t : List Record) (states : LinkStates) (k : ℕ) (bytes b : List ℕ)
+    → Holds (not (ltb (length b) 44))
+    → (first : ℕ) → first ≡ refusalAt s n (length m) t (states .active) k
+    → (a : SendAnswer) (u : List Record) (c : List ℕ) → LeftUnless first t k bytes b a u c
     → SendMade s n m t (states .active) k bytes b a u c
-fordlinnet-make-send-returns s n m t states k bytes b first eno r er v c ec w u eu a ea =
-    let e = er ∙ shown s n (length m) t (states .active) k first (length bytes) (length b) eno in
-    subst (λ (y : SendAnswer). SendMade s n m t (states .active) k bytes b y u c) (sym ea) (
-      λ h. (
-        λ ls x. sends s n m t states k bytes b first eno r e c ec u eu h ls x,
-        buffer-kept s n m t states k bytes b first eno r e c ec u eu h,
-        subst (λ (q : Sending). ZerosBeside (q .said)) (sym e) (zeros-are (recordAt t k) (length bytes) first (length b)),
+fordlinnet-make-send-returns-2 s n m t states k bytes b h first eno a u c l =
+    let one = one-sending s n (length m) t (states .active) k bytes b first eno a u c l in
+    let q : Sending = sendingUnless first (recordAt t k) (length bytes) in
+    let fits = nltb→le (length b) 44 h in
+    subst (λ (y : SendAnswer). SendMade s n m t (states .active) k bytes b y u c) (sym (one .answer-is)) (
+      λ e. (
+        λ ls x. sends s n m t states k bytes b first eno q refl c (one .message-is) u (one .table-is) fits ls x,
+        buffer-kept s n m t states k bytes b first eno q refl c (one .message-is) u (one .table-is) fits,
+        zeros-are (recordAt t k) (length bytes) first,
       ),
-      λ h. (
-        short-answer s n m t states k bytes b first eno r e c ec u eu h,
-        short-table s n m t states k bytes b first eno r e c ec u eu h,
-        short-message s n m t states k bytes b first eno r e c ec u eu h,
-      ),
+      λ e. absurd (omega (arith, fits, e)),
     )

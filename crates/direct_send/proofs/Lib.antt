@@ -1,4 +1,3 @@
--- `Steps`: the parts of a send. `Agree`: a sending says what the rules' send says. `Laws`: the walks, and the contract.
-pub mod Steps
+-- `Agree`: a sending says what the rules' send says. `Laws`: the walks, and the contract.
 pub mod Agree
 pub mod Laws

@@ -14,8 +14,8 @@ use Rattle.table.specs.declared.Links.{Links}
 use Rattle.rules.specs.Rules.{Says, refusal, sent, Answer, Call, Did, groupOf}
 use Rattle.rules.specs.Rules as Rules
 use Rattle.direct.specs.Direct.{BufferKept}
-use Rattle.direct_send.specs.declared.SendAnswer.{SendAnswer}
-use Rattle.direct_send.specs.Sending.{unsentAnswer}
+use Rattle.transmitting.specs.declared.SendAnswer.{SendAnswer}
+use Rattle.transmitting.specs.Transmitting.{unsentAnswer}
 
 -- the placings that the small answer names
 abbrev pub placingsIn : SendAnswer → List Placing
@@ -46,15 +46,3 @@ abbrev pub SendMade : ℕ → ℕ → List ℕ → List Record → List Bool →
 SendMade s n m t active k bytes b r u c =
     (44 ≤ length b → Sends s n m t active k bytes r u c × BufferKept (r .made) b c × ZerosBeside r)
     × (length b < 44 → (r ≡ unsentAnswer 1) × (u ≡ t) × (c ≡ b))
-
--- for a binding's test: field i is the number i, in the lowest and the highest byte, and a bool is whether `one` is i
-abbrev pub shapeSendAnswer : ℕ → SendAnswer
-shapeSendAnswer one =
-    record {
-      refusal = 1;
-      made = eqb one 2;
-      placings = 3;
-      taken = 67108868;
-      first = record { key = 83886085; address = 432345564227567622; start = 117440519; len = 134217736 };
-      second = record { key = 150994953; address = 720575940379279370; start = 184549387; len = 201326604 };
-    }

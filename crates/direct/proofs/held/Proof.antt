@@ -15,13 +15,12 @@ refusal-requires c κs = search needs
 
 returns : tie.Need-returns
 returns c =
-    let t = c .before in
-    let k = t .before .before in
-    let l = k .before in
-    held-is _ _ _ _ _ (k .slot-ok .ensures) (t .if1 .taken) (l .link-active .ensures) (c .refusal .ensures)
+    let l = c .before in
+    let t = l .before in
+    held-is _ _ _ _ _ (t .before .before .slot-ok .ensures) (t .if1 .taken) (l .link-active .ensures) (c .refusal .ensures)
 
 returns-2 : tie.Need-returns-2
 returns-2 c = held-none _ _ _ _ _ (c .before .before .slot-ok .ensures) (c .if1 .left)
 
 pub held-spec : {M : Type 1} → statement M
-held-spec = tie.close (tie.spec link-active-requires slot-ok-requires refusal-requires returns returns-2)
+held-spec = tie.close (tie.spec slot-ok-requires link-active-requires refusal-requires returns returns-2)

@@ -58,25 +58,16 @@ use Rattle.table.proofs.sizes_ok as f-sizes-ok
 use Rattle.table.proofs.sizes_ok.Symbol as f-sizes-ok-def
 use Rattle.table.proofs.sizes_ok.Symbol.{name as #f-sizes-ok}
 use Rattle.table.proofs.sizes_ok.Met as f-sizes-ok-thm
-use Rattle.direct.proofs.place_of as f-place-of
-use Rattle.direct.proofs.place_of.Symbol as f-place-of-def
-use Rattle.direct.proofs.place_of.Symbol.{name as #f-place-of}
-use Rattle.direct.proofs.place_of.Met as f-place-of-thm
-use Rattle.direct.proofs.held as f-held
-use Rattle.direct.proofs.held.Symbol as f-held-def
-use Rattle.direct.proofs.held.Symbol.{name as #f-held}
-use Rattle.direct.proofs.held.Met as f-held-thm
-use Rattle.table.proofs.refusal_if as f-refusal-if
-use Rattle.table.proofs.refusal_if.Symbol as f-refusal-if-def
-use Rattle.table.proofs.refusal_if.Symbol.{name as #f-refusal-if}
-use Rattle.table.proofs.refusal_if.Met as f-refusal-if-thm
+use Rattle.direct.proofs.held_at as f-held-at
+use Rattle.direct.proofs.held_at.Symbol as f-held-at-def
+use Rattle.direct.proofs.held_at.Symbol.{name as #f-held-at}
+use Rattle.direct.proofs.held_at.Met as f-held-at-thm
 use Rattle.direct.proofs.refusal_at.Key.{name as #call}
 use Rattle.direct.proofs.refusal_at as call
 use Rattle.direct.proofs.refusal_at.Statement as stated
 use Rattle.direct.proofs.refusal_at.Code as code
 use Rattle.direct.specs.Direct.{heldOf, refusalAt}
-use Rattle.table.specs.Table.{indexOf, sizesB}
-use mathlib.Core.Bool.{cond}
+use Rattle.table.specs.Table.{recordAt, sizesB}
 use Rattle.direct.proofs.Laws.{refusal-at-returns, refusal-at-returns-2}
 
 abbrev stayed : Stays (call.ended .signature .params) (call.ended .kept)
@@ -90,40 +81,20 @@ module _ {M : Type 1} (𝓤 : URA M) (H : Heap 𝓤) (A : Atoms 𝓤) (mem : Mem
   abbrev to-f-sizes-ok : (x0 : ℕ) (v0 : Val) (x1 : ℕ) (v1 : Val) (x2 : ℕ) (v2 : Val) (x3 : ℕ) (v3 : Val) → C-f-sizes-ok .Ghost
   to-f-sizes-ok x0 v0 x1 v1 x2 v2 x3 v3 = ((tt, tt, tt, (x0, (x1, (x2, (x3, tt)))), (v0 ∷ [], (v1 ∷ [], (v2 ∷ [], (v3 ∷ [], tt))))), tt)
 
-  abbrev C-f-place-of : Contract 𝓤
-  C-f-place-of = tripleOf 𝓤 H A f-place-of.signature (f-place-of.spec 𝓤 H A mem run)
+  abbrev C-f-held-at : Contract 𝓤
+  C-f-held-at = tripleOf 𝓤 H A f-held-at.signature (f-held-at.spec 𝓤 H A mem run)
 
-  abbrev to-f-place-of : (x0 : ℕ) (v0 : Val) (x1 : ℕ) (v1 : Val) → C-f-place-of .Ghost
-  to-f-place-of x0 v0 x1 v1 = ((tt, tt, tt, (x0, (x1, tt)), (v0 ∷ [], (v1 ∷ [], tt))), tt)
-
-  abbrev C-f-held : Contract 𝓤
-  C-f-held = tripleOf 𝓤 H A f-held.signature (f-held.spec 𝓤 H A mem run)
-
-  abbrev to-f-held : (x0 : ℕ) (v0 : Val) (x1 : ℕ) (v1 : Val) (x2 : LinkStates) (v2 : Val) (x3 : ℕ) (v3 : Val) (x4 : Record) (v4 : Val) → C-f-held .Ghost
-  to-f-held x0 v0 x1 v1 x2 v2 x3 v3 x4 v4 = ((tt, tt, tt, (x0, (x1, (x2, (x3, (x4, tt))))), (v0 ∷ [], (v1 ∷ [], (v2 ∷ [], (v3 ∷ [], (v4 ∷ [], tt)))))), tt)
-
-  abbrev C-f-refusal-if : Contract 𝓤
-  C-f-refusal-if = tripleOf 𝓤 H A f-refusal-if.signature (f-refusal-if.spec 𝓤 H A mem run)
-
-  abbrev to-f-refusal-if : (x0 : Bool) (v0 : Val) (x1 : ℕ) (v1 : Val) (x2 : ℕ) (v2 : Val) → C-f-refusal-if .Ghost
-  to-f-refusal-if x0 v0 x1 v1 x2 v2 = ((tt, tt, tt, (x0, (x1, (x2, tt))), (v0 ∷ [], (v1 ∷ [], (v2 ∷ [], tt)))), tt)
+  abbrev to-f-held-at : (κ2 : Lft) (q2 : Share) (x0 : ℕ) (v0 : Val) (x1 : ℕ) (v1 : Val) (x2 : RefT (List Record)) (v2 : Val) (x3 : LinkStates) (v3 : Val) (x4 : ℕ) (v4 : Val) → C-f-held-at .Ghost
+  to-f-held-at κ2 q2 x0 v0 x1 v1 x2 v2 x3 v3 x4 v4 = (((κ2, tt), (q2, tt), tt, (x0, (x1, (x2, (x3, (x4, tt))))), (v0 ∷ [], (v1 ∷ [], (v2 ∷ [], (v3 ∷ [], (v4 ∷ [], tt)))))), tt)
 
 module _ {M : Type 1} (𝓤 : URA M) (H : Heap 𝓤) (A : Atoms 𝓤) (W : Given 𝓤 H A) (mem : Memory → SProp 𝓤) (run : Routine → Fun 𝓤) where
   goes-f-sizes-ok : (x0 : ℕ) (v0 : Val) (x1 : ℕ) (v1 : Val) (x2 : ℕ) (v2 : Val) (x3 : ℕ) (v3 : Val) (i0 : Is u32 x0 (v0 ∷ [])) (i1 : Is u32 x1 (v1 ∷ [])) (i2 : Is usize x2 (v2 ∷ [])) (i3 : Is usize x3 (v3 ∷ [])) → ent 𝓤 (emp 𝓤) (C-f-sizes-ok 𝓤 H A mem run .pre (to-f-sizes-ok 𝓤 H A mem run x0 v0 x1 v1 x2 v2 x3 v3))
   goes-f-sizes-ok x0 v0 x1 v1 x2 v2 x3 v3 i0 i1 i2 i3 =
       qed W ([]) ∵ nothing ! $ owned ! usize (Is usize) (uint-makes 𝓤 H A W w64) x3 _ i3 $ fjoin ! $ owned ! usize (Is usize) (uint-makes 𝓤 H A W w64) x2 _ i2 $ fjoin ! $ owned ! u32 (Is u32) (uint-makes 𝓤 H A W w32) x1 _ i1 $ fjoin ! $ owned ! u32 (Is u32) (uint-makes 𝓤 H A W w32) x0 _ i0 $ fjoin ! $ nothing ! $ join ! $ frame ! $ done !
 
-  goes-f-place-of : (x0 : ℕ) (v0 : Val) (x1 : ℕ) (v1 : Val) (i0 : Is u32 x0 (v0 ∷ [])) (i1 : Is usize x1 (v1 ∷ [])) → ent 𝓤 (emp 𝓤) (C-f-place-of 𝓤 H A mem run .pre (to-f-place-of 𝓤 H A mem run x0 v0 x1 v1))
-  goes-f-place-of x0 v0 x1 v1 i0 i1 =
-      qed W ([]) ∵ nothing ! $ owned ! usize (Is usize) (uint-makes 𝓤 H A W w64) x1 _ i1 $ fjoin ! $ owned ! u32 (Is u32) (uint-makes 𝓤 H A W w32) x0 _ i0 $ fjoin ! $ nothing ! $ join ! $ frame ! $ done !
-
-  goes-f-held : (x0 : ℕ) (v0 : Val) (x1 : ℕ) (v1 : Val) (x2 : LinkStates) (v2 : Val) (x3 : ℕ) (v3 : Val) (x4 : Record) (v4 : Val) (i0 : Is u32 x0 (v0 ∷ [])) (i1 : Is u32 x1 (v1 ∷ [])) (i2 : Is LinkStatesT.the-row x2 (v2 ∷ [])) (i3 : Is u32 x3 (v3 ∷ [])) (i4 : Is RecordT.the-row x4 (v4 ∷ [])) → ent 𝓤 (emp 𝓤) (C-f-held 𝓤 H A mem run .pre (to-f-held 𝓤 H A mem run x0 v0 x1 v1 x2 v2 x3 v3 x4 v4))
-  goes-f-held x0 v0 x1 v1 x2 v2 x3 v3 x4 v4 i0 i1 i2 i3 i4 =
-      qed W ([]) ∵ nothing ! $ owned ! RecordT.the-row (Is RecordT.the-row) (LL.makes RecordT.the-type RecordL.the-plain 𝓤 H A) x4 _ i4 $ fjoin ! $ owned ! u32 (Is u32) (uint-makes 𝓤 H A W w32) x3 _ i3 $ fjoin ! $ owned ! LinkStatesT.the-row (Is LinkStatesT.the-row) (LL.makes LinkStatesT.the-type LinkStatesL.the-plain 𝓤 H A) x2 _ i2 $ fjoin ! $ owned ! u32 (Is u32) (uint-makes 𝓤 H A W w32) x1 _ i1 $ fjoin ! $ owned ! u32 (Is u32) (uint-makes 𝓤 H A W w32) x0 _ i0 $ fjoin ! $ nothing ! $ join ! $ frame ! $ done !
-
-  goes-f-refusal-if : (x0 : Bool) (v0 : Val) (x1 : ℕ) (v1 : Val) (x2 : ℕ) (v2 : Val) (i0 : Is bool x0 (v0 ∷ [])) (i1 : Is u8 x1 (v1 ∷ [])) (i2 : Is u8 x2 (v2 ∷ [])) → ent 𝓤 (emp 𝓤) (C-f-refusal-if 𝓤 H A mem run .pre (to-f-refusal-if 𝓤 H A mem run x0 v0 x1 v1 x2 v2))
-  goes-f-refusal-if x0 v0 x1 v1 x2 v2 i0 i1 i2 =
-      qed W ([]) ∵ nothing ! $ owned ! u8 (Is u8) (uint-makes 𝓤 H A W w8) x2 _ i2 $ fjoin ! $ owned ! u8 (Is u8) (uint-makes 𝓤 H A W w8) x1 _ i1 $ fjoin ! $ owned ! bool (Is bool) (bool-makes 𝓤 H A W) x0 _ i0 $ fjoin ! $ nothing ! $ join ! $ frame ! $ done !
+  goes-f-held-at : (κ2 : Lft) (q2 : Share) (x0 : ℕ) (v0 : Val) (x1 : ℕ) (v1 : Val) (x2 : RefT (List Record)) (v2 : Val) (x3 : LinkStates) (v3 : Val) (x4 : ℕ) (v4 : Val) (i0 : Is u32 x0 (v0 ∷ [])) (i1 : Is u32 x1 (v1 ∷ [])) (i3 : Is LinkStatesT.the-row x3 (v3 ∷ [])) (i4 : Is u32 x4 (v4 ∷ [])) → ent 𝓤 (mean 𝓤 H A (‵ (flft κ2 q2) ⊛ ‵ (ShrSlice (named 0) κ2 RecordT.the-row .own x2 (v2 ∷ [])) ⊛ ‵ ftrue)) (C-f-held-at 𝓤 H A mem run .pre (to-f-held-at 𝓤 H A mem run κ2 q2 x0 v0 x1 v1 x2 v2 x3 v3 x4 v4))
+  goes-f-held-at κ2 q2 x0 v0 x1 v1 x2 v2 x3 v3 x4 v4 i0 i1 i3 i4 =
+      qed W ((‵ (flft κ2 q2) ⊛ ‵ (ShrSlice (named 0) κ2 RecordT.the-row .own x2 (v2 ∷ [])) ⊛ ‵ ftrue) ∷ []) ∵ split ! $ move ! (1 ∷ []) $ split ! $ move ! (1 ∷ []) $ drop ! $ nothing ! $ owned ! u32 (Is u32) (uint-makes 𝓤 H A W w32) x4 _ i4 $ fjoin ! $ owned ! LinkStatesT.the-row (Is LinkStatesT.the-row) (LL.makes LinkStatesT.the-type LinkStatesL.the-plain 𝓤 H A) x3 _ i3 $ fjoin ! $ move ! (1 ∷ 0 ∷ []) $ fjoin ! $ owned ! u32 (Is u32) (uint-makes 𝓤 H A W w32) x1 _ i1 $ fjoin ! $ owned ! u32 (Is u32) (uint-makes 𝓤 H A W w32) x0 _ i0 $ fjoin ! $ nothing ! $ move ! (2 ∷ 0 ∷ []) $ join ! $ join ! $ frame ! $ done !
 
 module _ {M : Type 1} (𝓤 : URA M) (H : Heap 𝓤) (A : Atoms 𝓤) (W : Given 𝓤 H A) (mem : Memory → SProp 𝓤) (run : Routine → Fun 𝓤) (κ₀ : Lft) (q₀ : Share)
     (s : ℕ) (n : ℕ) (len : ℕ) (b-table o-table : ℕ) (γ-table : GName) (ys-table : List Record) (links : LinkStates) (v-links : Val) (slot : ℕ)
@@ -158,92 +129,54 @@ module _ {M : Type 1} (𝓤 : URA M) (H : Heap 𝓤) (A : Atoms 𝓤) (W : Given
       qed W (‵ (flft κ₀ q₀) ∷ []) ∵ suffices ! _ (ends-at 𝓤 H A call.ended stayed (call.clauses 𝓤 H A mem run) W ((κs, qs, tt, x, at), tt) v res (tt, (tt, (tt, (tt, (tt, (tt, tt)))))) (tt, (tt, (tt, (tt, (tt, (tt, tt))))))) $
       says ! e $ nothing ! $ move ! (1 ∷ 0 ∷ []) $ join ! $ frame ! $ nothing ! $ nothing ! $ fjoin ! $ nothing ! $ fjoin ! $ nothing ! $ fjoin ! $ nothing ! $ fjoin ! $ nothing ! $ fjoin ! $ nothing ! $ fjoin ! $ frame ! $ owned ! u8 (Is u8) (uint-makes 𝓤 H A W w8) res _ is $ done !
 
-  module _ (C : Calls 𝓤 H) (Λ : Loops 𝓤 H) (fm : FmC 𝓤 H (W .laws) C) (known-f-sizes-ok : Triple 𝓤 (C #f-sizes-ok) (C-f-sizes-ok 𝓤 H A mem run)) (known-f-place-of : Triple 𝓤 (C #f-place-of) (C-f-place-of 𝓤 H A mem run)) (known-f-held : Triple 𝓤 (C #f-held) (C-f-held 𝓤 H A mem run)) (known-f-refusal-if : Triple 𝓤 (C #f-refusal-if) (C-f-refusal-if 𝓤 H A mem run)) where
-    fits-table : (i : ℕ) → Holds (ltb i (length ys-table)) → i * 168 < 2 ^ 64
-    fits-table i h = omega (arith, g-table .1, ltb→lt i (length ys-table) h)
-
+  module _ (C : Calls 𝓤 H) (Λ : Loops 𝓤 H) (fm : FmC 𝓤 H (W .laws) C) (known-f-sizes-ok : Triple 𝓤 (C #f-sizes-ok) (C-f-sizes-ok 𝓤 H A mem run)) (known-f-held-at : Triple 𝓤 (C #f-held-at) (C-f-held-at 𝓤 H A mem run)) where
     walk : ent 𝓤 (onEntry 𝓤 H A call.signature κs qs x at) (WpFn 𝓤 H C Λ code.function (vint w32 s ∷ vint w32 n ∷ vint w64 len ∷ s-table ∷ v-links ∷ vint w32 slot ∷ []) Post)
     walk =
         qed W ((‵ (flft κ₀ q₀) ⊛ ‵ ftrue) ∷ ‵ (owns (u32 ∷ u32 ∷ usize ∷ ShrSlice (named 0) κ₀ RecordT.the-row ∷ LinkStatesT.the-row ∷ u32 ∷ []) x at) ∷ []) ∵ enter ! C Λ code.function (vint w32 s ∷ vint w32 n ∷ vint w64 len ∷ s-table ∷ v-links ∷ vint w32 slot ∷ []) _ $
-        alloc1 ! (λ l₀. alloc1 ! (λ l₁. alloc1 ! (λ l₂. alloc1 ! (λ l₃. alloc1 ! (λ l₄. alloc1 ! (λ l₅. alloc1 ! (λ l₆. alloc1 ! (λ l₇. alloc1 ! (λ l₈. alloc1 ! (λ l₉. alloc1 ! (λ l₁₀. alloc1 ! (λ l₁₁. alloc1 ! (λ l₁₂. alloc1 ! (λ l₁₃. alloc1 ! (λ l₁₄. alloc1 ! (λ l₁₅. alloc0 ! $ params1 ! $
-        pass1 ! (init ! 28 refl (tt, record { fits = g-s })) $ pass1 ! (init ! 26 refl (tt, record { fits = g-n })) $ pass1 ! (init ! 24 refl (tt, record { fits = g-len })) $ pass1 ! (init ! 22 refl (tt, (tt, (record { fits = g-table .0 }, tt)))) $ pass1 ! (init ! 20 refl (LL.lawful LinkStatesT.the-type LinkStatesL.the-laws 𝓤 H A W .typed links _ g-links .0)) $ pass1 ! (init ! 18 refl (tt, record { fits = g-slot })) $ pass0 ! $
-        move ! (33 ∷ []) $ fsplit ! $ drop ! $ fsplit ! $ drop ! $ fsplit ! $ drop ! $ fsplit ! $ move ! (1 ∷ []) $ fsplit ! $ drop ! $ fsplit ! $ drop ! $ drop ! $ move ! (33 ∷ []) $ split ! $ move ! (1 ∷ []) $ drop ! $
-        assigns ! (of-opd ! (load ! (from ! (fld ! refl (stop !))) (look-in ! 24 (sub ! 1 refl (whole !))))) (from ! (stop !)) (init ! 10 refl (tt, record { fits = (g-table .0) })) $
+        alloc1 ! (λ l₀. alloc1 ! (λ l₁. alloc1 ! (λ l₂. alloc1 ! (λ l₃. alloc1 ! (λ l₄. alloc1 ! (λ l₅. alloc1 ! (λ l₆. alloc1 ! (λ l₇. alloc1 ! (λ l₈. alloc1 ! (λ l₉. alloc0 ! $ params1 ! $
+        pass1 ! (init ! 16 refl (tt, record { fits = g-s })) $ pass1 ! (init ! 14 refl (tt, record { fits = g-n })) $ pass1 ! (init ! 12 refl (tt, record { fits = g-len })) $ pass1 ! (init ! 10 refl (tt, (tt, (record { fits = g-table .0 }, tt)))) $ pass1 ! (init ! 8 refl (LL.lawful LinkStatesT.the-type LinkStatesL.the-laws 𝓤 H A W .typed links _ g-links .0)) $ pass1 ! (init ! 6 refl (tt, record { fits = g-slot })) $ pass0 ! $
+        move ! (21 ∷ []) $ fsplit ! $ drop ! $ fsplit ! $ drop ! $ fsplit ! $ drop ! $ fsplit ! $ move ! (1 ∷ []) $ fsplit ! $ drop ! $ fsplit ! $ drop ! $ drop ! $ move ! (21 ∷ []) $ split ! $ move ! (1 ∷ []) $ drop ! $
+        assigns ! (of-opd ! (load ! (from ! (fld ! refl (stop !))) (look-in ! 12 (sub ! 1 refl (whole !))))) (from ! (stop !)) (init ! 4 refl (tt, record { fits = (g-table .0) })) $
         use0 W (raw (C-f-sizes-ok 𝓤 H A mem run .pre (to-f-sizes-ok 𝓤 H A mem run s (vint w32 s) n (vint w32 n) len (vint w64 len) (length ys-table) (vint w64 (length ys-table))))) (goes-f-sizes-ok 𝓤 H A W mem run s (vint w32 s) n (vint w32 n) len (vint w64 len) (length ys-table) (vint w64 (length ys-table)) (refl, g-s) (refl, g-n) (refl, g-len) (refl, (g-table .0))) $
-        calls-at ! fm (C-f-sizes-ok 𝓤 H A mem run) known-f-sizes-ok (to-f-sizes-ok 𝓤 H A mem run s (vint w32 s) n (vint w32 n) len (vint w64 len) (length ys-table) (vint w64 (length ys-table))) (and-then ! (load ! (from ! (stop !)) (look ! 31 refl)) (and-then ! (load ! (from ! (stop !)) (look ! 29 refl)) (and-then ! (load ! (from ! (stop !)) (look ! 27 refl)) (and-then ! (load ! (from ! (stop !)) (look ! 11 refl)) (no-more !))))) (λ w.
+        calls-at ! fm (C-f-sizes-ok 𝓤 H A mem run) known-f-sizes-ok (to-f-sizes-ok 𝓤 H A mem run s (vint w32 s) n (vint w32 n) len (vint w64 len) (length ys-table) (vint w64 (length ys-table))) (and-then ! (load ! (from ! (stop !)) (look ! 19 refl)) (and-then ! (load ! (from ! (stop !)) (look ! 17 refl)) (and-then ! (load ! (from ! (stop !)) (look ! 15 refl)) (and-then ! (load ! (from ! (stop !)) (look ! 5 refl)) (no-more !))))) (λ w.
         use1 W (later (some (λ (r : Bool). ((‵ ftrue) ⊛ ‵ (bool .own r (w ∷ []))) ⊛ raw (ensured 𝓤 H A f-sizes-ok.ended (f-sizes-ok.clauses 𝓤 H A mem run) tt (s, (n, (len, ((length ys-table), tt)))) tt r)))) (id⊢ 𝓤 _) $ await ! tt $ pick ! (λ r.
         split ! $ move ! (1 ∷ []) $ use1 W (some (λ (ws : Unit {0} × (Unit {0} × (Unit {0} × (Unit {0} × Unit {0})))). ‵ (lasts f-sizes-ok.ended tt (s, (n, (len, ((length ys-table), tt)))) ws) ⊛ raw (fact 𝓤 (r ≡ sizesB s n len (length ys-table))))) (id⊢ 𝓤 _) $ pick ! (λ ws.
         split ! $ move ! (1 ∷ []) $ heard ! (r ≡ sizesB s n len (length ys-table)) (λ e.
         fsplit ! $ drop ! $ fsplit ! $ drop ! $ fsplit ! $ drop ! $ fsplit ! $ drop ! $ drop ! $ split ! $
         move ! (1 ∷ []) $ peeks ! bool (Is bool) (shows 𝓤 H A bool) r (w ∷ []) (λ is. drop ! $
-        land ! (from ! (stop !)) (init ! 19 refl (bool-lawful 𝓤 H A W .typed r _ is .0)) $ rewrite ! 19 (λ (u : Val). ‵ (fat fullShare tyBool l₇ 0 u)) (ap only is) refl $
+        land ! (from ! (stop !)) (init ! 7 refl (bool-lawful 𝓤 H A W .typed r _ is .0)) $ rewrite ! 7 (λ (u : Val). ‵ (fat fullShare tyBool l₇ 0 u)) (ap only is) refl $
         drop ! $
-        assigns ! (of-opd ! (load ! (from ! (fld ! refl (stop !))) (look-in ! 24 (sub ! 1 refl (whole !))))) (from ! (stop !)) (store ! 10 refl (tt, record { fits = (g-table .0) })) $
-        use0 W (raw (C-f-place-of 𝓤 H A mem run .pre (to-f-place-of 𝓤 H A mem run slot (vint w32 slot) (length ys-table) (vint w64 (length ys-table))))) (goes-f-place-of 𝓤 H A W mem run slot (vint w32 slot) (length ys-table) (vint w64 (length ys-table)) (refl, g-slot) (refl, (g-table .0))) $
-        calls-at ! fm (C-f-place-of 𝓤 H A mem run) known-f-place-of (to-f-place-of 𝓤 H A mem run slot (vint w32 slot) (length ys-table) (vint w64 (length ys-table))) (and-then ! (load ! (from ! (stop !)) (look ! 21 refl)) (and-then ! (load ! (from ! (stop !)) (look ! 11 refl)) (no-more !))) (λ w₂.
-        use1 W (later (some (λ (r₂ : ℕ). ((‵ ftrue) ⊛ ‵ (usize .own r₂ (w₂ ∷ []))) ⊛ raw (ensured 𝓤 H A f-place-of.ended (f-place-of.clauses 𝓤 H A mem run) tt (slot, ((length ys-table), tt)) tt r₂)))) (id⊢ 𝓤 _) $ await ! tt $ pick ! (λ r₂.
-        split ! $ move ! (1 ∷ []) $ use1 W (some (λ (ws₂ : Unit {0} × (Unit {0} × Unit {0})). ‵ (lasts f-place-of.ended tt (slot, ((length ys-table), tt)) ws₂) ⊛ raw (fact 𝓤 (r₂ ≡ indexOf slot (length ys-table))))) (id⊢ 𝓤 _) $ pick ! (λ ws₂.
-        split ! $ move ! (1 ∷ []) $ heard ! (r₂ ≡ indexOf slot (length ys-table)) (λ e₂.
-        fsplit ! $ drop ! $ fsplit ! $ drop ! $ drop ! $ split ! $
-        move ! (1 ∷ []) $ peeks ! usize (Is usize) (shows 𝓤 H A usize) r₂ (w₂ ∷ []) (λ is₂. drop ! $
-        land ! (from ! (stop !)) (init ! 17 refl (uint-lawful 𝓤 H A W w64 .typed r₂ _ is₂ .0)) $ rewrite ! 17 (λ (u : Val). ‵ (fat fullShare (tyInt w64) l₈ 0 u)) (ap only (is₂ .0)) refl $
-        drop ! $
-        assigns ! (of-opd ! (load ! (from ! (fld ! refl (stop !))) (look-in ! 24 (sub ! 1 refl (whole !))))) (from ! (stop !)) (store ! 10 refl (tt, record { fits = (g-table .0) })) $
-        assigns ! (bin ! (load ! (from ! (stop !)) (look ! 16 refl)) (load ! (from ! (stop !)) (look ! 10 refl)) tt) (from ! (stop !)) (init ! 8 refl (tt, tt)) $
-        first ! $ branches ! (load ! (from ! (stop !)) (look ! 8 refl))
-        (λ h. assigns ! (bin ! (load ! (from ! (stop !)) (look ! 16 refl)) (lit ! tt) (record { fits = (fits-table r₂ h) })) (from ! (stop !)) (init ! 6 refl (tt, record { fits = (fits-table r₂ h) })) $
-        assigns ! (bin ! (load ! (from ! (fld ! refl (stop !))) (look-in ! 24 (sub ! 0 refl (whole !)))) (load ! (from ! (stop !)) (look ! 6 refl)) tt) (from ! (stop !)) (init ! 4 refl (tt, tt)) $
-        rewrite ! 4 (λ (p : ℕ). ‵ (fat fullShare tyPtr l₁₄ 0 (vptr b-table p))) (sym (place-is 168 o-table r₂)) refl $
-        move ! (1 ∷ []) $ fsplit ! $ move ! (1 ∷ []) $ fsplit ! $ move ! (1 ∷ 3 ∷ []) $ looks-slice ! tt RecordT.the-row (Is RecordT.the-row) (shows 𝓤 H A RecordT.the-row) (LL.vals RecordT.the-type RecordL.the-laws) (LL.tells RecordT.the-type RecordL.the-laws) (LL.copy RecordT.the-type RecordL.the-copy 𝓤 H A W) ys-table b-table o-table (λ q′. elem-out ! RecordT.the-row (Is RecordT.the-row) (shows 𝓤 H A RecordT.the-row) (LL.vals RecordT.the-type RecordL.the-laws) (LL.tells RecordT.the-type RecordL.the-laws) q′ ys-table r₂ zeroRecord b-table o-table (ltb→lt r₂ (length ys-table) h) (λ g.
-        assigns ! (of-opd ! (load ! (from ! (hop ! (look ! 9 refl) (stop !))) (look-raw ! 0 refl))) (from ! (stop !)) (init ! 7 refl (LL.lawful RecordT.the-type RecordL.the-laws 𝓤 H A W .typed (getD ys-table r₂ zeroRecord) _ g .0)) $
-        elem-back ! RecordT.the-row q′ ys-table r₂ zeroRecord (RecordL.lowered (getD ys-table r₂ zeroRecord) ∷ []) b-table o-table (ltb→lt r₂ (length ys-table) h) $ shuts-slice ! tt RecordT.the-row q′ ys-table b-table o-table $ move ! (2 ∷ 1 ∷ []) $ fjoin ! $ move ! (2 ∷ 0 ∷ []) $ fjoin ! $
-        assigns ! (of-opd ! (load ! (from ! (stop !)) (look ! 2 refl))) (from ! (stop !)) (init ! 14 refl (LL.lawful RecordT.the-type RecordL.the-laws 𝓤 H A W .typed (getD ys-table r₂ zeroRecord) _ g .0)) $
-        use0 W (raw (C-f-held 𝓤 H A mem run .pre (to-f-held 𝓤 H A mem run s (vint w32 s) n (vint w32 n) links (v-links) slot (vint w32 slot) (getD ys-table r₂ zeroRecord) (RecordL.lowered (getD ys-table r₂ zeroRecord))))) (goes-f-held 𝓤 H A W mem run s (vint w32 s) n (vint w32 n) links (v-links) slot (vint w32 slot) (getD ys-table r₂ zeroRecord) (RecordL.lowered (getD ys-table r₂ zeroRecord)) (refl, g-s) (refl, g-n) g-links (refl, g-slot) g) $
-        calls-at ! fm (C-f-held 𝓤 H A mem run) known-f-held (to-f-held 𝓤 H A mem run s (vint w32 s) n (vint w32 n) links (v-links) slot (vint w32 slot) (getD ys-table r₂ zeroRecord) (RecordL.lowered (getD ys-table r₂ zeroRecord))) (and-then ! (load ! (from ! (stop !)) (look ! 31 refl)) (and-then ! (load ! (from ! (stop !)) (look ! 29 refl)) (and-then ! (load ! (from ! (stop !)) (look ! 23 refl)) (and-then ! (load ! (from ! (stop !)) (look ! 21 refl)) (and-then ! (load ! (from ! (stop !)) (look ! 15 refl)) (no-more !)))))) (λ w₃.
-        use1 W (later (some (λ (r₃ : ℕ). ((‵ ftrue) ⊛ ‵ (u8 .own r₃ (w₃ ∷ []))) ⊛ raw (ensured 𝓤 H A f-held.ended (f-held.clauses 𝓤 H A mem run) tt (s, (n, (links, (slot, ((getD ys-table r₂ zeroRecord), tt))))) tt r₃)))) (id⊢ 𝓤 _) $ await ! tt $ pick ! (λ r₃.
-        split ! $ move ! (1 ∷ []) $ use1 W (some (λ (ws₃ : Unit {0} × (Unit {0} × (Unit {0} × (Unit {0} × (Unit {0} × Unit {0}))))). ‵ (lasts f-held.ended tt (s, (n, (links, (slot, ((getD ys-table r₂ zeroRecord), tt))))) ws₃) ⊛ raw (fact 𝓤 (r₃ ≡ heldOf s n (links .active) slot (getD ys-table r₂ zeroRecord))))) (id⊢ 𝓤 _) $ pick ! (λ ws₃.
-        split ! $ move ! (1 ∷ []) $ heard ! (r₃ ≡ heldOf s n (links .active) slot (getD ys-table r₂ zeroRecord)) (λ e₃.
+        assigns ! (of-opd ! (load ! (from ! (stop !)) (look ! 6 refl))) (from ! (stop !)) (init ! 2 refl (tt, tt)) $
+        first ! $ branches ! (load ! (from ! (stop !)) (look ! 2 refl))
+        (λ h. move ! (1 ∷ []) $ use1 W (‵ Own-table ⊛ ‵ Own-table) (shr-slice-copy 𝓤 H A W (named 0) κ₀ RecordT.the-row .twice x-table (s-table ∷ [])) $ split ! $ nothing ! $ move ! (2 ∷ 0 ∷ []) $ join ! $ move ! (2 ∷ 0 ∷ []) $ join ! $ use1 W (raw (C-f-held-at 𝓤 H A mem run .pre (to-f-held-at 𝓤 H A mem run κ₀ q₀ s (vint w32 s) n (vint w32 n) x-table s-table links (v-links) slot (vint w32 slot)))) (goes-f-held-at 𝓤 H A W mem run κ₀ q₀ s (vint w32 s) n (vint w32 n) x-table s-table links (v-links) slot (vint w32 slot) (refl, g-s) (refl, g-n) g-links (refl, g-slot)) $
+        calls-at ! fm (C-f-held-at 𝓤 H A mem run) known-f-held-at (to-f-held-at 𝓤 H A mem run κ₀ q₀ s (vint w32 s) n (vint w32 n) x-table s-table links (v-links) slot (vint w32 slot)) (and-then ! (load ! (from ! (stop !)) (look ! 18 refl)) (and-then ! (load ! (from ! (stop !)) (look ! 16 refl)) (and-then ! (load ! (from ! (stop !)) (look ! 12 refl)) (and-then ! (load ! (from ! (stop !)) (look ! 10 refl)) (and-then ! (load ! (from ! (stop !)) (look ! 8 refl)) (no-more !)))))) (λ w₂.
+        use1 W (later (some (λ (r₂ : ℕ). ((‵ (flft κ₀ q₀) ⊛ ‵ ftrue) ⊛ ‵ (u8 .own r₂ (w₂ ∷ []))) ⊛ raw (ensured 𝓤 H A f-held-at.ended (f-held-at.clauses 𝓤 H A mem run) (κ₀, tt) (s, (n, (x-table, (links, (slot, tt))))) tt r₂)))) (id⊢ 𝓤 _) $ await ! tt $ pick ! (λ r₂.
+        split ! $ move ! (1 ∷ []) $ use1 W (some (λ (ws₂ : Unit {0} × (Unit {0} × (Unit {0} × (Unit {0} × (Unit {0} × Unit {0}))))). ‵ (lasts f-held-at.ended (κ₀, tt) (s, (n, (x-table, (links, (slot, tt))))) ws₂) ⊛ raw (fact 𝓤 (r₂ ≡ heldOf s n (links .active) slot (recordAt (ys-table) slot))))) (id⊢ 𝓤 _) $ pick ! (λ ws₂.
+        split ! $ move ! (1 ∷ []) $ heard ! (r₂ ≡ heldOf s n (links .active) slot (recordAt (ys-table) slot)) (λ e₂.
         fsplit ! $ drop ! $ fsplit ! $ drop ! $ fsplit ! $ drop ! $ fsplit ! $ drop ! $ fsplit ! $ drop ! $ drop ! $ split ! $
-        move ! (1 ∷ []) $ peeks ! u8 (Is u8) (shows 𝓤 H A u8) r₃ (w₃ ∷ []) (λ is₃. drop ! $
-        land ! (from ! (stop !)) (init ! 13 refl (uint-lawful 𝓤 H A W w8 .typed r₃ _ is₃ .0)) $ rewrite ! 13 (λ (u : Val). ‵ (fat fullShare (tyInt w8) l₁₀ 0 u)) (ap only (is₃ .0)) refl $
-        drop ! $
-        use0 W (raw (C-f-refusal-if 𝓤 H A mem run .pre (to-f-refusal-if 𝓤 H A mem run r (vbool r) r₃ (vint w8 r₃) 1 (vint w8 1)))) (goes-f-refusal-if 𝓤 H A W mem run r (vbool r) r₃ (vint w8 r₃) 1 (vint w8 1) refl (refl, (is₃ .1)) (refl, (lit< tt))) $
-        calls-at ! fm (C-f-refusal-if 𝓤 H A mem run) known-f-refusal-if (to-f-refusal-if 𝓤 H A mem run r (vbool r) r₃ (vint w8 r₃) 1 (vint w8 1)) (and-then ! (load ! (from ! (stop !)) (look ! 19 refl)) (and-then ! (load ! (from ! (stop !)) (look ! 13 refl)) (and-then ! (lit ! tt) (no-more !)))) (λ w₄.
-        use1 W (later (some (λ (r₄ : ℕ). ((‵ ftrue) ⊛ ‵ (u8 .own r₄ (w₄ ∷ []))) ⊛ raw (ensured 𝓤 H A f-refusal-if.ended (f-refusal-if.clauses 𝓤 H A mem run) tt (r, (r₃, (1, tt))) tt r₄)))) (id⊢ 𝓤 _) $ await ! tt $ pick ! (λ r₄.
-        split ! $ move ! (1 ∷ []) $ use1 W (some (λ (ws₄ : Unit {0} × (Unit {0} × (Unit {0} × Unit {0}))). ‵ (lasts f-refusal-if.ended tt (r, (r₃, (1, tt))) ws₄) ⊛ raw (fact 𝓤 (r₄ ≡ cond r r₃ 1)))) (id⊢ 𝓤 _) $ pick ! (λ ws₄.
-        split ! $ move ! (1 ∷ []) $ heard ! (r₄ ≡ cond r r₃ 1) (λ e₄.
-        fsplit ! $ drop ! $ fsplit ! $ drop ! $ fsplit ! $ drop ! $ drop ! $ split ! $
-        move ! (1 ∷ []) $ peeks ! u8 (Is u8) (shows 𝓤 H A u8) r₄ (w₄ ∷ []) (λ is₄. drop ! $
-        land ! (from ! (stop !)) (init ! 33 refl (uint-lawful 𝓤 H A W w8 .typed r₄ _ is₄ .0)) $ rewrite ! 33 (λ (u : Val). ‵ (fat fullShare (tyInt w8) l₀ 0 u)) (ap only (is₄ .0)) refl $
-        drop ! $
-        returns-within ! Post refl (look ! 32 refl) $ forget ! 2 refl $ forget ! 4 refl $ forget ! 6 refl $ forget ! 8 refl $ forget ! 10 refl $ forget ! 12 refl $ forget ! 14 refl $ forget ! 16 refl $ forget ! 18 refl $ forget ! 20 refl $ forget ! 22 refl $ forget ! 24 refl $ forget ! 26 refl $ forget ! 28 refl $ forget ! 30 refl $ forget ! 32 refl $
-        move ! (32 ∷ 33 ∷ []) $ free1 ! $ move ! (30 ∷ 31 ∷ []) $ free1 ! $ move ! (28 ∷ 29 ∷ []) $ free1 ! $ move ! (26 ∷ 27 ∷ []) $ free1 ! $ move ! (24 ∷ 25 ∷ []) $ free1 ! $ move ! (22 ∷ 23 ∷ []) $ free1 ! $ move ! (20 ∷ 21 ∷ []) $ free1 ! $ move ! (18 ∷ 19 ∷ []) $ free1 ! $ move ! (16 ∷ 17 ∷ []) $ free1 ! $ move ! (14 ∷ 15 ∷ []) $ free1 ! $ move ! (12 ∷ 13 ∷ []) $ free1 ! $ move ! (10 ∷ 11 ∷ []) $ free1 ! $ move ! (8 ∷ 9 ∷ []) $ free1 ! $ move ! (6 ∷ 7 ∷ []) $ free1 ! $ move ! (4 ∷ 5 ∷ []) $ free1 ! $ move ! (2 ∷ 3 ∷ []) $ free1 ! $ free0 ! $
-        keep ! (1 ∷ []) $ by ! (exits r₄ (vint w8 r₄) (refusal-at-returns s n len ys-table links slot r e r₂ e₂ h r₃ e₃ r₄ e₄) (refl, (is₄ .1))))))))))))))))
-        (λ h. use0 W (raw (C-f-refusal-if 𝓤 H A mem run .pre (to-f-refusal-if 𝓤 H A mem run r (vbool r) 2 (vint w8 2) 1 (vint w8 1)))) (goes-f-refusal-if 𝓤 H A W mem run r (vbool r) 2 (vint w8 2) 1 (vint w8 1) refl (refl, (lit< tt)) (refl, (lit< tt))) $
-        calls-at ! fm (C-f-refusal-if 𝓤 H A mem run) known-f-refusal-if (to-f-refusal-if 𝓤 H A mem run r (vbool r) 2 (vint w8 2) 1 (vint w8 1)) (and-then ! (load ! (from ! (stop !)) (look ! 19 refl)) (and-then ! (lit ! tt) (and-then ! (lit ! tt) (no-more !)))) (λ w₃.
-        use1 W (later (some (λ (r₃ : ℕ). ((‵ ftrue) ⊛ ‵ (u8 .own r₃ (w₃ ∷ []))) ⊛ raw (ensured 𝓤 H A f-refusal-if.ended (f-refusal-if.clauses 𝓤 H A mem run) tt (r, (2, (1, tt))) tt r₃)))) (id⊢ 𝓤 _) $ await ! tt $ pick ! (λ r₃.
-        split ! $ move ! (1 ∷ []) $ use1 W (some (λ (ws₃ : Unit {0} × (Unit {0} × (Unit {0} × Unit {0}))). ‵ (lasts f-refusal-if.ended tt (r, (2, (1, tt))) ws₃) ⊛ raw (fact 𝓤 (r₃ ≡ cond r 2 1)))) (id⊢ 𝓤 _) $ pick ! (λ ws₃.
-        split ! $ move ! (1 ∷ []) $ heard ! (r₃ ≡ cond r 2 1) (λ e₃.
-        fsplit ! $ drop ! $ fsplit ! $ drop ! $ fsplit ! $ drop ! $ drop ! $ split ! $
-        move ! (1 ∷ []) $ peeks ! u8 (Is u8) (shows 𝓤 H A u8) r₃ (w₃ ∷ []) (λ is₃. drop ! $
-        land ! (from ! (stop !)) (init ! 33 refl (uint-lawful 𝓤 H A W w8 .typed r₃ _ is₃ .0)) $ rewrite ! 33 (λ (u : Val). ‵ (fat fullShare (tyInt w8) l₀ 0 u)) (ap only (is₃ .0)) refl $
-        drop ! $
-        returns-within ! Post refl (look ! 32 refl) $ forget ! 8 refl $ forget ! 10 refl $ forget ! 16 refl $ forget ! 18 refl $ forget ! 20 refl $ forget ! 22 refl $ forget ! 24 refl $ forget ! 26 refl $ forget ! 28 refl $ forget ! 30 refl $ forget ! 32 refl $
-        move ! (32 ∷ 33 ∷ []) $ free1 ! $ move ! (30 ∷ 31 ∷ []) $ free1 ! $ move ! (28 ∷ 29 ∷ []) $ free1 ! $ move ! (26 ∷ 27 ∷ []) $ free1 ! $ move ! (24 ∷ 25 ∷ []) $ free1 ! $ move ! (22 ∷ 23 ∷ []) $ free1 ! $ move ! (20 ∷ 21 ∷ []) $ free1 ! $ move ! (18 ∷ 19 ∷ []) $ free1 ! $ move ! (16 ∷ 17 ∷ []) $ free1 ! $ move ! (14 ∷ 15 ∷ []) $ free1 ! $ move ! (12 ∷ 13 ∷ []) $ free1 ! $ move ! (10 ∷ 11 ∷ []) $ free1 ! $ move ! (8 ∷ 9 ∷ []) $ free1 ! $ move ! (6 ∷ 7 ∷ []) $ free1 ! $ move ! (4 ∷ 5 ∷ []) $ free1 ! $ move ! (2 ∷ 3 ∷ []) $ free1 ! $ free0 ! $
-        keep ! (0 ∷ []) $ by ! (exits r₃ (vint w8 r₃) (refusal-at-returns-2 s n len ys-table links slot r e r₂ e₂ h r₃ e₃) (refl, (is₃ .1)))))))))))))))))))))))))))))))))))
+        move ! (1 ∷ []) $ peeks ! u8 (Is u8) (shows 𝓤 H A u8) r₂ (w₂ ∷ []) (λ is₂. drop ! $
+        land ! (from ! (stop !)) (init ! 20 refl (uint-lawful 𝓤 H A W w8 .typed r₂ _ is₂ .0)) $ rewrite ! 20 (λ (u : Val). ‵ (fat fullShare (tyInt w8) l₀ 0 u)) (ap only (is₂ .0)) refl $
+        split ! $ move ! (1 ∷ []) $ drop ! $
+        returns-within ! Post refl (look ! 20 refl) $ forget ! 2 refl $ forget ! 4 refl $ forget ! 6 refl $ forget ! 8 refl $ forget ! 10 refl $ forget ! 12 refl $ forget ! 14 refl $ forget ! 16 refl $ forget ! 18 refl $ forget ! 20 refl $
+        move ! (20 ∷ 21 ∷ []) $ free1 ! $ move ! (18 ∷ 19 ∷ []) $ free1 ! $ move ! (16 ∷ 17 ∷ []) $ free1 ! $ move ! (14 ∷ 15 ∷ []) $ free1 ! $ move ! (12 ∷ 13 ∷ []) $ free1 ! $ move ! (10 ∷ 11 ∷ []) $ free1 ! $ move ! (8 ∷ 9 ∷ []) $ free1 ! $ move ! (6 ∷ 7 ∷ []) $ free1 ! $ move ! (4 ∷ 5 ∷ []) $ free1 ! $ move ! (2 ∷ 3 ∷ []) $ free1 ! $ free0 ! $
+        keep ! (0 ∷ []) $ by ! (exits r₂ (vint w8 r₂) (refusal-at-returns s n len ys-table links slot r e h r₂ e₂) (refl, (is₂ .1)))))))))
+        (λ h. assigns ! (of-opd ! (lit ! tt)) (from ! (stop !)) (init ! 20 refl (tt, record { fits = (lit< tt) })) $
+        returns-within ! Post refl (look ! 20 refl) $ forget ! 2 refl $ forget ! 4 refl $ forget ! 6 refl $ forget ! 8 refl $ forget ! 10 refl $ forget ! 12 refl $ forget ! 14 refl $ forget ! 16 refl $ forget ! 18 refl $ forget ! 20 refl $
+        move ! (20 ∷ 21 ∷ []) $ free1 ! $ move ! (18 ∷ 19 ∷ []) $ free1 ! $ move ! (16 ∷ 17 ∷ []) $ free1 ! $ move ! (14 ∷ 15 ∷ []) $ free1 ! $ move ! (12 ∷ 13 ∷ []) $ free1 ! $ move ! (10 ∷ 11 ∷ []) $ free1 ! $ move ! (8 ∷ 9 ∷ []) $ free1 ! $ move ! (6 ∷ 7 ∷ []) $ free1 ! $ move ! (4 ∷ 5 ∷ []) $ free1 ! $ move ! (2 ∷ 3 ∷ []) $ free1 ! $ free0 ! $
+        keep ! (0 ∷ []) $ by ! (exits 1 (vint w8 1) (refusal-at-returns-2 s n len ys-table links slot r e h) (refl, (lit< tt)))))))))))))))))))
 
 module _ {M : Type 1} (𝓤 : URA M) (H : Heap 𝓤) (A : Atoms 𝓤) (W : Given 𝓤 H A) (mem : Memory → SProp 𝓤) (run : Routine → Fun 𝓤) where
-  call-walks : (C : Calls 𝓤 H) (Λ : Loops 𝓤 H) → FmC 𝓤 H (W .laws) C → Triple 𝓤 (C #f-sizes-ok) (C-f-sizes-ok 𝓤 H A mem run) → Triple 𝓤 (C #f-place-of) (C-f-place-of 𝓤 H A mem run) → Triple 𝓤 (C #f-held) (C-f-held 𝓤 H A mem run) → Triple 𝓤 (C #f-refusal-if) (C-f-refusal-if 𝓤 H A mem run) → Walks 𝓤 H A call.ended stayed (WpFn 𝓤 H C Λ code.function) (call.clauses 𝓤 H A mem run)
-  call-walks C Λ fm known-f-sizes-ok known-f-place-of known-f-held known-f-refusal-if = walked 𝓤 H A call.ended stayed (call.clauses 𝓤 H A mem run) (WpFn 𝓤 H C Λ code.function)
+  call-walks : (C : Calls 𝓤 H) (Λ : Loops 𝓤 H) → FmC 𝓤 H (W .laws) C → Triple 𝓤 (C #f-sizes-ok) (C-f-sizes-ok 𝓤 H A mem run) → Triple 𝓤 (C #f-held-at) (C-f-held-at 𝓤 H A mem run) → Walks 𝓤 H A call.ended stayed (WpFn 𝓤 H C Λ code.function) (call.clauses 𝓤 H A mem run)
+  call-walks C Λ fm known-f-sizes-ok known-f-held-at = walked 𝓤 H A call.ended stayed (call.clauses 𝓤 H A mem run) (WpFn 𝓤 H C Λ code.function)
       (λ κs. ((uint-vals w32), ((uint-vals w32), ((uint-vals w64), (slice-vals, ((LL.vals LinkStatesT.the-type LinkStatesL.the-laws), ((uint-vals w32), tt))))))) (λ κs. ((uint-tells w32), ((uint-tells w32), ((uint-tells w64), (shr-slice-tells (named 0) (κs .0) RecordT.the-row, ((LL.tells LinkStatesT.the-type LinkStatesL.the-laws), ((uint-tells w32), tt)))))))
-      (λ κs qs bounds a g are. via 𝓤 _ (fst∗ 𝓤 _ (emp 𝓤)) (walk 𝓤 H A W mem run (κs .0) (qs .0) (a .0) (a .1 .0) (a .1 .1 .0) (a .1 .1 .1 .0 .ptr .0) (a .1 .1 .1 .0 .ptr .1) (a .1 .1 .1 .0 .name) (a .1 .1 .1 .0 .now) (a .1 .1 .1 .1 .0) (LL.val LinkStatesT.the-type LinkStatesL.the-laws (a .1 .1 .1 .1 .0)) (a .1 .1 .1 .1 .1 .0) (are .0 .1) (are .1 .0 .1) (are .1 .1 .0 .1) (are .1 .1 .1 .0 .0 .1) (are .1 .1 .1 .1 .0) (are .1 .1 .1 .1 .1 .0 .1) C Λ fm known-f-sizes-ok known-f-place-of known-f-held known-f-refusal-if))
+      (λ κs qs bounds a g are. via 𝓤 _ (fst∗ 𝓤 _ (emp 𝓤)) (walk 𝓤 H A W mem run (κs .0) (qs .0) (a .0) (a .1 .0) (a .1 .1 .0) (a .1 .1 .1 .0 .ptr .0) (a .1 .1 .1 .0 .ptr .1) (a .1 .1 .1 .0 .name) (a .1 .1 .1 .0 .now) (a .1 .1 .1 .1 .0) (LL.val LinkStatesT.the-type LinkStatesL.the-laws (a .1 .1 .1 .1 .0)) (a .1 .1 .1 .1 .1 .0) (are .0 .1) (are .1 .0 .1) (are .1 .1 .0 .1) (are .1 .1 .1 .0 .0 .1) (are .1 .1 .1 .1 .0) (are .1 .1 .1 .1 .1 .0 .1) C Λ fm known-f-sizes-ok known-f-held-at))
 
-call-meets : {M : Type 1} (𝓤 : URA M) (H : Heap 𝓤) (A : Atoms 𝓤) → Given 𝓤 H A → (mem : Memory → SProp 𝓤) (run : Routine → Fun 𝓤) (𝓣 : Tables 𝓤 H) → Triple 𝓤 (𝓣 .C #f-sizes-ok) (C-f-sizes-ok 𝓤 H A mem run) → Triple 𝓤 (𝓣 .C #f-place-of) (C-f-place-of 𝓤 H A mem run) → Triple 𝓤 (𝓣 .C #f-held) (C-f-held 𝓤 H A mem run) → Triple 𝓤 (𝓣 .C #f-refusal-if) (C-f-refusal-if 𝓤 H A mem run)
+call-meets : {M : Type 1} (𝓤 : URA M) (H : Heap 𝓤) (A : Atoms 𝓤) → Given 𝓤 H A → (mem : Memory → SProp 𝓤) (run : Routine → Fun 𝓤) (𝓣 : Tables 𝓤 H) → Triple 𝓤 (𝓣 .C #f-sizes-ok) (C-f-sizes-ok 𝓤 H A mem run) → Triple 𝓤 (𝓣 .C #f-held-at) (C-f-held-at 𝓤 H A mem run)
     → Meets 𝓤 H A call.signature (WpFn 𝓤 H (𝓣 .C) (𝓣 .Λ) code.function) (call.spec 𝓤 H A mem run)
-call-meets 𝓤 H A W mem run 𝓣 known-f-sizes-ok known-f-place-of known-f-held known-f-refusal-if =
+call-meets 𝓤 H A W mem run 𝓣 known-f-sizes-ok known-f-held-at =
     walk-meets 𝓤 H A call.ended stayed W
     (goes-dropped 𝓤 H A W 1 (plain (λ _. u32)) yes (λ κs x f. refl), (goes-dropped 𝓤 H A W 1 (plain (λ _. u32)) yes (λ κs x f. refl), (goes-dropped 𝓤 H A W 1 (plain (λ _. usize)) yes (λ κs x f. refl), (goes-dropped 𝓤 H A W 1 (shrSliceOf (0 ∷ []) tt (plain (λ _. RecordT.the-row))) yes (λ κs x f. refl), (goes-dropped 𝓤 H A W 1 (plain (λ _. LinkStatesT.the-row)) yes (λ κs x f. refl), (goes-dropped 𝓤 H A W 1 (plain (λ _. u32)) yes (λ κs x f. refl), tt))))))
-    (call.clauses 𝓤 H A mem run) (WpFn 𝓤 H (𝓣 .C) (𝓣 .Λ) code.function) (WpFn-mono 𝓤 H (W .laws) 𝓣 code.function) (call-walks 𝓤 H A W mem run (𝓣 .C) (𝓣 .Λ) (fmOf 𝓤 H (W .laws) 𝓣) known-f-sizes-ok known-f-place-of known-f-held known-f-refusal-if)
+    (call.clauses 𝓤 H A mem run) (WpFn 𝓤 H (𝓣 .C) (𝓣 .Λ) code.function) (WpFn-mono 𝓤 H (W .laws) 𝓣 code.function) (call-walks 𝓤 H A W mem run (𝓣 .C) (𝓣 .Λ) (fmOf 𝓤 H (W .laws) 𝓣) known-f-sizes-ok known-f-held-at)
 
 pub refusal-at-spec : {M : Type 1} → stated.statement M
 unfolding code.routine tablesOf
@@ -252,6 +185,4 @@ refusal-at-spec 𝓤 H 𝓜 𝓖 𝓡 =
     (tables 𝓤 H 𝓜 𝓡 code.env .C) (tables 𝓤 H 𝓜 𝓡 code.env .Λ) #call code.function (code.unfolded 𝓤 H 𝓜 𝓡)
     (call-meets 𝓤 H (𝓖 .A) (givenOf 𝓤 H 𝓜 𝓖) (𝓜 .mem) (𝓡 .run) (tablesOf 𝓤 H 𝓜 (tables 𝓤 H 𝓜 𝓡 code.env))
     (cited 𝓤 H (C-f-sizes-ok 𝓤 H (𝓖 .A) (𝓜 .mem) (𝓡 .run)) 𝓜 𝓡 code.env #f-sizes-ok f-sizes-ok-def.routine code.calls-table·sizes-ok (f-sizes-ok-thm.met 𝓤 H 𝓜 𝓖 𝓡))
-    (cited 𝓤 H (C-f-place-of 𝓤 H (𝓖 .A) (𝓜 .mem) (𝓡 .run)) 𝓜 𝓡 code.env #f-place-of f-place-of-def.routine code.calls-direct·place-of (f-place-of-thm.met 𝓤 H 𝓜 𝓖 𝓡))
-    (cited 𝓤 H (C-f-held 𝓤 H (𝓖 .A) (𝓜 .mem) (𝓡 .run)) 𝓜 𝓡 code.env #f-held f-held-def.routine code.calls-direct·held (f-held-thm.met 𝓤 H 𝓜 𝓖 𝓡))
-    (cited 𝓤 H (C-f-refusal-if 𝓤 H (𝓖 .A) (𝓜 .mem) (𝓡 .run)) 𝓜 𝓡 code.env #f-refusal-if f-refusal-if-def.routine code.calls-table·refusal-if (f-refusal-if-thm.met 𝓤 H 𝓜 𝓖 𝓡)))
+    (cited 𝓤 H (C-f-held-at 𝓤 H (𝓖 .A) (𝓜 .mem) (𝓡 .run)) 𝓜 𝓡 code.env #f-held-at f-held-at-def.routine code.calls-direct·held-at (f-held-at-thm.met 𝓤 H 𝓜 𝓖 𝓡)))

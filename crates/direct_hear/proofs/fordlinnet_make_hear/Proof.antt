@@ -62,9 +62,6 @@ use Rattle.hearing.proofs.Parsed.Laws as ParsedL
 use Rattle.cdc.specs.declared.Message.{Message}
 use Rattle.cdc.proofs.Message as MessageT
 use Rattle.cdc.proofs.Message.Laws as MessageL
-use Rattle.hearing.specs.declared.Hearing.{Hearing}
-use Rattle.hearing.proofs.Hearing as HearingT
-use Rattle.hearing.proofs.Hearing.Laws as HearingL
 use Rattle.connection.specs.Connection.{zeroRecord}
 use Rattle.hearing.proofs.parse as f-parse
 use Rattle.hearing.proofs.parse.Symbol as f-parse-def
@@ -82,30 +79,18 @@ use Rattle.hearing.proofs.before as f-before
 use Rattle.hearing.proofs.before.Symbol as f-before-def
 use Rattle.hearing.proofs.before.Symbol.{name as #f-before}
 use Rattle.hearing.proofs.before.Met as f-before-thm
-use Rattle.direct_hear.proofs.hearing_at as f-hearing-at
-use Rattle.direct_hear.proofs.hearing_at.Symbol as f-hearing-at-def
-use Rattle.direct_hear.proofs.hearing_at.Symbol.{name as #f-hearing-at}
-use Rattle.direct_hear.proofs.hearing_at.Met as f-hearing-at-thm
-use Rattle.direct_hear.proofs.tell_at as f-tell-at
-use Rattle.direct_hear.proofs.tell_at.Symbol as f-tell-at-def
-use Rattle.direct_hear.proofs.tell_at.Symbol.{name as #f-tell-at}
-use Rattle.direct_hear.proofs.tell_at.Met as f-tell-at-thm
-use Rattle.direct_hear.proofs.put as f-put
-use Rattle.direct_hear.proofs.put.Symbol as f-put-def
-use Rattle.direct_hear.proofs.put.Symbol.{name as #f-put}
-use Rattle.direct_hear.proofs.put.Met as f-put-thm
-use Rattle.direct_hear.proofs.answer_of as f-answer-of
-use Rattle.direct_hear.proofs.answer_of.Symbol as f-answer-of-def
-use Rattle.direct_hear.proofs.answer_of.Symbol.{name as #f-answer-of}
-use Rattle.direct_hear.proofs.answer_of.Met as f-answer-of-thm
+use Rattle.direct_hear.proofs.hear_unless as f-hear-unless
+use Rattle.direct_hear.proofs.hear_unless.Symbol as f-hear-unless-def
+use Rattle.direct_hear.proofs.hear_unless.Symbol.{name as #f-hear-unless}
+use Rattle.direct_hear.proofs.hear_unless.Met as f-hear-unless-thm
 use Rattle.direct_hear.proofs.fordlinnet_make_hear.Key.{name as #call}
 use Rattle.direct_hear.proofs.fordlinnet_make_hear as call
 use Rattle.direct_hear.proofs.fordlinnet_make_hear.Statement as stated
 use Rattle.direct_hear.proofs.fordlinnet_make_hear.Code as code
 use Rattle.direct_hear.specs.DirectHear.{HearMade}
-use Rattle.direct_hear.specs.TableLeft.{tableLeft}
-use Rattle.hearing.specs.Hearing.{hearingOf, messageLeft, parsedIn, refusedBefore}
-use Rattle.table.specs.Table.{activeB, holderIn, recordAt}
+use Rattle.direct_hear.specs.TableLeft.{HeardBy}
+use Rattle.hearing.specs.Hearing.{parsedIn, refusedBefore}
+use Rattle.table.specs.Table.{holderIn}
 use Rattle.direct_hear.proofs.Laws.{fordlinnet-make-hear-returns}
 
 -- what is left of a body after its first k statements
@@ -154,29 +139,11 @@ module _ {M : Type 1} (𝓤 : URA M) (H : Heap 𝓤) (A : Atoms 𝓤) (mem : Mem
   abbrev to-f-before : (x0 : ℕ) (v0 : Val) (x1 : ℕ) (v1 : Val) (x2 : ℕ) (v2 : Val) (x3 : ℕ) (v3 : Val) (x4 : ℕ) (v4 : Val) (x5 : Parsed) (v5 : Val) (x6 : ℕ) (v6 : Val) → C-f-before .Ghost
   to-f-before x0 v0 x1 v1 x2 v2 x3 v3 x4 v4 x5 v5 x6 v6 = ((tt, tt, tt, (x0, (x1, (x2, (x3, (x4, (x5, (x6, tt))))))), (v0 ∷ [], (v1 ∷ [], (v2 ∷ [], (v3 ∷ [], (v4 ∷ [], (v5 ∷ [], (v6 ∷ [], tt)))))))), tt)
 
-  abbrev C-f-hearing-at : Contract 𝓤
-  C-f-hearing-at = tripleOf 𝓤 H A f-hearing-at.signature (f-hearing-at.spec 𝓤 H A mem run)
+  abbrev C-f-hear-unless : Contract 𝓤
+  C-f-hear-unless = tripleOf 𝓤 H A f-hear-unless.signature (f-hear-unless.spec 𝓤 H A mem run)
 
-  abbrev to-f-hearing-at : (κ1 : Lft) (q1 : Share) (x0 : ℕ) (v0 : Val) (x1 : RefT (List Record)) (v1 : Val) (x2 : LinkStates) (v2 : Val) (x3 : ℕ) (v3 : Val) (x4 : Message) (v4 : Val) (x5 : ℕ) (v5 : Val) → C-f-hearing-at .Ghost
-  to-f-hearing-at κ1 q1 x0 v0 x1 v1 x2 v2 x3 v3 x4 v4 x5 v5 = (((κ1, tt), (q1, tt), tt, (x0, (x1, (x2, (x3, (x4, (x5, tt)))))), (v0 ∷ [], (v1 ∷ [], (v2 ∷ [], (v3 ∷ [], (v4 ∷ [], (v5 ∷ [], tt))))))), tt)
-
-  abbrev C-f-tell-at : Contract 𝓤
-  C-f-tell-at = tripleOf 𝓤 H A f-tell-at.signature (f-tell-at.spec 𝓤 H A mem run)
-
-  abbrev to-f-tell-at : (κ0 : Lft) (q0 : Share) (κ3 : Lft) (q3 : Share) (x0 : RefT (List Record)) (v0 : Val) (x1 : ℕ) (v1 : Val) (x2 : Hearing) (v2 : Val) (x3 : RefT (List ℕ)) (v3 : Val) → C-f-tell-at .Ghost
-  to-f-tell-at κ0 q0 κ3 q3 x0 v0 x1 v1 x2 v2 x3 v3 = (((κ0, (κ3, tt)), (q0, (q3, tt)), tt, (x0, (x1, (x2, (x3, tt)))), (v0 ∷ [], (v1 ∷ [], (v2 ∷ [], (v3 ∷ [], tt))))), tt)
-
-  abbrev C-f-put : Contract 𝓤
-  C-f-put = tripleOf 𝓤 H A f-put.signature (f-put.spec 𝓤 H A mem run)
-
-  abbrev to-f-put : (κ0 : Lft) (q0 : Share) (x0 : RefT (List Record)) (v0 : Val) (x1 : ℕ) (v1 : Val) (x2 : Message) (v2 : Val) (x3 : Hearing) (v3 : Val) → C-f-put .Ghost
-  to-f-put κ0 q0 x0 v0 x1 v1 x2 v2 x3 v3 = (((κ0, tt), (q0, tt), tt, (x0, (x1, (x2, (x3, tt)))), (v0 ∷ [], (v1 ∷ [], (v2 ∷ [], (v3 ∷ [], tt))))), tt)
-
-  abbrev C-f-answer-of : Contract 𝓤
-  C-f-answer-of = tripleOf 𝓤 H A f-answer-of.signature (f-answer-of.spec 𝓤 H A mem run)
-
-  abbrev to-f-answer-of : (x0 : Hearing) (v0 : Val) → C-f-answer-of .Ghost
-  to-f-answer-of x0 v0 = ((tt, tt, tt, (x0, tt), (v0 ∷ [], tt)), tt)
+  abbrev to-f-hear-unless : (κ2 : Lft) (q2 : Share) (κ6 : Lft) (q6 : Share) (x0 : ℕ) (v0 : Val) (x1 : ℕ) (v1 : Val) (x2 : RefT (List Record)) (v2 : Val) (x3 : LinkStates) (v3 : Val) (x4 : ℕ) (v4 : Val) (x5 : Message) (v5 : Val) (x6 : RefT (List ℕ)) (v6 : Val) → C-f-hear-unless .Ghost
+  to-f-hear-unless κ2 q2 κ6 q6 x0 v0 x1 v1 x2 v2 x3 v3 x4 v4 x5 v5 x6 v6 = (((κ2, (κ6, tt)), (q2, (q6, tt)), tt, (x0, (x1, (x2, (x3, (x4, (x5, (x6, tt))))))), (v0 ∷ [], (v1 ∷ [], (v2 ∷ [], (v3 ∷ [], (v4 ∷ [], (v5 ∷ [], (v6 ∷ [], tt)))))))), tt)
 
 module _ {M : Type 1} (𝓤 : URA M) (H : Heap 𝓤) (A : Atoms 𝓤) (W : Given 𝓤 H A) (mem : Memory → SProp 𝓤) (run : Routine → Fun 𝓤) where
   goes-f-parse : (κ0 : Lft) (q0 : Share) (x0 : RefT (List ℕ)) (v0 : Val) → ent 𝓤 (mean 𝓤 H A (‵ (flft κ0 q0) ⊛ ‵ (ShrSlice (named 0) κ0 u8 .own x0 (v0 ∷ [])) ⊛ ‵ ftrue)) (C-f-parse 𝓤 H A mem run .pre (to-f-parse 𝓤 H A mem run κ0 q0 x0 v0))
@@ -195,21 +162,9 @@ module _ {M : Type 1} (𝓤 : URA M) (H : Heap 𝓤) (A : Atoms 𝓤) (W : Given
   goes-f-before x0 v0 x1 v1 x2 v2 x3 v3 x4 v4 x5 v5 x6 v6 i0 i1 i2 i3 i4 i5 i6 =
       qed W ([]) ∵ nothing ! $ owned ! usize (Is usize) (uint-makes 𝓤 H A W w64) x6 _ i6 $ fjoin ! $ owned ! ParsedT.the-row (Is ParsedT.the-row) (LL.makes ParsedT.the-type ParsedL.the-plain 𝓤 H A) x5 _ i5 $ fjoin ! $ owned ! usize (Is usize) (uint-makes 𝓤 H A W w64) x4 _ i4 $ fjoin ! $ owned ! usize (Is usize) (uint-makes 𝓤 H A W w64) x3 _ i3 $ fjoin ! $ owned ! usize (Is usize) (uint-makes 𝓤 H A W w64) x2 _ i2 $ fjoin ! $ owned ! u32 (Is u32) (uint-makes 𝓤 H A W w32) x1 _ i1 $ fjoin ! $ owned ! u32 (Is u32) (uint-makes 𝓤 H A W w32) x0 _ i0 $ fjoin ! $ nothing ! $ join ! $ frame ! $ done !
 
-  goes-f-hearing-at : (κ1 : Lft) (q1 : Share) (x0 : ℕ) (v0 : Val) (x1 : RefT (List Record)) (v1 : Val) (x2 : LinkStates) (v2 : Val) (x3 : ℕ) (v3 : Val) (x4 : Message) (v4 : Val) (x5 : ℕ) (v5 : Val) (i0 : Is u32 x0 (v0 ∷ [])) (i2 : Is LinkStatesT.the-row x2 (v2 ∷ [])) (i3 : Is usize x3 (v3 ∷ [])) (i4 : Is MessageT.the-row x4 (v4 ∷ [])) (i5 : Is u8 x5 (v5 ∷ [])) → ent 𝓤 (mean 𝓤 H A (‵ (flft κ1 q1) ⊛ ‵ (ShrSlice (named 0) κ1 RecordT.the-row .own x1 (v1 ∷ [])) ⊛ ‵ ftrue)) (C-f-hearing-at 𝓤 H A mem run .pre (to-f-hearing-at 𝓤 H A mem run κ1 q1 x0 v0 x1 v1 x2 v2 x3 v3 x4 v4 x5 v5))
-  goes-f-hearing-at κ1 q1 x0 v0 x1 v1 x2 v2 x3 v3 x4 v4 x5 v5 i0 i2 i3 i4 i5 =
-      qed W ((‵ (flft κ1 q1) ⊛ ‵ (ShrSlice (named 0) κ1 RecordT.the-row .own x1 (v1 ∷ [])) ⊛ ‵ ftrue) ∷ []) ∵ split ! $ move ! (1 ∷ []) $ split ! $ move ! (1 ∷ []) $ drop ! $ nothing ! $ owned ! u8 (Is u8) (uint-makes 𝓤 H A W w8) x5 _ i5 $ fjoin ! $ owned ! MessageT.the-row (Is MessageT.the-row) (LL.makes MessageT.the-type MessageL.the-plain 𝓤 H A) x4 _ i4 $ fjoin ! $ owned ! usize (Is usize) (uint-makes 𝓤 H A W w64) x3 _ i3 $ fjoin ! $ owned ! LinkStatesT.the-row (Is LinkStatesT.the-row) (LL.makes LinkStatesT.the-type LinkStatesL.the-plain 𝓤 H A) x2 _ i2 $ fjoin ! $ move ! (1 ∷ 0 ∷ []) $ fjoin ! $ owned ! u32 (Is u32) (uint-makes 𝓤 H A W w32) x0 _ i0 $ fjoin ! $ nothing ! $ move ! (2 ∷ 0 ∷ []) $ join ! $ join ! $ frame ! $ done !
-
-  goes-f-tell-at : (κ0 : Lft) (q0 : Share) (κ3 : Lft) (q3 : Share) (x0 : RefT (List Record)) (v0 : Val) (x1 : ℕ) (v1 : Val) (x2 : Hearing) (v2 : Val) (x3 : RefT (List ℕ)) (v3 : Val) (i1 : Is usize x1 (v1 ∷ [])) (i2 : Is HearingT.the-row x2 (v2 ∷ [])) → ent 𝓤 (mean 𝓤 H A (‵ (flft κ0 q0) ⊛ ‵ (flft κ3 q3) ⊛ ‵ (ShrSlice (named 0) κ0 RecordT.the-row .own x0 (v0 ∷ [])) ⊛ ‵ (MutSlice (named 0) κ3 u8 .own x3 (v3 ∷ [])) ⊛ ‵ ftrue)) (C-f-tell-at 𝓤 H A mem run .pre (to-f-tell-at 𝓤 H A mem run κ0 q0 κ3 q3 x0 v0 x1 v1 x2 v2 x3 v3))
-  goes-f-tell-at κ0 q0 κ3 q3 x0 v0 x1 v1 x2 v2 x3 v3 i1 i2 =
-      qed W ((‵ (flft κ0 q0) ⊛ ‵ (flft κ3 q3) ⊛ ‵ (ShrSlice (named 0) κ0 RecordT.the-row .own x0 (v0 ∷ [])) ⊛ ‵ (MutSlice (named 0) κ3 u8 .own x3 (v3 ∷ [])) ⊛ ‵ ftrue) ∷ []) ∵ split ! $ move ! (1 ∷ []) $ split ! $ move ! (1 ∷ []) $ split ! $ move ! (1 ∷ []) $ split ! $ move ! (1 ∷ []) $ drop ! $ nothing ! $ move ! (1 ∷ 0 ∷ []) $ fjoin ! $ owned ! HearingT.the-row (Is HearingT.the-row) (LL.makes HearingT.the-type HearingL.the-plain 𝓤 H A) x2 _ i2 $ fjoin ! $ owned ! usize (Is usize) (uint-makes 𝓤 H A W w64) x1 _ i1 $ fjoin ! $ move ! (1 ∷ 0 ∷ []) $ fjoin ! $ nothing ! $ move ! (2 ∷ 0 ∷ []) $ join ! $ move ! (2 ∷ 0 ∷ []) $ join ! $ join ! $ frame ! $ done !
-
-  goes-f-put : (κ0 : Lft) (q0 : Share) (x0 : RefT (List Record)) (v0 : Val) (x1 : ℕ) (v1 : Val) (x2 : Message) (v2 : Val) (x3 : Hearing) (v3 : Val) (i1 : Is usize x1 (v1 ∷ [])) (i2 : Is MessageT.the-row x2 (v2 ∷ [])) (i3 : Is HearingT.the-row x3 (v3 ∷ [])) → ent 𝓤 (mean 𝓤 H A (‵ (flft κ0 q0) ⊛ ‵ (MutSlice (named 0) κ0 RecordT.the-row .own x0 (v0 ∷ [])) ⊛ ‵ ftrue)) (C-f-put 𝓤 H A mem run .pre (to-f-put 𝓤 H A mem run κ0 q0 x0 v0 x1 v1 x2 v2 x3 v3))
-  goes-f-put κ0 q0 x0 v0 x1 v1 x2 v2 x3 v3 i1 i2 i3 =
-      qed W ((‵ (flft κ0 q0) ⊛ ‵ (MutSlice (named 0) κ0 RecordT.the-row .own x0 (v0 ∷ [])) ⊛ ‵ ftrue) ∷ []) ∵ split ! $ move ! (1 ∷ []) $ split ! $ move ! (1 ∷ []) $ drop ! $ nothing ! $ owned ! HearingT.the-row (Is HearingT.the-row) (LL.makes HearingT.the-type HearingL.the-plain 𝓤 H A) x3 _ i3 $ fjoin ! $ owned ! MessageT.the-row (Is MessageT.the-row) (LL.makes MessageT.the-type MessageL.the-plain 𝓤 H A) x2 _ i2 $ fjoin ! $ owned ! usize (Is usize) (uint-makes 𝓤 H A W w64) x1 _ i1 $ fjoin ! $ move ! (1 ∷ 0 ∷ []) $ fjoin ! $ nothing ! $ move ! (2 ∷ 0 ∷ []) $ join ! $ join ! $ frame ! $ done !
-
-  goes-f-answer-of : (x0 : Hearing) (v0 : Val) (i0 : Is HearingT.the-row x0 (v0 ∷ [])) → ent 𝓤 (emp 𝓤) (C-f-answer-of 𝓤 H A mem run .pre (to-f-answer-of 𝓤 H A mem run x0 v0))
-  goes-f-answer-of x0 v0 i0 =
-      qed W ([]) ∵ nothing ! $ owned ! HearingT.the-row (Is HearingT.the-row) (LL.makes HearingT.the-type HearingL.the-plain 𝓤 H A) x0 _ i0 $ fjoin ! $ nothing ! $ join ! $ frame ! $ done !
+  goes-f-hear-unless : (κ2 : Lft) (q2 : Share) (κ6 : Lft) (q6 : Share) (x0 : ℕ) (v0 : Val) (x1 : ℕ) (v1 : Val) (x2 : RefT (List Record)) (v2 : Val) (x3 : LinkStates) (v3 : Val) (x4 : ℕ) (v4 : Val) (x5 : Message) (v5 : Val) (x6 : RefT (List ℕ)) (v6 : Val) (i0 : Is u8 x0 (v0 ∷ [])) (i1 : Is u32 x1 (v1 ∷ [])) (i3 : Is LinkStatesT.the-row x3 (v3 ∷ [])) (i4 : Is usize x4 (v4 ∷ [])) (i5 : Is MessageT.the-row x5 (v5 ∷ [])) → ent 𝓤 (mean 𝓤 H A (‵ (flft κ2 q2) ⊛ ‵ (flft κ6 q6) ⊛ ‵ (MutSlice (named 0) κ2 RecordT.the-row .own x2 (v2 ∷ [])) ⊛ ‵ (MutSlice (named 0) κ6 u8 .own x6 (v6 ∷ [])) ⊛ ‵ ftrue)) (C-f-hear-unless 𝓤 H A mem run .pre (to-f-hear-unless 𝓤 H A mem run κ2 q2 κ6 q6 x0 v0 x1 v1 x2 v2 x3 v3 x4 v4 x5 v5 x6 v6))
+  goes-f-hear-unless κ2 q2 κ6 q6 x0 v0 x1 v1 x2 v2 x3 v3 x4 v4 x5 v5 x6 v6 i0 i1 i3 i4 i5 =
+      qed W ((‵ (flft κ2 q2) ⊛ ‵ (flft κ6 q6) ⊛ ‵ (MutSlice (named 0) κ2 RecordT.the-row .own x2 (v2 ∷ [])) ⊛ ‵ (MutSlice (named 0) κ6 u8 .own x6 (v6 ∷ [])) ⊛ ‵ ftrue) ∷ []) ∵ split ! $ move ! (1 ∷ []) $ split ! $ move ! (1 ∷ []) $ split ! $ move ! (1 ∷ []) $ split ! $ move ! (1 ∷ []) $ drop ! $ nothing ! $ move ! (1 ∷ 0 ∷ []) $ fjoin ! $ owned ! MessageT.the-row (Is MessageT.the-row) (LL.makes MessageT.the-type MessageL.the-plain 𝓤 H A) x5 _ i5 $ fjoin ! $ owned ! usize (Is usize) (uint-makes 𝓤 H A W w64) x4 _ i4 $ fjoin ! $ owned ! LinkStatesT.the-row (Is LinkStatesT.the-row) (LL.makes LinkStatesT.the-type LinkStatesL.the-plain 𝓤 H A) x3 _ i3 $ fjoin ! $ move ! (1 ∷ 0 ∷ []) $ fjoin ! $ owned ! u32 (Is u32) (uint-makes 𝓤 H A W w32) x1 _ i1 $ fjoin ! $ owned ! u8 (Is u8) (uint-makes 𝓤 H A W w8) x0 _ i0 $ fjoin ! $ nothing ! $ move ! (2 ∷ 0 ∷ []) $ join ! $ move ! (2 ∷ 0 ∷ []) $ join ! $ join ! $ frame ! $ done !
 
 module _ {M : Type 1} (𝓤 : URA M) (H : Heap 𝓤) (A : Atoms 𝓤) (W : Given 𝓤 H A) (mem : Memory → SProp 𝓤) (run : Routine → Fun 𝓤) (κ₀ κ₁ κ₂ κ₃ : Lft) (q₀ q₁ q₂ q₃ : Share)
     (s : ℕ) (n : ℕ) (b-mem o-mem : ℕ) (γ-mem : GName) (ys-mem : List ℕ) (b-table o-table : ℕ) (γ-table : GName) (ys-table : List Record) (links : LinkStates) (v-links : Val) (b-bytes o-bytes : ℕ) (γ-bytes : GName) (ys-bytes : List ℕ) (b-message o-message : ℕ) (γ-message : GName) (ys-message : List ℕ)
@@ -271,141 +226,103 @@ module _ {M : Type 1} (𝓤 : URA M) (H : Heap 𝓤) (A : Atoms 𝓤) (W : Given
       qed W (‵ (flft κ₀ q₀) ∷ ‵ (flft κ₁ q₁) ∷ ‵ (flft κ₂ q₂) ∷ ‵ (flft κ₃ q₃) ∷ ‵ (finally RecordT.the-row γ-table w-table) ∷ ‵ (finally u8 γ-message w-message) ∷ []) ∵ suffices ! _ (ends-at 𝓤 H A call.ended stayed (call.clauses 𝓤 H A mem run) W ((κs, qs, tt, x, at), tt) v res (tt, (tt, (tt, (w-table, (tt, (tt, (w-message, tt))))))) (tt, (tt, (tt, (l-table, (tt, (tt, (l-message, tt)))))))) $
       says ! e $ nothing ! $ move ! (4 ∷ 0 ∷ []) $ join ! $ move ! (3 ∷ 0 ∷ []) $ join ! $ move ! (2 ∷ 0 ∷ []) $ join ! $ move ! (1 ∷ 0 ∷ []) $ join ! $ frame ! $ nothing ! $ move ! (2 ∷ 0 ∷ []) $ fjoin ! $ nothing ! $ fjoin ! $ nothing ! $ fjoin ! $ move ! (1 ∷ 0 ∷ []) $ fjoin ! $ nothing ! $ fjoin ! $ nothing ! $ fjoin ! $ nothing ! $ fjoin ! $ frame ! $ owned ! HearAnswerT.the-row (Is HearAnswerT.the-row) (LL.makes HearAnswerT.the-type HearAnswerL.the-plain 𝓤 H A) res _ is $ done !
 
-  module _ (C : Calls 𝓤 H) (Λ : Loops 𝓤 H) (fm : FmC 𝓤 H (W .laws) C) (known-f-parse : Triple 𝓤 (C #f-parse) (C-f-parse 𝓤 H A mem run)) (known-f-token-of : Triple 𝓤 (C #f-token-of) (C-f-token-of 𝓤 H A mem run)) (known-f-find : Triple 𝓤 (C #f-find) (C-f-find 𝓤 H A mem run)) (known-f-before : Triple 𝓤 (C #f-before) (C-f-before 𝓤 H A mem run)) (known-f-hearing-at : Triple 𝓤 (C #f-hearing-at) (C-f-hearing-at 𝓤 H A mem run)) (known-f-tell-at : Triple 𝓤 (C #f-tell-at) (C-f-tell-at 𝓤 H A mem run)) (known-f-put : Triple 𝓤 (C #f-put) (C-f-put 𝓤 H A mem run)) (known-f-answer-of : Triple 𝓤 (C #f-answer-of) (C-f-answer-of 𝓤 H A mem run)) where
+  module _ (C : Calls 𝓤 H) (Λ : Loops 𝓤 H) (fm : FmC 𝓤 H (W .laws) C) (known-f-parse : Triple 𝓤 (C #f-parse) (C-f-parse 𝓤 H A mem run)) (known-f-token-of : Triple 𝓤 (C #f-token-of) (C-f-token-of 𝓤 H A mem run)) (known-f-find : Triple 𝓤 (C #f-find) (C-f-find 𝓤 H A mem run)) (known-f-before : Triple 𝓤 (C #f-before) (C-f-before 𝓤 H A mem run)) (known-f-hear-unless : Triple 𝓤 (C #f-hear-unless) (C-f-hear-unless 𝓤 H A mem run)) where
     Parsed-message-is : (r : Parsed) (w : Val) → Is ParsedT.the-row r (w ∷ []) → Is MessageT.the-row (r .message) (MessageL.lowered (r .message) ∷ [])
     Parsed-message-is r w is = let p = LL.owed ParsedT.the-type ParsedL.the-laws r _ is .1 .0 in subst (Is MessageT.the-row (r .message)) (MessageL.lowers .val-is (r .message) _ p) p
 
-    unit-typed : (w : Val) → (w ∷ []) ≡ (vunit ∷ []) → Holds (hasTy tyUnit w) × WT w
-    unit-typed w e = subst (λ (u : Val). Holds (hasTy tyUnit u) × WT u) (sym (ap only e)) (tt, tt)
+    abbrev locals : ℕ → ℕ → ℕ → ℕ → ℕ → ℕ → ℕ → ℕ → ℕ → ℕ → ℕ → ℕ → ℕ → ℕ → ℕ → ℕ → ℕ → ℕ → ℕ → ℕ → ℕ → ℕ → Env 𝓤 H
+    locals l₀ l₁ l₂ l₃ l₄ l₅ l₆ l₇ l₈ l₉ l₁₀ l₁₁ l₁₂ l₁₃ l₁₄ l₁₅ l₁₆ l₁₇ l₁₈ l₁₉ l₂₀ l₂₁ = (HearAnswerL.mir, l₀) ∷ ((tyInt w32), l₁) ∷ ((tyInt w32), l₂) ∷ ((sliceTy (tyRef (named 0) imm (tyInt w8))), l₃) ∷ ((sliceTy (tyRef (named 1) mut (pointee (RecordT.the-row .written)))), l₄) ∷ (LinkStatesL.mir, l₅) ∷ ((sliceTy (tyRef (named 2) imm (tyInt w8))), l₆) ∷ ((sliceTy (tyRef (named 3) mut (tyInt w8))), l₇) ∷ (ParsedL.mir, l₈) ∷ ((tyInt w32), l₉) ∷ ((tyInt w64), l₁₀) ∷ ((tyInt w8), l₁₁) ∷ (MessageL.mir, l₁₂) ∷ ((tyRef erased imm (pointee (RecordT.the-row .written))), l₁₃) ∷ ((sliceTy (tyRef erased imm (pointee (RecordT.the-row .written)))), l₁₄) ∷ ((tyInt w64), l₁₅) ∷ ((tyInt w64), l₁₆) ∷ ((tyInt w64), l₁₇) ∷ ((tyRef erased mut (pointee (RecordT.the-row .written))), l₁₈) ∷ ((sliceTy (tyRef erased mut (pointee (RecordT.the-row .written)))), l₁₉) ∷ ((tyRef erased mut (tyInt w8)), l₂₀) ∷ ((sliceTy (tyRef erased mut (tyInt w8))), l₂₁) ∷ []
 
-    abbrev locals : ℕ → ℕ → ℕ → ℕ → ℕ → ℕ → ℕ → ℕ → ℕ → ℕ → ℕ → ℕ → ℕ → ℕ → ℕ → ℕ → ℕ → ℕ → ℕ → ℕ → ℕ → ℕ → ℕ → ℕ → ℕ → ℕ → ℕ → ℕ → Env 𝓤 H
-    locals l₀ l₁ l₂ l₃ l₄ l₅ l₆ l₇ l₈ l₉ l₁₀ l₁₁ l₁₂ l₁₃ l₁₄ l₁₅ l₁₆ l₁₇ l₁₈ l₁₉ l₂₀ l₂₁ l₂₂ l₂₃ l₂₄ l₂₅ l₂₆ l₂₇ = (HearAnswerL.mir, l₀) ∷ ((tyInt w32), l₁) ∷ ((tyInt w32), l₂) ∷ ((sliceTy (tyRef (named 0) imm (tyInt w8))), l₃) ∷ ((sliceTy (tyRef (named 1) mut (pointee (RecordT.the-row .written)))), l₄) ∷ (LinkStatesL.mir, l₅) ∷ ((sliceTy (tyRef (named 2) imm (tyInt w8))), l₆) ∷ ((sliceTy (tyRef (named 3) mut (tyInt w8))), l₇) ∷ (ParsedL.mir, l₈) ∷ ((tyInt w32), l₉) ∷ ((tyInt w64), l₁₀) ∷ ((tyInt w8), l₁₁) ∷ (MessageL.mir, l₁₂) ∷ (HearingL.mir, l₁₃) ∷ ((tyRef erased imm (pointee (RecordT.the-row .written))), l₁₄) ∷ ((sliceTy (tyRef erased imm (pointee (RecordT.the-row .written)))), l₁₅) ∷ ((tyInt w64), l₁₆) ∷ ((tyInt w64), l₁₇) ∷ ((tyInt w64), l₁₈) ∷ ((tyRef erased imm (pointee (RecordT.the-row .written))), l₁₉) ∷ ((sliceTy (tyRef erased imm (pointee (RecordT.the-row .written)))), l₂₀) ∷ (tyUnit, l₂₁) ∷ ((tyRef erased imm (pointee (RecordT.the-row .written))), l₂₂) ∷ ((sliceTy (tyRef erased imm (pointee (RecordT.the-row .written)))), l₂₃) ∷ ((tyRef erased mut (tyInt w8)), l₂₄) ∷ ((sliceTy (tyRef erased mut (tyInt w8))), l₂₅) ∷ ((tyRef erased mut (pointee (RecordT.the-row .written))), l₂₆) ∷ ((sliceTy (tyRef erased mut (pointee (RecordT.the-row .written)))), l₂₇) ∷ []
+    part-4 : (l₀ l₁ l₂ l₃ l₄ l₅ l₆ l₇ l₈ l₉ l₁₀ l₁₁ l₁₂ l₁₃ l₁₄ l₁₅ l₁₆ l₁₇ l₁₈ l₁₉ l₂₀ l₂₁ : ℕ) (w : Val) (r : Parsed) (ws : Unit {0} × Unit {0}) (e : r ≡ parsedIn (ys-bytes)) (is : Is ParsedT.the-row r (w ∷ [])) (w₂ : Val) (r₂ : ℕ) (ws₂ : Unit {0} × Unit {0}) (e₂ : r₂ ≡ r .message .token) (is₂ : Is u32 r₂ (w₂ ∷ [])) (w₃ : Val) (r₃ : ℕ) (ws₃ : Unit {0} × (Unit {0} × Unit {0})) (e₃ : r₃ ≡ holderIn (ys-table) r₂) (is₃ : Is usize r₃ (w₃ ∷ [])) (w₄ : Val) (r₄ : ℕ) (ws₄ : Unit {0} × (Unit {0} × (Unit {0} × (Unit {0} × (Unit {0} × (Unit {0} × (Unit {0} × Unit {0}))))))) (e₄ : r₄ ≡ refusedBefore s n (length ys-mem) (length ys-table) (length ys-message) (r .good) r₃) (is₄ : Is u8 r₄ (w₄ ∷ [])) → Sq W (‵ Own-table ∷ ‵ (flft κ₁ q₁) ∷ ‵ (flft κ₂ q₂) ∷ ‵ Own-bytes ∷ ‵ (flft κ₃ q₃) ∷ ‵ (flft κ₀ q₀) ∷ ‵ Own-message ∷ ‵ Own-mem ∷ ‵ (froom (sliceTy (tyRef erased mut (tyInt w8))) l₂₁ 0) ∷ ‵ (fdies (sliceTy (tyRef erased mut (tyInt w8))) l₂₁) ∷ ‵ (froom (tyRef erased mut (tyInt w8)) l₂₀ 0) ∷ ‵ (fdies (tyRef erased mut (tyInt w8)) l₂₀) ∷ ‵ (froom (sliceTy (tyRef erased mut (pointee (RecordT.the-row .written)))) l₁₉ 0) ∷ ‵ (fdies (sliceTy (tyRef erased mut (pointee (RecordT.the-row .written)))) l₁₉) ∷ ‵ (froom (tyRef erased mut (pointee (RecordT.the-row .written))) l₁₈ 0) ∷ ‵ (fdies (tyRef erased mut (pointee (RecordT.the-row .written))) l₁₈) ∷ ‵ (fat fullShare (tyInt w64) l₁₇ 0 (vint w64 (length ys-message))) ∷ ‵ (fdies (tyInt w64) l₁₇) ∷ ‵ (fat fullShare (tyInt w64) l₁₆ 0 (vint w64 (length ys-table))) ∷ ‵ (fdies (tyInt w64) l₁₆) ∷ ‵ (fat fullShare (tyInt w64) l₁₅ 0 (vint w64 (length ys-mem))) ∷ ‵ (fdies (tyInt w64) l₁₅) ∷ ‵ (fat fullShare (sliceTy (tyRef erased imm (pointee (RecordT.the-row .written)))) l₁₄ 0 (s-table)) ∷ ‵ (fdies (sliceTy (tyRef erased imm (pointee (RecordT.the-row .written)))) l₁₄) ∷ ‵ (fat fullShare (tyRef erased imm (pointee (RecordT.the-row .written))) l₁₃ 0 (vptr b-table o-table)) ∷ ‵ (fdies (tyRef erased imm (pointee (RecordT.the-row .written))) l₁₃) ∷ ‵ (froom MessageL.mir l₁₂ 0) ∷ ‵ (fdies MessageL.mir l₁₂) ∷ ‵ (fat fullShare (tyInt w8) l₁₁ 0 (vint w8 r₄)) ∷ ‵ (fdies (tyInt w8) l₁₁) ∷ ‵ (fat fullShare (tyInt w64) l₁₀ 0 (vint w64 r₃)) ∷ ‵ (fdies (tyInt w64) l₁₀) ∷ ‵ (fat fullShare (tyInt w32) l₉ 0 (vint w32 r₂)) ∷ ‵ (fdies (tyInt w32) l₉) ∷ ‵ (fat fullShare ParsedL.mir l₈ 0 (ParsedL.lowered r)) ∷ ‵ (fdies ParsedL.mir l₈) ∷ ‵ (fat fullShare (sliceTy (tyRef (named 3) mut (tyInt w8))) l₇ 0 (s-message)) ∷ ‵ (fdies (sliceTy (tyRef (named 3) mut (tyInt w8))) l₇) ∷ ‵ (fat fullShare (sliceTy (tyRef (named 2) imm (tyInt w8))) l₆ 0 (s-bytes)) ∷ ‵ (fdies (sliceTy (tyRef (named 2) imm (tyInt w8))) l₆) ∷ ‵ (fat fullShare LinkStatesL.mir l₅ 0 (v-links)) ∷ ‵ (fdies LinkStatesL.mir l₅) ∷ ‵ (fat fullShare (sliceTy (tyRef (named 1) mut (pointee (RecordT.the-row .written)))) l₄ 0 (s-table)) ∷ ‵ (fdies (sliceTy (tyRef (named 1) mut (pointee (RecordT.the-row .written)))) l₄) ∷ ‵ (fat fullShare (sliceTy (tyRef (named 0) imm (tyInt w8))) l₃ 0 (s-mem)) ∷ ‵ (fdies (sliceTy (tyRef (named 0) imm (tyInt w8))) l₃) ∷ ‵ (fat fullShare (tyInt w32) l₂ 0 (vint w32 n)) ∷ ‵ (fdies (tyInt w32) l₂) ∷ ‵ (fat fullShare (tyInt w32) l₁ 0 (vint w32 s)) ∷ ‵ (fdies (tyInt w32) l₁) ∷ ‵ (froom HearAnswerL.mir l₀ 0) ∷ ‵ (fdies HearAnswerL.mir l₀) ∷ []) (runs C Λ (locals l₀ l₁ l₂ l₃ l₄ l₅ l₆ l₇ l₈ l₉ l₁₀ l₁₁ l₁₂ l₁₃ l₁₄ l₁₅ l₁₆ l₁₇ l₁₈ l₁₉ l₂₀ l₂₁) (after 9 (code.function .body)) (atRet (locals l₀ l₁ l₂ l₃ l₄ l₅ l₆ l₇ l₈ l₉ l₁₀ l₁₁ l₁₂ l₁₃ l₁₄ l₁₅ l₁₆ l₁₇ l₁₈ l₁₉ l₂₀ l₂₁) Post))
+    part-4 l₀ l₁ l₂ l₃ l₄ l₅ l₆ l₇ l₈ l₉ l₁₀ l₁₁ l₁₂ l₁₃ l₁₄ l₁₅ l₁₆ l₁₇ l₁₈ l₁₉ l₂₀ l₂₁ w r ws e is w₂ r₂ ws₂ e₂ is₂ w₃ r₃ ws₃ e₃ is₃ w₄ r₄ ws₄ e₄ is₄ =
+        assigns ! (of-opd ! (load ! (from ! (fld ! refl (stop !))) (look-in ! 34 (sub ! 1 refl (whole !))))) (from ! (stop !)) (init ! 26 refl (LL.lawful MessageT.the-type MessageL.the-laws 𝓤 H A W .typed (r .message) _ (Parsed-message-is r w is) .0)) $
+        assigns ! (addr ! (from ! (fld ! refl (hop ! (look-in ! 42 (sub ! 0 refl (whole !))) (stop !))))) (from ! (stop !)) (init ! 14 refl (tt, tt)) $
+        assigns ! (agg ! (and-then ! (load ! (from ! (stop !)) (look ! 14 refl)) (and-then ! (load ! (from ! (fld ! refl (stop !))) (look-in ! 42 (sub ! 1 refl (whole !)))) (no-more !)))) (from ! (stop !)) (init ! 12 refl (tt, (tt, (record { fits = g-table .0 }, tt)))) $
+        assigns ! (addr ! (from ! (fld ! refl (hop ! (look-in ! 36 (sub ! 0 refl (whole !))) (stop !))))) (from ! (stop !)) (init ! 10 refl (tt, tt)) $
+        assigns ! (agg ! (and-then ! (load ! (from ! (stop !)) (look ! 10 refl)) (and-then ! (load ! (from ! (fld ! refl (stop !))) (look-in ! 36 (sub ! 1 refl (whole !)))) (no-more !)))) (from ! (stop !)) (init ! 8 refl (tt, (tt, (record { fits = g-message .0 }, tt)))) $
+        nothing ! $ move ! (7 ∷ 0 ∷ []) $ join ! $ move ! (1 ∷ 0 ∷ []) $ join ! $ move ! (4 ∷ 0 ∷ []) $ join ! $ move ! (1 ∷ 0 ∷ []) $ join ! $ use1 W (raw (C-f-hear-unless 𝓤 H A mem run .pre (to-f-hear-unless 𝓤 H A mem run κ₁ q₁ κ₃ q₃ r₄ (vint w8 r₄) n (vint w32 n) x-table s-table links (v-links) r₃ (vint w64 r₃) (r .message) (MessageL.lowered (r .message)) x-message s-message))) (goes-f-hear-unless 𝓤 H A W mem run κ₁ q₁ κ₃ q₃ r₄ (vint w8 r₄) n (vint w32 n) x-table s-table links (v-links) r₃ (vint w64 r₃) (r .message) (MessageL.lowered (r .message)) x-message s-message (refl, (is₄ .1)) (refl, g-n) g-links (refl, (is₃ .1)) (Parsed-message-is r w is)) $
+        calls-at ! fm (C-f-hear-unless 𝓤 H A mem run) known-f-hear-unless (to-f-hear-unless 𝓤 H A mem run κ₁ q₁ κ₃ q₃ r₄ (vint w8 r₄) n (vint w32 n) x-table s-table links (v-links) r₃ (vint w64 r₃) (r .message) (MessageL.lowered (r .message)) x-message s-message) (and-then ! (load ! (from ! (stop !)) (look ! 25 refl)) (and-then ! (load ! (from ! (stop !)) (look ! 43 refl)) (and-then ! (load ! (from ! (stop !)) (look ! 9 refl)) (and-then ! (load ! (from ! (stop !)) (look ! 37 refl)) (and-then ! (load ! (from ! (stop !)) (look ! 27 refl)) (and-then ! (load ! (from ! (stop !)) (look ! 23 refl)) (and-then ! (load ! (from ! (stop !)) (look ! 5 refl)) (no-more !)))))))) (λ w₅.
+        use1 W (later (some (λ (r₅ : HearAnswer). ((‵ (flft κ₁ q₁) ⊛ ‵ (flft κ₃ q₃) ⊛ ‵ ftrue) ⊛ ‵ (HearAnswerT.the-row .own r₅ (w₅ ∷ []))) ⊛ raw (ensured 𝓤 H A f-hear-unless.ended (f-hear-unless.clauses 𝓤 H A mem run) (κ₁, (κ₃, tt)) (r₄, (n, (x-table, (links, (r₃, ((r .message), (x-message, tt))))))) tt r₅)))) (id⊢ 𝓤 _) $ await ! tt $ pick ! (λ r₅.
+        split ! $ move ! (1 ∷ []) $ use1 W (some (λ (ws₅ : Unit {0} × (Unit {0} × (List Record × (Unit {0} × (Unit {0} × (Unit {0} × (List ℕ × Unit {0}))))))). ‵ (lasts f-hear-unless.ended (κ₁, (κ₃, tt)) (r₄, (n, (x-table, (links, (r₃, ((r .message), (x-message, tt))))))) ws₅) ⊛ raw (fact 𝓤 (HeardBy r₄ n (ys-table) (links .active) r₃ (r .message) (ys-message) r₅ (ws₅ .1 .1 .0) (ws₅ .1 .1 .1 .1 .1 .1 .0))))) (id⊢ 𝓤 _) $ pick ! (λ ws₅.
+        split ! $ move ! (1 ∷ []) $ heard ! (HeardBy r₄ n (ys-table) (links .active) r₃ (r .message) (ys-message) r₅ (ws₅ .1 .1 .0) (ws₅ .1 .1 .1 .1 .1 .1 .0)) (λ e₅.
+        fsplit ! $ drop ! $ fsplit ! $ drop ! $ fsplit ! $ fsplit ! $ move ! (1 ∷ []) $ feqL ! (λ len. move ! (1 ∷ []) $ fsplit ! $ drop ! $ fsplit ! $ drop ! $ fsplit ! $ drop ! $ fsplit ! $ fsplit ! $ move ! (1 ∷ []) $ feqL ! (λ len₂. move ! (1 ∷ []) $ drop ! $ move ! (2 ∷ []) $ split ! $
+        move ! (1 ∷ []) $ peeks ! HearAnswerT.the-row (Is HearAnswerT.the-row) (shows 𝓤 H A HearAnswerT.the-row) r₅ (w₅ ∷ []) (λ is₅. drop ! $
+        land ! (from ! (stop !)) (init ! 49 refl (LL.lawful HearAnswerT.the-type HearAnswerL.the-laws 𝓤 H A W .typed r₅ _ is₅ .0)) $
+        split ! $ move ! (1 ∷ []) $ split ! $ move ! (1 ∷ []) $ drop ! $
+        returns ! (look ! 50 refl) $ forget ! 8 refl $ forget ! 10 refl $ forget ! 12 refl $ forget ! 14 refl $ forget ! 16 refl $ forget ! 18 refl $ forget ! 20 refl $ forget ! 22 refl $ forget ! 24 refl $ forget ! 26 refl $ forget ! 28 refl $ forget ! 30 refl $ forget ! 32 refl $ forget ! 34 refl $ forget ! 36 refl $ forget ! 38 refl $ forget ! 40 refl $ forget ! 42 refl $ forget ! 44 refl $ forget ! 46 refl $ forget ! 48 refl $ forget ! 50 refl $
+        move ! (50 ∷ 51 ∷ []) $ free1 ! $ move ! (48 ∷ 49 ∷ []) $ free1 ! $ move ! (46 ∷ 47 ∷ []) $ free1 ! $ move ! (44 ∷ 45 ∷ []) $ free1 ! $ move ! (42 ∷ 43 ∷ []) $ free1 ! $ move ! (40 ∷ 41 ∷ []) $ free1 ! $ move ! (38 ∷ 39 ∷ []) $ free1 ! $ move ! (36 ∷ 37 ∷ []) $ free1 ! $ move ! (34 ∷ 35 ∷ []) $ free1 ! $ move ! (32 ∷ 33 ∷ []) $ free1 ! $ move ! (30 ∷ 31 ∷ []) $ free1 ! $ move ! (28 ∷ 29 ∷ []) $ free1 ! $ move ! (26 ∷ 27 ∷ []) $ free1 ! $ move ! (24 ∷ 25 ∷ []) $ free1 ! $ move ! (22 ∷ 23 ∷ []) $ free1 ! $ move ! (20 ∷ 21 ∷ []) $ free1 ! $ move ! (18 ∷ 19 ∷ []) $ free1 ! $ move ! (16 ∷ 17 ∷ []) $ free1 ! $ move ! (14 ∷ 15 ∷ []) $ free1 ! $ move ! (12 ∷ 13 ∷ []) $ free1 ! $ move ! (10 ∷ 11 ∷ []) $ free1 ! $ move ! (8 ∷ 9 ∷ []) $ free1 ! $ free0 ! $
+        keep ! (6 ∷ 1 ∷ 4 ∷ 0 ∷ 3 ∷ 2 ∷ []) $ by ! (exits r₅ (w₅) (ws₅ .1 .1 .0) (ws₅ .1 .1 .1 .1 .1 .1 .0) len len₂ (fordlinnet-make-hear-returns s n ys-mem ys-table links ys-bytes ys-message r e r₂ e₂ r₃ e₃ r₄ e₄ r₅ (ws₅ .1 .1 .0) (ws₅ .1 .1 .1 .1 .1 .1 .0) e₅) is₅))))))))
 
-    part-5 : (l₀ l₁ l₂ l₃ l₄ l₅ l₆ l₇ l₈ l₉ l₁₀ l₁₁ l₁₂ l₁₃ l₁₄ l₁₅ l₁₆ l₁₇ l₁₈ l₁₉ l₂₀ l₂₁ l₂₂ l₂₃ l₂₄ l₂₅ l₂₆ l₂₇ : ℕ) (w : Val) (r : Parsed) (ws : Unit {0} × Unit {0}) (e : r ≡ parsedIn (ys-bytes)) (is : Is ParsedT.the-row r (w ∷ [])) (w₂ : Val) (r₂ : ℕ) (ws₂ : Unit {0} × Unit {0}) (e₂ : r₂ ≡ r .message .token) (is₂ : Is u32 r₂ (w₂ ∷ [])) (w₃ : Val) (r₃ : ℕ) (ws₃ : Unit {0} × (Unit {0} × Unit {0})) (e₃ : r₃ ≡ holderIn (ys-table) r₂) (is₃ : Is usize r₃ (w₃ ∷ [])) (w₄ : Val) (r₄ : ℕ) (ws₄ : Unit {0} × (Unit {0} × (Unit {0} × (Unit {0} × (Unit {0} × (Unit {0} × (Unit {0} × Unit {0}))))))) (e₄ : r₄ ≡ refusedBefore s n (length ys-mem) (length ys-table) (length ys-message) (r .good) r₃) (is₄ : Is u8 r₄ (w₄ ∷ [])) (w₅ : Val) (r₅ : Hearing) (ws₅ : Unit {0} × (Unit {0} × (Unit {0} × (Unit {0} × (Unit {0} × (Unit {0} × Unit {0})))))) (e₅ : r₅ ≡ hearingOf n (activeB (links .active) (recordAt (ys-table) r₃ .id .link)) (recordAt (ys-table) r₃) (r .message) r₄) (is₅ : Is HearingT.the-row r₅ (w₅ ∷ [])) (w₆ : Val) (r₆ : Unit {0}) (ws₆ : Unit {0} × (Unit {0} × (Unit {0} × (List ℕ × Unit {0})))) (e₆ : ws₆ .1 .1 .1 .0 ≡ messageLeft (recordAt (ys-table) r₃) r₅ (ys-message)) (len : length (ws₆ .1 .1 .1 .0) ≡ length ys-message) (is₆ : (w₆ ∷ []) ≡ (vunit ∷ [])) → Sq W (‵ Own-table ∷ ‵ (flft κ₁ q₁) ∷ ‵ (flft κ₃ q₃) ∷ ‵ (finally u8 γ-message (ws₆ .1 .1 .1 .0)) ∷ ‵ (flft κ₂ q₂) ∷ ‵ Own-bytes ∷ ‵ (flft κ₀ q₀) ∷ ‵ Own-mem ∷ ‵ (froom (sliceTy (tyRef erased mut (pointee (RecordT.the-row .written)))) l₂₇ 0) ∷ ‵ (fdies (sliceTy (tyRef erased mut (pointee (RecordT.the-row .written)))) l₂₇) ∷ ‵ (froom (tyRef erased mut (pointee (RecordT.the-row .written))) l₂₆ 0) ∷ ‵ (fdies (tyRef erased mut (pointee (RecordT.the-row .written))) l₂₆) ∷ ‵ (fat fullShare (sliceTy (tyRef erased mut (tyInt w8))) l₂₅ 0 (s-message)) ∷ ‵ (fdies (sliceTy (tyRef erased mut (tyInt w8))) l₂₅) ∷ ‵ (fat fullShare (tyRef erased mut (tyInt w8)) l₂₄ 0 (vptr b-message o-message)) ∷ ‵ (fdies (tyRef erased mut (tyInt w8)) l₂₄) ∷ ‵ (fat fullShare (sliceTy (tyRef erased imm (pointee (RecordT.the-row .written)))) l₂₃ 0 (s-table)) ∷ ‵ (fdies (sliceTy (tyRef erased imm (pointee (RecordT.the-row .written)))) l₂₃) ∷ ‵ (fat fullShare (tyRef erased imm (pointee (RecordT.the-row .written))) l₂₂ 0 (vptr b-table o-table)) ∷ ‵ (fdies (tyRef erased imm (pointee (RecordT.the-row .written))) l₂₂) ∷ ‵ (fat fullShare tyUnit l₂₁ 0 (w₆)) ∷ ‵ (fdies tyUnit l₂₁) ∷ ‵ (fat fullShare (sliceTy (tyRef erased imm (pointee (RecordT.the-row .written)))) l₂₀ 0 (s-table)) ∷ ‵ (fdies (sliceTy (tyRef erased imm (pointee (RecordT.the-row .written)))) l₂₀) ∷ ‵ (fat fullShare (tyRef erased imm (pointee (RecordT.the-row .written))) l₁₉ 0 (vptr b-table o-table)) ∷ ‵ (fdies (tyRef erased imm (pointee (RecordT.the-row .written))) l₁₉) ∷ ‵ (fat fullShare (tyInt w64) l₁₈ 0 (vint w64 (length ys-message))) ∷ ‵ (fdies (tyInt w64) l₁₈) ∷ ‵ (fat fullShare (tyInt w64) l₁₇ 0 (vint w64 (length ys-table))) ∷ ‵ (fdies (tyInt w64) l₁₇) ∷ ‵ (fat fullShare (tyInt w64) l₁₆ 0 (vint w64 (length ys-mem))) ∷ ‵ (fdies (tyInt w64) l₁₆) ∷ ‵ (fat fullShare (sliceTy (tyRef erased imm (pointee (RecordT.the-row .written)))) l₁₅ 0 (s-table)) ∷ ‵ (fdies (sliceTy (tyRef erased imm (pointee (RecordT.the-row .written)))) l₁₅) ∷ ‵ (fat fullShare (tyRef erased imm (pointee (RecordT.the-row .written))) l₁₄ 0 (vptr b-table o-table)) ∷ ‵ (fdies (tyRef erased imm (pointee (RecordT.the-row .written))) l₁₄) ∷ ‵ (fat fullShare HearingL.mir l₁₃ 0 (w₅)) ∷ ‵ (fdies HearingL.mir l₁₃) ∷ ‵ (fat fullShare MessageL.mir l₁₂ 0 (MessageL.lowered (r .message))) ∷ ‵ (fdies MessageL.mir l₁₂) ∷ ‵ (fat fullShare (tyInt w8) l₁₁ 0 (vint w8 r₄)) ∷ ‵ (fdies (tyInt w8) l₁₁) ∷ ‵ (fat fullShare (tyInt w64) l₁₀ 0 (vint w64 r₃)) ∷ ‵ (fdies (tyInt w64) l₁₀) ∷ ‵ (fat fullShare (tyInt w32) l₉ 0 (vint w32 r₂)) ∷ ‵ (fdies (tyInt w32) l₉) ∷ ‵ (fat fullShare ParsedL.mir l₈ 0 (ParsedL.lowered r)) ∷ ‵ (fdies ParsedL.mir l₈) ∷ ‵ (fat fullShare (sliceTy (tyRef (named 3) mut (tyInt w8))) l₇ 0 (s-message)) ∷ ‵ (fdies (sliceTy (tyRef (named 3) mut (tyInt w8))) l₇) ∷ ‵ (fat fullShare (sliceTy (tyRef (named 2) imm (tyInt w8))) l₆ 0 (s-bytes)) ∷ ‵ (fdies (sliceTy (tyRef (named 2) imm (tyInt w8))) l₆) ∷ ‵ (fat fullShare LinkStatesL.mir l₅ 0 (v-links)) ∷ ‵ (fdies LinkStatesL.mir l₅) ∷ ‵ (fat fullShare (sliceTy (tyRef (named 1) mut (pointee (RecordT.the-row .written)))) l₄ 0 (s-table)) ∷ ‵ (fdies (sliceTy (tyRef (named 1) mut (pointee (RecordT.the-row .written)))) l₄) ∷ ‵ (fat fullShare (sliceTy (tyRef (named 0) imm (tyInt w8))) l₃ 0 (s-mem)) ∷ ‵ (fdies (sliceTy (tyRef (named 0) imm (tyInt w8))) l₃) ∷ ‵ (fat fullShare (tyInt w32) l₂ 0 (vint w32 n)) ∷ ‵ (fdies (tyInt w32) l₂) ∷ ‵ (fat fullShare (tyInt w32) l₁ 0 (vint w32 s)) ∷ ‵ (fdies (tyInt w32) l₁) ∷ ‵ (froom HearAnswerL.mir l₀ 0) ∷ ‵ (fdies HearAnswerL.mir l₀) ∷ []) (runs C Λ (locals l₀ l₁ l₂ l₃ l₄ l₅ l₆ l₇ l₈ l₉ l₁₀ l₁₁ l₁₂ l₁₃ l₁₄ l₁₅ l₁₆ l₁₇ l₁₈ l₁₉ l₂₀ l₂₁ l₂₂ l₂₃ l₂₄ l₂₅ l₂₆ l₂₇) (after 18 (code.function .body)) (atRet (locals l₀ l₁ l₂ l₃ l₄ l₅ l₆ l₇ l₈ l₉ l₁₀ l₁₁ l₁₂ l₁₃ l₁₄ l₁₅ l₁₆ l₁₇ l₁₈ l₁₉ l₂₀ l₂₁ l₂₂ l₂₃ l₂₄ l₂₅ l₂₆ l₂₇) Post))
-    part-5 l₀ l₁ l₂ l₃ l₄ l₅ l₆ l₇ l₈ l₉ l₁₀ l₁₁ l₁₂ l₁₃ l₁₄ l₁₅ l₁₆ l₁₇ l₁₈ l₁₉ l₂₀ l₂₁ l₂₂ l₂₃ l₂₄ l₂₅ l₂₆ l₂₇ w r ws e is w₂ r₂ ws₂ e₂ is₂ w₃ r₃ ws₃ e₃ is₃ w₄ r₄ ws₄ e₄ is₄ w₅ r₅ ws₅ e₅ is₅ w₆ r₆ ws₆ e₆ len is₆ =
-        assigns ! (addr ! (from ! (fld ! refl (hop ! (look-in ! 54 (sub ! 0 refl (whole !))) (stop !))))) (from ! (stop !)) (init ! 10 refl (tt, tt)) $
-        assigns ! (agg ! (and-then ! (load ! (from ! (stop !)) (look ! 10 refl)) (and-then ! (load ! (from ! (fld ! refl (stop !))) (look-in ! 54 (sub ! 1 refl (whole !)))) (no-more !)))) (from ! (stop !)) (init ! 8 refl (tt, (tt, (record { fits = g-table .0 }, tt)))) $
-        nothing ! $ move ! (1 ∷ 0 ∷ []) $ join ! $ move ! (1 ∷ 0 ∷ []) $ join ! $ use1 W (raw (C-f-put 𝓤 H A mem run .pre (to-f-put 𝓤 H A mem run κ₁ q₁ x-table s-table r₃ (vint w64 r₃) (r .message) (MessageL.lowered (r .message)) r₅ (w₅)))) (goes-f-put 𝓤 H A W mem run κ₁ q₁ x-table s-table r₃ (vint w64 r₃) (r .message) (MessageL.lowered (r .message)) r₅ (w₅) (refl, (is₃ .1)) (Parsed-message-is r w is) is₅) $
-        calls-at ! fm (C-f-put 𝓤 H A mem run) known-f-put (to-f-put 𝓤 H A mem run κ₁ q₁ x-table s-table r₃ (vint w64 r₃) (r .message) (MessageL.lowered (r .message)) r₅ (w₅)) (and-then ! (load ! (from ! (stop !)) (look ! 7 refl)) (and-then ! (load ! (from ! (stop !)) (look ! 41 refl)) (and-then ! (load ! (from ! (stop !)) (look ! 37 refl)) (and-then ! (load ! (from ! (stop !)) (look ! 35 refl)) (no-more !))))) (λ w₇.
-        use1 W (later (some (λ (r₇ : Unit {0}). ((‵ (flft κ₁ q₁) ⊛ ‵ ftrue) ⊛ ‵ (unit .own r₇ (w₇ ∷ []))) ⊛ raw (ensured 𝓤 H A f-put.ended (f-put.clauses 𝓤 H A mem run) (κ₁, tt) (x-table, (r₃, ((r .message), (r₅, tt)))) tt r₇)))) (id⊢ 𝓤 _) $ await ! tt $ pick ! (λ r₇.
-        split ! $ move ! (1 ∷ []) $ use1 W (some (λ (ws₇ : List Record × (Unit {0} × (Unit {0} × (Unit {0} × Unit {0})))). ‵ (lasts f-put.ended (κ₁, tt) (x-table, (r₃, ((r .message), (r₅, tt)))) ws₇) ⊛ raw (fact 𝓤 (ws₇ .0 ≡ tableLeft (ys-table) r₃ (r .message) r₅)))) (id⊢ 𝓤 _) $ pick ! (λ ws₇.
-        split ! $ move ! (1 ∷ []) $ heard ! (ws₇ .0 ≡ tableLeft (ys-table) r₃ (r .message) r₅) (λ e₇.
-        fsplit ! $ fsplit ! $ move ! (1 ∷ []) $ feqL ! (λ len₂. move ! (1 ∷ []) $ fsplit ! $ drop ! $ fsplit ! $ drop ! $ fsplit ! $ drop ! $ drop ! $ move ! (1 ∷ []) $ split ! $
-        move ! (1 ∷ []) $ feqL ! (λ is₇. land ! (from ! (stop !)) (store ! 20 refl (unit-typed w₇ is₇)) $
-        split ! $ move ! (1 ∷ []) $ drop ! $
-        use0 W (raw (C-f-answer-of 𝓤 H A mem run .pre (to-f-answer-of 𝓤 H A mem run r₅ (w₅)))) (goes-f-answer-of 𝓤 H A W mem run r₅ (w₅) is₅) $
-        calls-at ! fm (C-f-answer-of 𝓤 H A mem run) known-f-answer-of (to-f-answer-of 𝓤 H A mem run r₅ (w₅)) (and-then ! (load ! (from ! (stop !)) (look ! 37 refl)) (no-more !)) (λ w₈.
-        use1 W (later (some (λ (r₈ : HearAnswer). ((‵ ftrue) ⊛ ‵ (HearAnswerT.the-row .own r₈ (w₈ ∷ []))) ⊛ raw (ensured 𝓤 H A f-answer-of.ended (f-answer-of.clauses 𝓤 H A mem run) tt (r₅, tt) tt r₈)))) (id⊢ 𝓤 _) $ await ! tt $ pick ! (λ r₈.
-        split ! $ move ! (1 ∷ []) $ use1 W (some (λ (ws₈ : Unit {0} × Unit {0}). ‵ (lasts f-answer-of.ended tt (r₅, tt) ws₈) ⊛ raw (fact 𝓤 (r₈ ≡ r₅ .said)))) (id⊢ 𝓤 _) $ pick ! (λ ws₈.
-        split ! $ move ! (1 ∷ []) $ heard ! (r₈ ≡ r₅ .said) (λ e₈.
-        fsplit ! $ drop ! $ drop ! $ split ! $
-        move ! (1 ∷ []) $ peeks ! HearAnswerT.the-row (Is HearAnswerT.the-row) (shows 𝓤 H A HearAnswerT.the-row) r₈ (w₈ ∷ []) (λ is₈. drop ! $
-        land ! (from ! (stop !)) (init ! 63 refl (LL.lawful HearAnswerT.the-type HearAnswerL.the-laws 𝓤 H A W .typed r₈ _ is₈ .0)) $
-        drop ! $
-        returns ! (look ! 62 refl) $ forget ! 8 refl $ forget ! 10 refl $ forget ! 12 refl $ forget ! 14 refl $ forget ! 16 refl $ forget ! 18 refl $ forget ! 20 refl $ forget ! 22 refl $ forget ! 24 refl $ forget ! 26 refl $ forget ! 28 refl $ forget ! 30 refl $ forget ! 32 refl $ forget ! 34 refl $ forget ! 36 refl $ forget ! 38 refl $ forget ! 40 refl $ forget ! 42 refl $ forget ! 44 refl $ forget ! 46 refl $ forget ! 48 refl $ forget ! 50 refl $ forget ! 52 refl $ forget ! 54 refl $ forget ! 56 refl $ forget ! 58 refl $ forget ! 60 refl $ forget ! 62 refl $
-        move ! (62 ∷ 63 ∷ []) $ free1 ! $ move ! (60 ∷ 61 ∷ []) $ free1 ! $ move ! (58 ∷ 59 ∷ []) $ free1 ! $ move ! (56 ∷ 57 ∷ []) $ free1 ! $ move ! (54 ∷ 55 ∷ []) $ free1 ! $ move ! (52 ∷ 53 ∷ []) $ free1 ! $ move ! (50 ∷ 51 ∷ []) $ free1 ! $ move ! (48 ∷ 49 ∷ []) $ free1 ! $ move ! (46 ∷ 47 ∷ []) $ free1 ! $ move ! (44 ∷ 45 ∷ []) $ free1 ! $ move ! (42 ∷ 43 ∷ []) $ free1 ! $ move ! (40 ∷ 41 ∷ []) $ free1 ! $ move ! (38 ∷ 39 ∷ []) $ free1 ! $ move ! (36 ∷ 37 ∷ []) $ free1 ! $ move ! (34 ∷ 35 ∷ []) $ free1 ! $ move ! (32 ∷ 33 ∷ []) $ free1 ! $ move ! (30 ∷ 31 ∷ []) $ free1 ! $ move ! (28 ∷ 29 ∷ []) $ free1 ! $ move ! (26 ∷ 27 ∷ []) $ free1 ! $ move ! (24 ∷ 25 ∷ []) $ free1 ! $ move ! (22 ∷ 23 ∷ []) $ free1 ! $ move ! (20 ∷ 21 ∷ []) $ free1 ! $ move ! (18 ∷ 19 ∷ []) $ free1 ! $ move ! (16 ∷ 17 ∷ []) $ free1 ! $ move ! (14 ∷ 15 ∷ []) $ free1 ! $ move ! (12 ∷ 13 ∷ []) $ free1 ! $ move ! (10 ∷ 11 ∷ []) $ free1 ! $ move ! (8 ∷ 9 ∷ []) $ free1 ! $ free0 ! $
-        keep ! (6 ∷ 0 ∷ 4 ∷ 2 ∷ 1 ∷ 3 ∷ []) $ by ! (exits r₈ (w₈) (ws₇ .0) (ws₆ .1 .1 .1 .0) len₂ len (fordlinnet-make-hear-returns s n ys-mem ys-table links ys-bytes ys-message r e r₂ e₂ r₃ e₃ r₄ e₄ r₅ e₅ r₆ (ws₆ .1 .1 .1 .0) e₆ r₇ (ws₇ .0) e₇ r₈ e₈) is₈))))))))))))
-
-    part-4 : (l₀ l₁ l₂ l₃ l₄ l₅ l₆ l₇ l₈ l₉ l₁₀ l₁₁ l₁₂ l₁₃ l₁₄ l₁₅ l₁₆ l₁₇ l₁₈ l₁₉ l₂₀ l₂₁ l₂₂ l₂₃ l₂₄ l₂₅ l₂₆ l₂₇ : ℕ) (w : Val) (r : Parsed) (ws : Unit {0} × Unit {0}) (e : r ≡ parsedIn (ys-bytes)) (is : Is ParsedT.the-row r (w ∷ [])) (w₂ : Val) (r₂ : ℕ) (ws₂ : Unit {0} × Unit {0}) (e₂ : r₂ ≡ r .message .token) (is₂ : Is u32 r₂ (w₂ ∷ [])) (w₃ : Val) (r₃ : ℕ) (ws₃ : Unit {0} × (Unit {0} × Unit {0})) (e₃ : r₃ ≡ holderIn (ys-table) r₂) (is₃ : Is usize r₃ (w₃ ∷ [])) (w₄ : Val) (r₄ : ℕ) (ws₄ : Unit {0} × (Unit {0} × (Unit {0} × (Unit {0} × (Unit {0} × (Unit {0} × (Unit {0} × Unit {0}))))))) (e₄ : r₄ ≡ refusedBefore s n (length ys-mem) (length ys-table) (length ys-message) (r .good) r₃) (is₄ : Is u8 r₄ (w₄ ∷ [])) → Sq W (‵ Own-table ∷ ‵ (flft κ₁ q₁) ∷ ‵ (flft κ₂ q₂) ∷ ‵ Own-bytes ∷ ‵ (flft κ₃ q₃) ∷ ‵ (flft κ₀ q₀) ∷ ‵ Own-message ∷ ‵ Own-mem ∷ ‵ (froom (sliceTy (tyRef erased mut (pointee (RecordT.the-row .written)))) l₂₇ 0) ∷ ‵ (fdies (sliceTy (tyRef erased mut (pointee (RecordT.the-row .written)))) l₂₇) ∷ ‵ (froom (tyRef erased mut (pointee (RecordT.the-row .written))) l₂₆ 0) ∷ ‵ (fdies (tyRef erased mut (pointee (RecordT.the-row .written))) l₂₆) ∷ ‵ (froom (sliceTy (tyRef erased mut (tyInt w8))) l₂₅ 0) ∷ ‵ (fdies (sliceTy (tyRef erased mut (tyInt w8))) l₂₅) ∷ ‵ (froom (tyRef erased mut (tyInt w8)) l₂₄ 0) ∷ ‵ (fdies (tyRef erased mut (tyInt w8)) l₂₄) ∷ ‵ (froom (sliceTy (tyRef erased imm (pointee (RecordT.the-row .written)))) l₂₃ 0) ∷ ‵ (fdies (sliceTy (tyRef erased imm (pointee (RecordT.the-row .written)))) l₂₃) ∷ ‵ (froom (tyRef erased imm (pointee (RecordT.the-row .written))) l₂₂ 0) ∷ ‵ (fdies (tyRef erased imm (pointee (RecordT.the-row .written))) l₂₂) ∷ ‵ (froom tyUnit l₂₁ 0) ∷ ‵ (fdies tyUnit l₂₁) ∷ ‵ (froom (sliceTy (tyRef erased imm (pointee (RecordT.the-row .written)))) l₂₀ 0) ∷ ‵ (fdies (sliceTy (tyRef erased imm (pointee (RecordT.the-row .written)))) l₂₀) ∷ ‵ (froom (tyRef erased imm (pointee (RecordT.the-row .written))) l₁₉ 0) ∷ ‵ (fdies (tyRef erased imm (pointee (RecordT.the-row .written))) l₁₉) ∷ ‵ (fat fullShare (tyInt w64) l₁₈ 0 (vint w64 (length ys-message))) ∷ ‵ (fdies (tyInt w64) l₁₈) ∷ ‵ (fat fullShare (tyInt w64) l₁₇ 0 (vint w64 (length ys-table))) ∷ ‵ (fdies (tyInt w64) l₁₇) ∷ ‵ (fat fullShare (tyInt w64) l₁₆ 0 (vint w64 (length ys-mem))) ∷ ‵ (fdies (tyInt w64) l₁₆) ∷ ‵ (fat fullShare (sliceTy (tyRef erased imm (pointee (RecordT.the-row .written)))) l₁₅ 0 (s-table)) ∷ ‵ (fdies (sliceTy (tyRef erased imm (pointee (RecordT.the-row .written)))) l₁₅) ∷ ‵ (fat fullShare (tyRef erased imm (pointee (RecordT.the-row .written))) l₁₄ 0 (vptr b-table o-table)) ∷ ‵ (fdies (tyRef erased imm (pointee (RecordT.the-row .written))) l₁₄) ∷ ‵ (froom HearingL.mir l₁₃ 0) ∷ ‵ (fdies HearingL.mir l₁₃) ∷ ‵ (froom MessageL.mir l₁₂ 0) ∷ ‵ (fdies MessageL.mir l₁₂) ∷ ‵ (fat fullShare (tyInt w8) l₁₁ 0 (vint w8 r₄)) ∷ ‵ (fdies (tyInt w8) l₁₁) ∷ ‵ (fat fullShare (tyInt w64) l₁₀ 0 (vint w64 r₃)) ∷ ‵ (fdies (tyInt w64) l₁₀) ∷ ‵ (fat fullShare (tyInt w32) l₉ 0 (vint w32 r₂)) ∷ ‵ (fdies (tyInt w32) l₉) ∷ ‵ (fat fullShare ParsedL.mir l₈ 0 (ParsedL.lowered r)) ∷ ‵ (fdies ParsedL.mir l₈) ∷ ‵ (fat fullShare (sliceTy (tyRef (named 3) mut (tyInt w8))) l₇ 0 (s-message)) ∷ ‵ (fdies (sliceTy (tyRef (named 3) mut (tyInt w8))) l₇) ∷ ‵ (fat fullShare (sliceTy (tyRef (named 2) imm (tyInt w8))) l₆ 0 (s-bytes)) ∷ ‵ (fdies (sliceTy (tyRef (named 2) imm (tyInt w8))) l₆) ∷ ‵ (fat fullShare LinkStatesL.mir l₅ 0 (v-links)) ∷ ‵ (fdies LinkStatesL.mir l₅) ∷ ‵ (fat fullShare (sliceTy (tyRef (named 1) mut (pointee (RecordT.the-row .written)))) l₄ 0 (s-table)) ∷ ‵ (fdies (sliceTy (tyRef (named 1) mut (pointee (RecordT.the-row .written)))) l₄) ∷ ‵ (fat fullShare (sliceTy (tyRef (named 0) imm (tyInt w8))) l₃ 0 (s-mem)) ∷ ‵ (fdies (sliceTy (tyRef (named 0) imm (tyInt w8))) l₃) ∷ ‵ (fat fullShare (tyInt w32) l₂ 0 (vint w32 n)) ∷ ‵ (fdies (tyInt w32) l₂) ∷ ‵ (fat fullShare (tyInt w32) l₁ 0 (vint w32 s)) ∷ ‵ (fdies (tyInt w32) l₁) ∷ ‵ (froom HearAnswerL.mir l₀ 0) ∷ ‵ (fdies HearAnswerL.mir l₀) ∷ []) (runs C Λ (locals l₀ l₁ l₂ l₃ l₄ l₅ l₆ l₇ l₈ l₉ l₁₀ l₁₁ l₁₂ l₁₃ l₁₄ l₁₅ l₁₆ l₁₇ l₁₈ l₁₉ l₂₀ l₂₁ l₂₂ l₂₃ l₂₄ l₂₅ l₂₆ l₂₇) (after 9 (code.function .body)) (atRet (locals l₀ l₁ l₂ l₃ l₄ l₅ l₆ l₇ l₈ l₉ l₁₀ l₁₁ l₁₂ l₁₃ l₁₄ l₁₅ l₁₆ l₁₇ l₁₈ l₁₉ l₂₀ l₂₁ l₂₂ l₂₃ l₂₄ l₂₅ l₂₆ l₂₇) Post))
-    part-4 l₀ l₁ l₂ l₃ l₄ l₅ l₆ l₇ l₈ l₉ l₁₀ l₁₁ l₁₂ l₁₃ l₁₄ l₁₅ l₁₆ l₁₇ l₁₈ l₁₉ l₂₀ l₂₁ l₂₂ l₂₃ l₂₄ l₂₅ l₂₆ l₂₇ w r ws e is w₂ r₂ ws₂ e₂ is₂ w₃ r₃ ws₃ e₃ is₃ w₄ r₄ ws₄ e₄ is₄ =
-        assigns ! (of-opd ! (load ! (from ! (fld ! refl (stop !))) (look-in ! 46 (sub ! 1 refl (whole !))))) (from ! (stop !)) (init ! 38 refl (LL.lawful MessageT.the-type MessageL.the-laws 𝓤 H A W .typed (r .message) _ (Parsed-message-is r w is) .0)) $
-        assigns ! (addr ! (from ! (fld ! refl (hop ! (look-in ! 54 (sub ! 0 refl (whole !))) (stop !))))) (from ! (stop !)) (init ! 24 refl (tt, tt)) $
-        assigns ! (agg ! (and-then ! (load ! (from ! (stop !)) (look ! 24 refl)) (and-then ! (load ! (from ! (fld ! refl (stop !))) (look-in ! 54 (sub ! 1 refl (whole !)))) (no-more !)))) (from ! (stop !)) (init ! 22 refl (tt, (tt, (record { fits = g-table .0 }, tt)))) $
-        fsplit ! $ move ! (1 ∷ []) $ fsplit ! $ move ! (0 ∷ 1 ∷ 3 ∷ []) $ opens-slice ! tt RecordT.the-row ys-table b-table o-table $ feqI ! ℕ (length ys-table) (length ys-table) refl $ fjoin ! $ lft-new ! tt (λ ν₂. move ! (1 ∷ []) $ use1 W (later (some (λ (δ₂ : GName). ‵ (ShrSlice (named 1) (ν₂ ∷ []) RecordT.the-row .own (record { ptr = (b-table, o-table); name = δ₂; now = ys-table }) (s-table ∷ [])) ⊛ ‵ (flent (ν₂ ∷ []) (arr-parts (shares RecordT.the-row) (length ys-table) .part fullShare ys-table b-table o-table))))) (lends-shr-slice 𝓤 H A W RecordT.the-row (named 1) (ν₂ ∷ []) fullShare ys-table b-table o-table g-table) $ await ! tt $ pick ! (λ δ₂. split ! $
-        nothing ! $ move ! (1 ∷ 0 ∷ []) $ join ! $ move ! (2 ∷ 0 ∷ []) $ join ! $ use1 W (raw (C-f-hearing-at 𝓤 H A mem run .pre (to-f-hearing-at 𝓤 H A mem run (ν₂ ∷ []) fullShare n (vint w32 n) (record { ptr = (b-table, o-table); name = δ₂; now = ys-table }) s-table links (v-links) r₃ (vint w64 r₃) (r .message) (MessageL.lowered (r .message)) r₄ (vint w8 r₄)))) (goes-f-hearing-at 𝓤 H A W mem run (ν₂ ∷ []) fullShare n (vint w32 n) (record { ptr = (b-table, o-table); name = δ₂; now = ys-table }) s-table links (v-links) r₃ (vint w64 r₃) (r .message) (MessageL.lowered (r .message)) r₄ (vint w8 r₄) (refl, g-n) g-links (refl, (is₃ .1)) (Parsed-message-is r w is) (refl, (is₄ .1))) $
-        calls-at ! fm (C-f-hearing-at 𝓤 H A mem run) known-f-hearing-at (to-f-hearing-at 𝓤 H A mem run (ν₂ ∷ []) fullShare n (vint w32 n) (record { ptr = (b-table, o-table); name = δ₂; now = ys-table }) s-table links (v-links) r₃ (vint w64 r₃) (r .message) (MessageL.lowered (r .message)) r₄ (vint w8 r₄)) (and-then ! (load ! (from ! (stop !)) (look ! 62 refl)) (and-then ! (load ! (from ! (stop !)) (look ! 26 refl)) (and-then ! (load ! (from ! (stop !)) (look ! 56 refl)) (and-then ! (load ! (from ! (stop !)) (look ! 46 refl)) (and-then ! (load ! (from ! (stop !)) (look ! 42 refl)) (and-then ! (load ! (from ! (stop !)) (look ! 44 refl)) (no-more !))))))) (λ w₅.
-        use1 W (later (some (λ (r₅ : Hearing). ((‵ (flft (ν₂ ∷ []) fullShare) ⊛ ‵ ftrue) ⊛ ‵ (HearingT.the-row .own r₅ (w₅ ∷ []))) ⊛ raw (ensured 𝓤 H A f-hearing-at.ended (f-hearing-at.clauses 𝓤 H A mem run) ((ν₂ ∷ []), tt) (n, ((record { ptr = (b-table, o-table); name = δ₂; now = ys-table }), (links, (r₃, ((r .message), (r₄, tt)))))) tt r₅)))) (id⊢ 𝓤 _) $ await ! tt $ pick ! (λ r₅.
-        split ! $ move ! (1 ∷ []) $ use1 W (some (λ (ws₅ : Unit {0} × (Unit {0} × (Unit {0} × (Unit {0} × (Unit {0} × (Unit {0} × Unit {0})))))). ‵ (lasts f-hearing-at.ended ((ν₂ ∷ []), tt) (n, ((record { ptr = (b-table, o-table); name = δ₂; now = ys-table }), (links, (r₃, ((r .message), (r₄, tt)))))) ws₅) ⊛ raw (fact 𝓤 (r₅ ≡ hearingOf n (activeB (links .active) (recordAt (ys-table) r₃ .id .link)) (recordAt (ys-table) r₃) (r .message) r₄)))) (id⊢ 𝓤 _) $ pick ! (λ ws₅.
-        split ! $ move ! (1 ∷ []) $ heard ! (r₅ ≡ hearingOf n (activeB (links .active) (recordAt (ys-table) r₃ .id .link)) (recordAt (ys-table) r₃) (r .message) r₄) (λ e₅.
-        fsplit ! $ drop ! $ fsplit ! $ drop ! $ fsplit ! $ drop ! $ fsplit ! $ drop ! $ fsplit ! $ drop ! $ fsplit ! $ drop ! $ drop ! $ split ! $
-        move ! (1 ∷ []) $ peeks ! HearingT.the-row (Is HearingT.the-row) (shows 𝓤 H A HearingT.the-row) r₅ (w₅ ∷ []) (λ is₅. drop ! $
-        land ! (from ! (stop !)) (init ! 40 refl (LL.lawful HearingT.the-type HearingL.the-laws 𝓤 H A W .typed r₅ _ is₅ .0)) $
-        split ! $ move ! (1 ∷ []) $ drop ! $ lft-end ! tt $ lent-back ! tt $ fsplit ! $ drop ! $ closes-slice ! tt RecordT.the-row ys-table ys-table refl b-table o-table $ fjoin ! $ move ! (2 ∷ 0 ∷ []) $ fjoin ! $
-        assigns ! (addr ! (from ! (fld ! refl (hop ! (look-in ! 54 (sub ! 0 refl (whole !))) (stop !))))) (from ! (stop !)) (init ! 18 refl (tt, tt)) $
-        assigns ! (agg ! (and-then ! (load ! (from ! (stop !)) (look ! 18 refl)) (and-then ! (load ! (from ! (fld ! refl (stop !))) (look-in ! 54 (sub ! 1 refl (whole !)))) (no-more !)))) (from ! (stop !)) (init ! 16 refl (tt, (tt, (record { fits = g-table .0 }, tt)))) $
-        assigns ! (addr ! (from ! (fld ! refl (hop ! (look-in ! 48 (sub ! 0 refl (whole !))) (stop !))))) (from ! (stop !)) (init ! 14 refl (tt, tt)) $
-        assigns ! (agg ! (and-then ! (load ! (from ! (stop !)) (look ! 14 refl)) (and-then ! (load ! (from ! (fld ! refl (stop !))) (look-in ! 48 (sub ! 1 refl (whole !)))) (no-more !)))) (from ! (stop !)) (init ! 12 refl (tt, (tt, (record { fits = g-message .0 }, tt)))) $
-        fsplit ! $ move ! (1 ∷ []) $ fsplit ! $ move ! (0 ∷ 1 ∷ 3 ∷ []) $ opens-slice ! tt RecordT.the-row ys-table b-table o-table $ feqI ! ℕ (length ys-table) (length ys-table) refl $ fjoin ! $ lft-new ! tt (λ ν₃. move ! (1 ∷ []) $ use1 W (later (some (λ (δ₃ : GName). ‵ (ShrSlice (named 1) (ν₃ ∷ []) RecordT.the-row .own (record { ptr = (b-table, o-table); name = δ₃; now = ys-table }) (s-table ∷ [])) ⊛ ‵ (flent (ν₃ ∷ []) (arr-parts (shares RecordT.the-row) (length ys-table) .part fullShare ys-table b-table o-table))))) (lends-shr-slice 𝓤 H A W RecordT.the-row (named 1) (ν₃ ∷ []) fullShare ys-table b-table o-table g-table) $ await ! tt $ pick ! (λ δ₃. split ! $
-        nothing ! $ move ! (12 ∷ 0 ∷ []) $ join ! $ move ! (1 ∷ 0 ∷ []) $ join ! $ move ! (9 ∷ 0 ∷ []) $ join ! $ move ! (2 ∷ 0 ∷ []) $ join ! $ use1 W (raw (C-f-tell-at 𝓤 H A mem run .pre (to-f-tell-at 𝓤 H A mem run (ν₃ ∷ []) fullShare κ₃ q₃ (record { ptr = (b-table, o-table); name = δ₃; now = ys-table }) s-table r₃ (vint w64 r₃) r₅ (w₅) x-message s-message))) (goes-f-tell-at 𝓤 H A W mem run (ν₃ ∷ []) fullShare κ₃ q₃ (record { ptr = (b-table, o-table); name = δ₃; now = ys-table }) s-table r₃ (vint w64 r₃) r₅ (w₅) x-message s-message (refl, (is₃ .1)) is₅) $
-        calls-at ! fm (C-f-tell-at 𝓤 H A mem run) known-f-tell-at (to-f-tell-at 𝓤 H A mem run (ν₃ ∷ []) fullShare κ₃ q₃ (record { ptr = (b-table, o-table); name = δ₃; now = ys-table }) s-table r₃ (vint w64 r₃) r₅ (w₅) x-message s-message) (and-then ! (load ! (from ! (stop !)) (look ! 18 refl)) (and-then ! (load ! (from ! (stop !)) (look ! 44 refl)) (and-then ! (load ! (from ! (stop !)) (look ! 38 refl)) (and-then ! (load ! (from ! (stop !)) (look ! 14 refl)) (no-more !))))) (λ w₆.
-        use1 W (later (some (λ (r₆ : Unit {0}). ((‵ (flft (ν₃ ∷ []) fullShare) ⊛ ‵ (flft κ₃ q₃) ⊛ ‵ ftrue) ⊛ ‵ (unit .own r₆ (w₆ ∷ []))) ⊛ raw (ensured 𝓤 H A f-tell-at.ended (f-tell-at.clauses 𝓤 H A mem run) ((ν₃ ∷ []), (κ₃, tt)) ((record { ptr = (b-table, o-table); name = δ₃; now = ys-table }), (r₃, (r₅, (x-message, tt)))) tt r₆)))) (id⊢ 𝓤 _) $ await ! tt $ pick ! (λ r₆.
-        split ! $ move ! (1 ∷ []) $ use1 W (some (λ (ws₆ : Unit {0} × (Unit {0} × (Unit {0} × (List ℕ × Unit {0})))). ‵ (lasts f-tell-at.ended ((ν₃ ∷ []), (κ₃, tt)) ((record { ptr = (b-table, o-table); name = δ₃; now = ys-table }), (r₃, (r₅, (x-message, tt)))) ws₆) ⊛ raw (fact 𝓤 (ws₆ .1 .1 .1 .0 ≡ messageLeft (recordAt (ys-table) r₃) r₅ (ys-message))))) (id⊢ 𝓤 _) $ pick ! (λ ws₆.
-        split ! $ move ! (1 ∷ []) $ heard ! (ws₆ .1 .1 .1 .0 ≡ messageLeft (recordAt (ys-table) r₃) r₅ (ys-message)) (λ e₆.
-        fsplit ! $ drop ! $ fsplit ! $ drop ! $ fsplit ! $ drop ! $ fsplit ! $ fsplit ! $ move ! (1 ∷ []) $ feqL ! (λ len. move ! (1 ∷ []) $ drop ! $ move ! (1 ∷ []) $ split ! $
-        move ! (1 ∷ []) $ feqL ! (λ is₆. land ! (from ! (stop !)) (init ! 23 refl (unit-typed w₆ is₆)) $
-        split ! $ move ! (1 ∷ []) $ split ! $ move ! (1 ∷ []) $ drop ! $ move ! (1 ∷ []) $ lft-end ! tt $ move ! (0 ∷ 3 ∷ []) $ lent-back ! tt $ fsplit ! $ drop ! $ move ! (0 ∷ 3 ∷ 4 ∷ 5 ∷ []) $ closes-slice ! tt RecordT.the-row ys-table ys-table refl b-table o-table $ fjoin ! $ move ! (4 ∷ 0 ∷ []) $ fjoin ! $
-        part-5 l₀ l₁ l₂ l₃ l₄ l₅ l₆ l₇ l₈ l₉ l₁₀ l₁₁ l₁₂ l₁₃ l₁₄ l₁₅ l₁₆ l₁₇ l₁₈ l₁₉ l₂₀ l₂₁ l₂₂ l₂₃ l₂₄ l₂₅ l₂₆ l₂₇ w r ws e is w₂ r₂ ws₂ e₂ is₂ w₃ r₃ ws₃ e₃ is₃ w₄ r₄ ws₄ e₄ is₄ w₅ r₅ ws₅ e₅ is₅ w₆ r₆ ws₆ e₆ len is₆)))))))))))))))
-
-    part-3 : (l₀ l₁ l₂ l₃ l₄ l₅ l₆ l₇ l₈ l₉ l₁₀ l₁₁ l₁₂ l₁₃ l₁₄ l₁₅ l₁₆ l₁₇ l₁₈ l₁₉ l₂₀ l₂₁ l₂₂ l₂₃ l₂₄ l₂₅ l₂₆ l₂₇ : ℕ) (w : Val) (r : Parsed) (ws : Unit {0} × Unit {0}) (e : r ≡ parsedIn (ys-bytes)) (is : Is ParsedT.the-row r (w ∷ [])) (w₂ : Val) (r₂ : ℕ) (ws₂ : Unit {0} × Unit {0}) (e₂ : r₂ ≡ r .message .token) (is₂ : Is u32 r₂ (w₂ ∷ [])) → Sq W (‵ (flft κ₂ q₂) ∷ ‵ Own-bytes ∷ ‵ (flft κ₃ q₃) ∷ ‵ (flft κ₁ q₁) ∷ ‵ (flft κ₀ q₀) ∷ ‵ Own-message ∷ ‵ Own-table ∷ ‵ Own-mem ∷ ‵ (froom (sliceTy (tyRef erased mut (pointee (RecordT.the-row .written)))) l₂₇ 0) ∷ ‵ (fdies (sliceTy (tyRef erased mut (pointee (RecordT.the-row .written)))) l₂₇) ∷ ‵ (froom (tyRef erased mut (pointee (RecordT.the-row .written))) l₂₆ 0) ∷ ‵ (fdies (tyRef erased mut (pointee (RecordT.the-row .written))) l₂₆) ∷ ‵ (froom (sliceTy (tyRef erased mut (tyInt w8))) l₂₅ 0) ∷ ‵ (fdies (sliceTy (tyRef erased mut (tyInt w8))) l₂₅) ∷ ‵ (froom (tyRef erased mut (tyInt w8)) l₂₄ 0) ∷ ‵ (fdies (tyRef erased mut (tyInt w8)) l₂₄) ∷ ‵ (froom (sliceTy (tyRef erased imm (pointee (RecordT.the-row .written)))) l₂₃ 0) ∷ ‵ (fdies (sliceTy (tyRef erased imm (pointee (RecordT.the-row .written)))) l₂₃) ∷ ‵ (froom (tyRef erased imm (pointee (RecordT.the-row .written))) l₂₂ 0) ∷ ‵ (fdies (tyRef erased imm (pointee (RecordT.the-row .written))) l₂₂) ∷ ‵ (froom tyUnit l₂₁ 0) ∷ ‵ (fdies tyUnit l₂₁) ∷ ‵ (froom (sliceTy (tyRef erased imm (pointee (RecordT.the-row .written)))) l₂₀ 0) ∷ ‵ (fdies (sliceTy (tyRef erased imm (pointee (RecordT.the-row .written)))) l₂₀) ∷ ‵ (froom (tyRef erased imm (pointee (RecordT.the-row .written))) l₁₉ 0) ∷ ‵ (fdies (tyRef erased imm (pointee (RecordT.the-row .written))) l₁₉) ∷ ‵ (froom (tyInt w64) l₁₈ 0) ∷ ‵ (fdies (tyInt w64) l₁₈) ∷ ‵ (froom (tyInt w64) l₁₇ 0) ∷ ‵ (fdies (tyInt w64) l₁₇) ∷ ‵ (froom (tyInt w64) l₁₆ 0) ∷ ‵ (fdies (tyInt w64) l₁₆) ∷ ‵ (froom (sliceTy (tyRef erased imm (pointee (RecordT.the-row .written)))) l₁₅ 0) ∷ ‵ (fdies (sliceTy (tyRef erased imm (pointee (RecordT.the-row .written)))) l₁₅) ∷ ‵ (froom (tyRef erased imm (pointee (RecordT.the-row .written))) l₁₄ 0) ∷ ‵ (fdies (tyRef erased imm (pointee (RecordT.the-row .written))) l₁₄) ∷ ‵ (froom HearingL.mir l₁₃ 0) ∷ ‵ (fdies HearingL.mir l₁₃) ∷ ‵ (froom MessageL.mir l₁₂ 0) ∷ ‵ (fdies MessageL.mir l₁₂) ∷ ‵ (froom (tyInt w8) l₁₁ 0) ∷ ‵ (fdies (tyInt w8) l₁₁) ∷ ‵ (froom (tyInt w64) l₁₀ 0) ∷ ‵ (fdies (tyInt w64) l₁₀) ∷ ‵ (fat fullShare (tyInt w32) l₉ 0 (vint w32 r₂)) ∷ ‵ (fdies (tyInt w32) l₉) ∷ ‵ (fat fullShare ParsedL.mir l₈ 0 (ParsedL.lowered r)) ∷ ‵ (fdies ParsedL.mir l₈) ∷ ‵ (fat fullShare (sliceTy (tyRef (named 3) mut (tyInt w8))) l₇ 0 (s-message)) ∷ ‵ (fdies (sliceTy (tyRef (named 3) mut (tyInt w8))) l₇) ∷ ‵ (fat fullShare (sliceTy (tyRef (named 2) imm (tyInt w8))) l₆ 0 (s-bytes)) ∷ ‵ (fdies (sliceTy (tyRef (named 2) imm (tyInt w8))) l₆) ∷ ‵ (fat fullShare LinkStatesL.mir l₅ 0 (v-links)) ∷ ‵ (fdies LinkStatesL.mir l₅) ∷ ‵ (fat fullShare (sliceTy (tyRef (named 1) mut (pointee (RecordT.the-row .written)))) l₄ 0 (s-table)) ∷ ‵ (fdies (sliceTy (tyRef (named 1) mut (pointee (RecordT.the-row .written)))) l₄) ∷ ‵ (fat fullShare (sliceTy (tyRef (named 0) imm (tyInt w8))) l₃ 0 (s-mem)) ∷ ‵ (fdies (sliceTy (tyRef (named 0) imm (tyInt w8))) l₃) ∷ ‵ (fat fullShare (tyInt w32) l₂ 0 (vint w32 n)) ∷ ‵ (fdies (tyInt w32) l₂) ∷ ‵ (fat fullShare (tyInt w32) l₁ 0 (vint w32 s)) ∷ ‵ (fdies (tyInt w32) l₁) ∷ ‵ (froom HearAnswerL.mir l₀ 0) ∷ ‵ (fdies HearAnswerL.mir l₀) ∷ []) (runs C Λ (locals l₀ l₁ l₂ l₃ l₄ l₅ l₆ l₇ l₈ l₉ l₁₀ l₁₁ l₁₂ l₁₃ l₁₄ l₁₅ l₁₆ l₁₇ l₁₈ l₁₉ l₂₀ l₂₁ l₂₂ l₂₃ l₂₄ l₂₅ l₂₆ l₂₇) (after 2 (code.function .body)) (atRet (locals l₀ l₁ l₂ l₃ l₄ l₅ l₆ l₇ l₈ l₉ l₁₀ l₁₁ l₁₂ l₁₃ l₁₄ l₁₅ l₁₆ l₁₇ l₁₈ l₁₉ l₂₀ l₂₁ l₂₂ l₂₃ l₂₄ l₂₅ l₂₆ l₂₇) Post))
-    part-3 l₀ l₁ l₂ l₃ l₄ l₅ l₆ l₇ l₈ l₉ l₁₀ l₁₁ l₁₂ l₁₃ l₁₄ l₁₅ l₁₆ l₁₇ l₁₈ l₁₉ l₂₀ l₂₁ l₂₂ l₂₃ l₂₄ l₂₅ l₂₆ l₂₇ w r ws e is w₂ r₂ ws₂ e₂ is₂ =
-        assigns ! (addr ! (from ! (fld ! refl (hop ! (look-in ! 54 (sub ! 0 refl (whole !))) (stop !))))) (from ! (stop !)) (init ! 34 refl (tt, tt)) $
-        assigns ! (agg ! (and-then ! (load ! (from ! (stop !)) (look ! 34 refl)) (and-then ! (load ! (from ! (fld ! refl (stop !))) (look-in ! 54 (sub ! 1 refl (whole !)))) (no-more !)))) (from ! (stop !)) (init ! 32 refl (tt, (tt, (record { fits = g-table .0 }, tt)))) $
+    part-3 : (l₀ l₁ l₂ l₃ l₄ l₅ l₆ l₇ l₈ l₉ l₁₀ l₁₁ l₁₂ l₁₃ l₁₄ l₁₅ l₁₆ l₁₇ l₁₈ l₁₉ l₂₀ l₂₁ : ℕ) (w : Val) (r : Parsed) (ws : Unit {0} × Unit {0}) (e : r ≡ parsedIn (ys-bytes)) (is : Is ParsedT.the-row r (w ∷ [])) (w₂ : Val) (r₂ : ℕ) (ws₂ : Unit {0} × Unit {0}) (e₂ : r₂ ≡ r .message .token) (is₂ : Is u32 r₂ (w₂ ∷ [])) → Sq W (‵ (flft κ₂ q₂) ∷ ‵ Own-bytes ∷ ‵ (flft κ₃ q₃) ∷ ‵ (flft κ₁ q₁) ∷ ‵ (flft κ₀ q₀) ∷ ‵ Own-message ∷ ‵ Own-table ∷ ‵ Own-mem ∷ ‵ (froom (sliceTy (tyRef erased mut (tyInt w8))) l₂₁ 0) ∷ ‵ (fdies (sliceTy (tyRef erased mut (tyInt w8))) l₂₁) ∷ ‵ (froom (tyRef erased mut (tyInt w8)) l₂₀ 0) ∷ ‵ (fdies (tyRef erased mut (tyInt w8)) l₂₀) ∷ ‵ (froom (sliceTy (tyRef erased mut (pointee (RecordT.the-row .written)))) l₁₉ 0) ∷ ‵ (fdies (sliceTy (tyRef erased mut (pointee (RecordT.the-row .written)))) l₁₉) ∷ ‵ (froom (tyRef erased mut (pointee (RecordT.the-row .written))) l₁₈ 0) ∷ ‵ (fdies (tyRef erased mut (pointee (RecordT.the-row .written))) l₁₈) ∷ ‵ (froom (tyInt w64) l₁₇ 0) ∷ ‵ (fdies (tyInt w64) l₁₇) ∷ ‵ (froom (tyInt w64) l₁₆ 0) ∷ ‵ (fdies (tyInt w64) l₁₆) ∷ ‵ (froom (tyInt w64) l₁₅ 0) ∷ ‵ (fdies (tyInt w64) l₁₅) ∷ ‵ (froom (sliceTy (tyRef erased imm (pointee (RecordT.the-row .written)))) l₁₄ 0) ∷ ‵ (fdies (sliceTy (tyRef erased imm (pointee (RecordT.the-row .written)))) l₁₄) ∷ ‵ (froom (tyRef erased imm (pointee (RecordT.the-row .written))) l₁₃ 0) ∷ ‵ (fdies (tyRef erased imm (pointee (RecordT.the-row .written))) l₁₃) ∷ ‵ (froom MessageL.mir l₁₂ 0) ∷ ‵ (fdies MessageL.mir l₁₂) ∷ ‵ (froom (tyInt w8) l₁₁ 0) ∷ ‵ (fdies (tyInt w8) l₁₁) ∷ ‵ (froom (tyInt w64) l₁₀ 0) ∷ ‵ (fdies (tyInt w64) l₁₀) ∷ ‵ (fat fullShare (tyInt w32) l₉ 0 (vint w32 r₂)) ∷ ‵ (fdies (tyInt w32) l₉) ∷ ‵ (fat fullShare ParsedL.mir l₈ 0 (ParsedL.lowered r)) ∷ ‵ (fdies ParsedL.mir l₈) ∷ ‵ (fat fullShare (sliceTy (tyRef (named 3) mut (tyInt w8))) l₇ 0 (s-message)) ∷ ‵ (fdies (sliceTy (tyRef (named 3) mut (tyInt w8))) l₇) ∷ ‵ (fat fullShare (sliceTy (tyRef (named 2) imm (tyInt w8))) l₆ 0 (s-bytes)) ∷ ‵ (fdies (sliceTy (tyRef (named 2) imm (tyInt w8))) l₆) ∷ ‵ (fat fullShare LinkStatesL.mir l₅ 0 (v-links)) ∷ ‵ (fdies LinkStatesL.mir l₅) ∷ ‵ (fat fullShare (sliceTy (tyRef (named 1) mut (pointee (RecordT.the-row .written)))) l₄ 0 (s-table)) ∷ ‵ (fdies (sliceTy (tyRef (named 1) mut (pointee (RecordT.the-row .written)))) l₄) ∷ ‵ (fat fullShare (sliceTy (tyRef (named 0) imm (tyInt w8))) l₃ 0 (s-mem)) ∷ ‵ (fdies (sliceTy (tyRef (named 0) imm (tyInt w8))) l₃) ∷ ‵ (fat fullShare (tyInt w32) l₂ 0 (vint w32 n)) ∷ ‵ (fdies (tyInt w32) l₂) ∷ ‵ (fat fullShare (tyInt w32) l₁ 0 (vint w32 s)) ∷ ‵ (fdies (tyInt w32) l₁) ∷ ‵ (froom HearAnswerL.mir l₀ 0) ∷ ‵ (fdies HearAnswerL.mir l₀) ∷ []) (runs C Λ (locals l₀ l₁ l₂ l₃ l₄ l₅ l₆ l₇ l₈ l₉ l₁₀ l₁₁ l₁₂ l₁₃ l₁₄ l₁₅ l₁₆ l₁₇ l₁₈ l₁₉ l₂₀ l₂₁) (after 2 (code.function .body)) (atRet (locals l₀ l₁ l₂ l₃ l₄ l₅ l₆ l₇ l₈ l₉ l₁₀ l₁₁ l₁₂ l₁₃ l₁₄ l₁₅ l₁₆ l₁₇ l₁₈ l₁₉ l₂₀ l₂₁) Post))
+    part-3 l₀ l₁ l₂ l₃ l₄ l₅ l₆ l₇ l₈ l₉ l₁₀ l₁₁ l₁₂ l₁₃ l₁₄ l₁₅ l₁₆ l₁₇ l₁₈ l₁₉ l₂₀ l₂₁ w r ws e is w₂ r₂ ws₂ e₂ is₂ =
+        assigns ! (addr ! (from ! (fld ! refl (hop ! (look-in ! 42 (sub ! 0 refl (whole !))) (stop !))))) (from ! (stop !)) (init ! 24 refl (tt, tt)) $
+        assigns ! (agg ! (and-then ! (load ! (from ! (stop !)) (look ! 24 refl)) (and-then ! (load ! (from ! (fld ! refl (stop !))) (look-in ! 42 (sub ! 1 refl (whole !)))) (no-more !)))) (from ! (stop !)) (init ! 22 refl (tt, (tt, (record { fits = g-table .0 }, tt)))) $
         move ! (6 ∷ []) $ fsplit ! $ move ! (1 ∷ []) $ fsplit ! $ move ! (0 ∷ 1 ∷ 6 ∷ []) $ opens-slice ! tt RecordT.the-row ys-table b-table o-table $ feqI ! ℕ (length ys-table) (length ys-table) refl $ fjoin ! $ lft-new ! tt (λ ν. move ! (1 ∷ []) $ use1 W (later (some (λ (δ : GName). ‵ (ShrSlice (named 1) (ν ∷ []) RecordT.the-row .own (record { ptr = (b-table, o-table); name = δ; now = ys-table }) (s-table ∷ [])) ⊛ ‵ (flent (ν ∷ []) (arr-parts (shares RecordT.the-row) (length ys-table) .part fullShare ys-table b-table o-table))))) (lends-shr-slice 𝓤 H A W RecordT.the-row (named 1) (ν ∷ []) fullShare ys-table b-table o-table g-table) $ await ! tt $ pick ! (λ δ. split ! $
         nothing ! $ move ! (1 ∷ 0 ∷ []) $ join ! $ move ! (2 ∷ 0 ∷ []) $ join ! $ use1 W (raw (C-f-find 𝓤 H A mem run .pre (to-f-find 𝓤 H A mem run (ν ∷ []) fullShare (record { ptr = (b-table, o-table); name = δ; now = ys-table }) s-table r₂ (vint w32 r₂)))) (goes-f-find 𝓤 H A W mem run (ν ∷ []) fullShare (record { ptr = (b-table, o-table); name = δ; now = ys-table }) s-table r₂ (vint w32 r₂) (refl, (is₂ .1))) $
-        calls-at ! fm (C-f-find 𝓤 H A mem run) known-f-find (to-f-find 𝓤 H A mem run (ν ∷ []) fullShare (record { ptr = (b-table, o-table); name = δ; now = ys-table }) s-table r₂ (vint w32 r₂)) (and-then ! (load ! (from ! (stop !)) (look ! 36 refl)) (and-then ! (load ! (from ! (stop !)) (look ! 48 refl)) (no-more !))) (λ w₃.
+        calls-at ! fm (C-f-find 𝓤 H A mem run) known-f-find (to-f-find 𝓤 H A mem run (ν ∷ []) fullShare (record { ptr = (b-table, o-table); name = δ; now = ys-table }) s-table r₂ (vint w32 r₂)) (and-then ! (load ! (from ! (stop !)) (look ! 26 refl)) (and-then ! (load ! (from ! (stop !)) (look ! 36 refl)) (no-more !))) (λ w₃.
         use1 W (later (some (λ (r₃ : ℕ). ((‵ (flft (ν ∷ []) fullShare) ⊛ ‵ ftrue) ⊛ ‵ (usize .own r₃ (w₃ ∷ []))) ⊛ raw (ensured 𝓤 H A f-find.ended (f-find.clauses 𝓤 H A mem run) ((ν ∷ []), tt) ((record { ptr = (b-table, o-table); name = δ; now = ys-table }), (r₂, tt)) tt r₃)))) (id⊢ 𝓤 _) $ await ! tt $ pick ! (λ r₃.
         split ! $ move ! (1 ∷ []) $ use1 W (some (λ (ws₃ : Unit {0} × (Unit {0} × Unit {0})). ‵ (lasts f-find.ended ((ν ∷ []), tt) ((record { ptr = (b-table, o-table); name = δ; now = ys-table }), (r₂, tt)) ws₃) ⊛ raw (fact 𝓤 (r₃ ≡ holderIn (ys-table) r₂)))) (id⊢ 𝓤 _) $ pick ! (λ ws₃.
         split ! $ move ! (1 ∷ []) $ heard ! (r₃ ≡ holderIn (ys-table) r₂) (λ e₃.
         fsplit ! $ drop ! $ fsplit ! $ drop ! $ drop ! $ split ! $
         move ! (1 ∷ []) $ peeks ! usize (Is usize) (shows 𝓤 H A usize) r₃ (w₃ ∷ []) (λ is₃. drop ! $
-        land ! (from ! (stop !)) (init ! 46 refl (uint-lawful 𝓤 H A W w64 .typed r₃ _ is₃ .0)) $ rewrite ! 46 (λ (u : Val). ‵ (fat fullShare (tyInt w64) l₁₀ 0 u)) (ap only (is₃ .0)) refl $
+        land ! (from ! (stop !)) (init ! 34 refl (uint-lawful 𝓤 H A W w64 .typed r₃ _ is₃ .0)) $ rewrite ! 34 (λ (u : Val). ‵ (fat fullShare (tyInt w64) l₁₀ 0 u)) (ap only (is₃ .0)) refl $
         split ! $ move ! (1 ∷ []) $ drop ! $ lft-end ! tt $ lent-back ! tt $ fsplit ! $ drop ! $ closes-slice ! tt RecordT.the-row ys-table ys-table refl b-table o-table $ fjoin ! $ move ! (2 ∷ 0 ∷ []) $ fjoin ! $
-        assigns ! (of-opd ! (load ! (from ! (fld ! refl (stop !))) (look-in ! 56 (sub ! 1 refl (whole !))))) (from ! (stop !)) (init ! 30 refl (tt, record { fits = (g-mem .0) })) $
-        assigns ! (of-opd ! (load ! (from ! (fld ! refl (stop !))) (look-in ! 54 (sub ! 1 refl (whole !))))) (from ! (stop !)) (init ! 28 refl (tt, record { fits = (g-table .0) })) $
-        assigns ! (of-opd ! (load ! (from ! (fld ! refl (stop !))) (look-in ! 48 (sub ! 1 refl (whole !))))) (from ! (stop !)) (init ! 26 refl (tt, record { fits = (g-message .0) })) $
+        assigns ! (of-opd ! (load ! (from ! (fld ! refl (stop !))) (look-in ! 44 (sub ! 1 refl (whole !))))) (from ! (stop !)) (init ! 20 refl (tt, record { fits = (g-mem .0) })) $
+        assigns ! (of-opd ! (load ! (from ! (fld ! refl (stop !))) (look-in ! 42 (sub ! 1 refl (whole !))))) (from ! (stop !)) (init ! 18 refl (tt, record { fits = (g-table .0) })) $
+        assigns ! (of-opd ! (load ! (from ! (fld ! refl (stop !))) (look-in ! 36 (sub ! 1 refl (whole !))))) (from ! (stop !)) (init ! 16 refl (tt, record { fits = (g-message .0) })) $
         use0 W (raw (C-f-before 𝓤 H A mem run .pre (to-f-before 𝓤 H A mem run s (vint w32 s) n (vint w32 n) (length ys-mem) (vint w64 (length ys-mem)) (length ys-table) (vint w64 (length ys-table)) (length ys-message) (vint w64 (length ys-message)) r (ParsedL.lowered r) r₃ (vint w64 r₃)))) (goes-f-before 𝓤 H A W mem run s (vint w32 s) n (vint w32 n) (length ys-mem) (vint w64 (length ys-mem)) (length ys-table) (vint w64 (length ys-table)) (length ys-message) (vint w64 (length ys-message)) r (ParsedL.lowered r) r₃ (vint w64 r₃) (refl, g-s) (refl, g-n) (refl, (g-mem .0)) (refl, (g-table .0)) (refl, (g-message .0)) (subst (Is ParsedT.the-row r) (ParsedL.lowers .val-is r _ is) is) (refl, (is₃ .1))) $
-        calls-at ! fm (C-f-before 𝓤 H A mem run) known-f-before (to-f-before 𝓤 H A mem run s (vint w32 s) n (vint w32 n) (length ys-mem) (vint w64 (length ys-mem)) (length ys-table) (vint w64 (length ys-table)) (length ys-message) (vint w64 (length ys-message)) r (ParsedL.lowered r) r₃ (vint w64 r₃)) (and-then ! (load ! (from ! (stop !)) (look ! 61 refl)) (and-then ! (load ! (from ! (stop !)) (look ! 59 refl)) (and-then ! (load ! (from ! (stop !)) (look ! 31 refl)) (and-then ! (load ! (from ! (stop !)) (look ! 29 refl)) (and-then ! (load ! (from ! (stop !)) (look ! 27 refl)) (and-then ! (load ! (from ! (stop !)) (look ! 47 refl)) (and-then ! (load ! (from ! (stop !)) (look ! 43 refl)) (no-more !)))))))) (λ w₄.
+        calls-at ! fm (C-f-before 𝓤 H A mem run) known-f-before (to-f-before 𝓤 H A mem run s (vint w32 s) n (vint w32 n) (length ys-mem) (vint w64 (length ys-mem)) (length ys-table) (vint w64 (length ys-table)) (length ys-message) (vint w64 (length ys-message)) r (ParsedL.lowered r) r₃ (vint w64 r₃)) (and-then ! (load ! (from ! (stop !)) (look ! 49 refl)) (and-then ! (load ! (from ! (stop !)) (look ! 47 refl)) (and-then ! (load ! (from ! (stop !)) (look ! 21 refl)) (and-then ! (load ! (from ! (stop !)) (look ! 19 refl)) (and-then ! (load ! (from ! (stop !)) (look ! 17 refl)) (and-then ! (load ! (from ! (stop !)) (look ! 35 refl)) (and-then ! (load ! (from ! (stop !)) (look ! 31 refl)) (no-more !)))))))) (λ w₄.
         use1 W (later (some (λ (r₄ : ℕ). ((‵ ftrue) ⊛ ‵ (u8 .own r₄ (w₄ ∷ []))) ⊛ raw (ensured 𝓤 H A f-before.ended (f-before.clauses 𝓤 H A mem run) tt (s, (n, ((length ys-mem), ((length ys-table), ((length ys-message), (r, (r₃, tt))))))) tt r₄)))) (id⊢ 𝓤 _) $ await ! tt $ pick ! (λ r₄.
         split ! $ move ! (1 ∷ []) $ use1 W (some (λ (ws₄ : Unit {0} × (Unit {0} × (Unit {0} × (Unit {0} × (Unit {0} × (Unit {0} × (Unit {0} × Unit {0}))))))). ‵ (lasts f-before.ended tt (s, (n, ((length ys-mem), ((length ys-table), ((length ys-message), (r, (r₃, tt))))))) ws₄) ⊛ raw (fact 𝓤 (r₄ ≡ refusedBefore s n (length ys-mem) (length ys-table) (length ys-message) (r .good) r₃)))) (id⊢ 𝓤 _) $ pick ! (λ ws₄.
         split ! $ move ! (1 ∷ []) $ heard ! (r₄ ≡ refusedBefore s n (length ys-mem) (length ys-table) (length ys-message) (r .good) r₃) (λ e₄.
         fsplit ! $ drop ! $ fsplit ! $ drop ! $ fsplit ! $ drop ! $ fsplit ! $ drop ! $ fsplit ! $ drop ! $ fsplit ! $ drop ! $ fsplit ! $ drop ! $ drop ! $ split ! $
         move ! (1 ∷ []) $ peeks ! u8 (Is u8) (shows 𝓤 H A u8) r₄ (w₄ ∷ []) (λ is₄. drop ! $
-        land ! (from ! (stop !)) (init ! 41 refl (uint-lawful 𝓤 H A W w8 .typed r₄ _ is₄ .0)) $ rewrite ! 41 (λ (u : Val). ‵ (fat fullShare (tyInt w8) l₁₁ 0 u)) (ap only (is₄ .0)) refl $
+        land ! (from ! (stop !)) (init ! 29 refl (uint-lawful 𝓤 H A W w8 .typed r₄ _ is₄ .0)) $ rewrite ! 29 (λ (u : Val). ‵ (fat fullShare (tyInt w8) l₁₁ 0 u)) (ap only (is₄ .0)) refl $
         drop ! $
-        part-4 l₀ l₁ l₂ l₃ l₄ l₅ l₆ l₇ l₈ l₉ l₁₀ l₁₁ l₁₂ l₁₃ l₁₄ l₁₅ l₁₆ l₁₇ l₁₈ l₁₉ l₂₀ l₂₁ l₂₂ l₂₃ l₂₄ l₂₅ l₂₆ l₂₇ w r ws e is w₂ r₂ ws₂ e₂ is₂ w₃ r₃ ws₃ e₃ is₃ w₄ r₄ ws₄ e₄ is₄))))))))))))
+        part-4 l₀ l₁ l₂ l₃ l₄ l₅ l₆ l₇ l₈ l₉ l₁₀ l₁₁ l₁₂ l₁₃ l₁₄ l₁₅ l₁₆ l₁₇ l₁₈ l₁₉ l₂₀ l₂₁ w r ws e is w₂ r₂ ws₂ e₂ is₂ w₃ r₃ ws₃ e₃ is₃ w₄ r₄ ws₄ e₄ is₄))))))))))))
 
-    part-2 : (l₀ l₁ l₂ l₃ l₄ l₅ l₆ l₇ l₈ l₉ l₁₀ l₁₁ l₁₂ l₁₃ l₁₄ l₁₅ l₁₆ l₁₇ l₁₈ l₁₉ l₂₀ l₂₁ l₂₂ l₂₃ l₂₄ l₂₅ l₂₆ l₂₇ : ℕ) → Sq W (‵ (flft κ₃ q₃) ∷ ‵ (flft κ₂ q₂) ∷ ‵ (flft κ₁ q₁) ∷ ‵ (flft κ₀ q₀) ∷ ‵ Own-message ∷ ‵ Own-bytes ∷ ‵ Own-table ∷ ‵ Own-mem ∷ ‵ (froom (sliceTy (tyRef erased mut (pointee (RecordT.the-row .written)))) l₂₇ 0) ∷ ‵ (fdies (sliceTy (tyRef erased mut (pointee (RecordT.the-row .written)))) l₂₇) ∷ ‵ (froom (tyRef erased mut (pointee (RecordT.the-row .written))) l₂₆ 0) ∷ ‵ (fdies (tyRef erased mut (pointee (RecordT.the-row .written))) l₂₆) ∷ ‵ (froom (sliceTy (tyRef erased mut (tyInt w8))) l₂₅ 0) ∷ ‵ (fdies (sliceTy (tyRef erased mut (tyInt w8))) l₂₅) ∷ ‵ (froom (tyRef erased mut (tyInt w8)) l₂₄ 0) ∷ ‵ (fdies (tyRef erased mut (tyInt w8)) l₂₄) ∷ ‵ (froom (sliceTy (tyRef erased imm (pointee (RecordT.the-row .written)))) l₂₃ 0) ∷ ‵ (fdies (sliceTy (tyRef erased imm (pointee (RecordT.the-row .written)))) l₂₃) ∷ ‵ (froom (tyRef erased imm (pointee (RecordT.the-row .written))) l₂₂ 0) ∷ ‵ (fdies (tyRef erased imm (pointee (RecordT.the-row .written))) l₂₂) ∷ ‵ (froom tyUnit l₂₁ 0) ∷ ‵ (fdies tyUnit l₂₁) ∷ ‵ (froom (sliceTy (tyRef erased imm (pointee (RecordT.the-row .written)))) l₂₀ 0) ∷ ‵ (fdies (sliceTy (tyRef erased imm (pointee (RecordT.the-row .written)))) l₂₀) ∷ ‵ (froom (tyRef erased imm (pointee (RecordT.the-row .written))) l₁₉ 0) ∷ ‵ (fdies (tyRef erased imm (pointee (RecordT.the-row .written))) l₁₉) ∷ ‵ (froom (tyInt w64) l₁₈ 0) ∷ ‵ (fdies (tyInt w64) l₁₈) ∷ ‵ (froom (tyInt w64) l₁₇ 0) ∷ ‵ (fdies (tyInt w64) l₁₇) ∷ ‵ (froom (tyInt w64) l₁₆ 0) ∷ ‵ (fdies (tyInt w64) l₁₆) ∷ ‵ (froom (sliceTy (tyRef erased imm (pointee (RecordT.the-row .written)))) l₁₅ 0) ∷ ‵ (fdies (sliceTy (tyRef erased imm (pointee (RecordT.the-row .written)))) l₁₅) ∷ ‵ (froom (tyRef erased imm (pointee (RecordT.the-row .written))) l₁₄ 0) ∷ ‵ (fdies (tyRef erased imm (pointee (RecordT.the-row .written))) l₁₄) ∷ ‵ (froom HearingL.mir l₁₃ 0) ∷ ‵ (fdies HearingL.mir l₁₃) ∷ ‵ (froom MessageL.mir l₁₂ 0) ∷ ‵ (fdies MessageL.mir l₁₂) ∷ ‵ (froom (tyInt w8) l₁₁ 0) ∷ ‵ (fdies (tyInt w8) l₁₁) ∷ ‵ (froom (tyInt w64) l₁₀ 0) ∷ ‵ (fdies (tyInt w64) l₁₀) ∷ ‵ (froom (tyInt w32) l₉ 0) ∷ ‵ (fdies (tyInt w32) l₉) ∷ ‵ (froom ParsedL.mir l₈ 0) ∷ ‵ (fdies ParsedL.mir l₈) ∷ ‵ (fat fullShare (sliceTy (tyRef (named 3) mut (tyInt w8))) l₇ 0 (s-message)) ∷ ‵ (fdies (sliceTy (tyRef (named 3) mut (tyInt w8))) l₇) ∷ ‵ (fat fullShare (sliceTy (tyRef (named 2) imm (tyInt w8))) l₆ 0 (s-bytes)) ∷ ‵ (fdies (sliceTy (tyRef (named 2) imm (tyInt w8))) l₆) ∷ ‵ (fat fullShare LinkStatesL.mir l₅ 0 (v-links)) ∷ ‵ (fdies LinkStatesL.mir l₅) ∷ ‵ (fat fullShare (sliceTy (tyRef (named 1) mut (pointee (RecordT.the-row .written)))) l₄ 0 (s-table)) ∷ ‵ (fdies (sliceTy (tyRef (named 1) mut (pointee (RecordT.the-row .written)))) l₄) ∷ ‵ (fat fullShare (sliceTy (tyRef (named 0) imm (tyInt w8))) l₃ 0 (s-mem)) ∷ ‵ (fdies (sliceTy (tyRef (named 0) imm (tyInt w8))) l₃) ∷ ‵ (fat fullShare (tyInt w32) l₂ 0 (vint w32 n)) ∷ ‵ (fdies (tyInt w32) l₂) ∷ ‵ (fat fullShare (tyInt w32) l₁ 0 (vint w32 s)) ∷ ‵ (fdies (tyInt w32) l₁) ∷ ‵ (froom HearAnswerL.mir l₀ 0) ∷ ‵ (fdies HearAnswerL.mir l₀) ∷ []) (runs C Λ (locals l₀ l₁ l₂ l₃ l₄ l₅ l₆ l₇ l₈ l₉ l₁₀ l₁₁ l₁₂ l₁₃ l₁₄ l₁₅ l₁₆ l₁₇ l₁₈ l₁₉ l₂₀ l₂₁ l₂₂ l₂₃ l₂₄ l₂₅ l₂₆ l₂₇) (after 0 (code.function .body)) (atRet (locals l₀ l₁ l₂ l₃ l₄ l₅ l₆ l₇ l₈ l₉ l₁₀ l₁₁ l₁₂ l₁₃ l₁₄ l₁₅ l₁₆ l₁₇ l₁₈ l₁₉ l₂₀ l₂₁ l₂₂ l₂₃ l₂₄ l₂₅ l₂₆ l₂₇) Post))
-    part-2 l₀ l₁ l₂ l₃ l₄ l₅ l₆ l₇ l₈ l₉ l₁₀ l₁₁ l₁₂ l₁₃ l₁₄ l₁₅ l₁₆ l₁₇ l₁₈ l₁₉ l₂₀ l₂₁ l₂₂ l₂₃ l₂₄ l₂₅ l₂₆ l₂₇ =
+    part-2 : (l₀ l₁ l₂ l₃ l₄ l₅ l₆ l₇ l₈ l₉ l₁₀ l₁₁ l₁₂ l₁₃ l₁₄ l₁₅ l₁₆ l₁₇ l₁₈ l₁₉ l₂₀ l₂₁ : ℕ) → Sq W (‵ (flft κ₃ q₃) ∷ ‵ (flft κ₂ q₂) ∷ ‵ (flft κ₁ q₁) ∷ ‵ (flft κ₀ q₀) ∷ ‵ Own-message ∷ ‵ Own-bytes ∷ ‵ Own-table ∷ ‵ Own-mem ∷ ‵ (froom (sliceTy (tyRef erased mut (tyInt w8))) l₂₁ 0) ∷ ‵ (fdies (sliceTy (tyRef erased mut (tyInt w8))) l₂₁) ∷ ‵ (froom (tyRef erased mut (tyInt w8)) l₂₀ 0) ∷ ‵ (fdies (tyRef erased mut (tyInt w8)) l₂₀) ∷ ‵ (froom (sliceTy (tyRef erased mut (pointee (RecordT.the-row .written)))) l₁₉ 0) ∷ ‵ (fdies (sliceTy (tyRef erased mut (pointee (RecordT.the-row .written)))) l₁₉) ∷ ‵ (froom (tyRef erased mut (pointee (RecordT.the-row .written))) l₁₈ 0) ∷ ‵ (fdies (tyRef erased mut (pointee (RecordT.the-row .written))) l₁₈) ∷ ‵ (froom (tyInt w64) l₁₇ 0) ∷ ‵ (fdies (tyInt w64) l₁₇) ∷ ‵ (froom (tyInt w64) l₁₆ 0) ∷ ‵ (fdies (tyInt w64) l₁₆) ∷ ‵ (froom (tyInt w64) l₁₅ 0) ∷ ‵ (fdies (tyInt w64) l₁₅) ∷ ‵ (froom (sliceTy (tyRef erased imm (pointee (RecordT.the-row .written)))) l₁₄ 0) ∷ ‵ (fdies (sliceTy (tyRef erased imm (pointee (RecordT.the-row .written)))) l₁₄) ∷ ‵ (froom (tyRef erased imm (pointee (RecordT.the-row .written))) l₁₃ 0) ∷ ‵ (fdies (tyRef erased imm (pointee (RecordT.the-row .written))) l₁₃) ∷ ‵ (froom MessageL.mir l₁₂ 0) ∷ ‵ (fdies MessageL.mir l₁₂) ∷ ‵ (froom (tyInt w8) l₁₁ 0) ∷ ‵ (fdies (tyInt w8) l₁₁) ∷ ‵ (froom (tyInt w64) l₁₀ 0) ∷ ‵ (fdies (tyInt w64) l₁₀) ∷ ‵ (froom (tyInt w32) l₉ 0) ∷ ‵ (fdies (tyInt w32) l₉) ∷ ‵ (froom ParsedL.mir l₈ 0) ∷ ‵ (fdies ParsedL.mir l₈) ∷ ‵ (fat fullShare (sliceTy (tyRef (named 3) mut (tyInt w8))) l₇ 0 (s-message)) ∷ ‵ (fdies (sliceTy (tyRef (named 3) mut (tyInt w8))) l₇) ∷ ‵ (fat fullShare (sliceTy (tyRef (named 2) imm (tyInt w8))) l₆ 0 (s-bytes)) ∷ ‵ (fdies (sliceTy (tyRef (named 2) imm (tyInt w8))) l₆) ∷ ‵ (fat fullShare LinkStatesL.mir l₅ 0 (v-links)) ∷ ‵ (fdies LinkStatesL.mir l₅) ∷ ‵ (fat fullShare (sliceTy (tyRef (named 1) mut (pointee (RecordT.the-row .written)))) l₄ 0 (s-table)) ∷ ‵ (fdies (sliceTy (tyRef (named 1) mut (pointee (RecordT.the-row .written)))) l₄) ∷ ‵ (fat fullShare (sliceTy (tyRef (named 0) imm (tyInt w8))) l₃ 0 (s-mem)) ∷ ‵ (fdies (sliceTy (tyRef (named 0) imm (tyInt w8))) l₃) ∷ ‵ (fat fullShare (tyInt w32) l₂ 0 (vint w32 n)) ∷ ‵ (fdies (tyInt w32) l₂) ∷ ‵ (fat fullShare (tyInt w32) l₁ 0 (vint w32 s)) ∷ ‵ (fdies (tyInt w32) l₁) ∷ ‵ (froom HearAnswerL.mir l₀ 0) ∷ ‵ (fdies HearAnswerL.mir l₀) ∷ []) (runs C Λ (locals l₀ l₁ l₂ l₃ l₄ l₅ l₆ l₇ l₈ l₉ l₁₀ l₁₁ l₁₂ l₁₃ l₁₄ l₁₅ l₁₆ l₁₇ l₁₈ l₁₉ l₂₀ l₂₁) (after 0 (code.function .body)) (atRet (locals l₀ l₁ l₂ l₃ l₄ l₅ l₆ l₇ l₈ l₉ l₁₀ l₁₁ l₁₂ l₁₃ l₁₄ l₁₅ l₁₆ l₁₇ l₁₈ l₁₉ l₂₀ l₂₁) Post))
+    part-2 l₀ l₁ l₂ l₃ l₄ l₅ l₆ l₇ l₈ l₉ l₁₀ l₁₁ l₁₂ l₁₃ l₁₄ l₁₅ l₁₆ l₁₇ l₁₈ l₁₉ l₂₀ l₂₁ =
         move ! (5 ∷ []) $ use1 W (‵ Own-bytes ⊛ ‵ Own-bytes) (shr-slice-copy 𝓤 H A W (named 2) κ₂ u8 .twice x-bytes (s-bytes ∷ [])) $ split ! $ nothing ! $ move ! (2 ∷ 0 ∷ []) $ join ! $ move ! (3 ∷ 0 ∷ []) $ join ! $ use1 W (raw (C-f-parse 𝓤 H A mem run .pre (to-f-parse 𝓤 H A mem run κ₂ q₂ x-bytes s-bytes))) (goes-f-parse 𝓤 H A W mem run κ₂ q₂ x-bytes s-bytes) $
-        calls-at ! fm (C-f-parse 𝓤 H A mem run) known-f-parse (to-f-parse 𝓤 H A mem run κ₂ q₂ x-bytes s-bytes) (and-then ! (load ! (from ! (stop !)) (look ! 50 refl)) (no-more !)) (λ w.
+        calls-at ! fm (C-f-parse 𝓤 H A mem run) known-f-parse (to-f-parse 𝓤 H A mem run κ₂ q₂ x-bytes s-bytes) (and-then ! (load ! (from ! (stop !)) (look ! 38 refl)) (no-more !)) (λ w.
         use1 W (later (some (λ (r : Parsed). ((‵ (flft κ₂ q₂) ⊛ ‵ ftrue) ⊛ ‵ (ParsedT.the-row .own r (w ∷ []))) ⊛ raw (ensured 𝓤 H A f-parse.ended (f-parse.clauses 𝓤 H A mem run) (κ₂, tt) (x-bytes, tt) tt r)))) (id⊢ 𝓤 _) $ await ! tt $ pick ! (λ r.
         split ! $ move ! (1 ∷ []) $ use1 W (some (λ (ws : Unit {0} × Unit {0}). ‵ (lasts f-parse.ended (κ₂, tt) (x-bytes, tt) ws) ⊛ raw (fact 𝓤 (r ≡ parsedIn (ys-bytes))))) (id⊢ 𝓤 _) $ pick ! (λ ws.
         split ! $ move ! (1 ∷ []) $ heard ! (r ≡ parsedIn (ys-bytes)) (λ e.
         fsplit ! $ drop ! $ drop ! $ split ! $
         move ! (1 ∷ []) $ peeks ! ParsedT.the-row (Is ParsedT.the-row) (shows 𝓤 H A ParsedT.the-row) r (w ∷ []) (λ is. drop ! $
-        land ! (from ! (stop !)) (init ! 46 refl (LL.lawful ParsedT.the-type ParsedL.the-laws 𝓤 H A W .typed r _ is .0)) $ rewrite ! 46 (λ (u : Val). ‵ (fat fullShare ParsedL.mir l₈ 0 u)) (ap only (ParsedL.lowers .val-is r _ is)) refl $
+        land ! (from ! (stop !)) (init ! 34 refl (LL.lawful ParsedT.the-type ParsedL.the-laws 𝓤 H A W .typed r _ is .0)) $ rewrite ! 34 (λ (u : Val). ‵ (fat fullShare ParsedL.mir l₈ 0 u)) (ap only (ParsedL.lowers .val-is r _ is)) refl $
         split ! $ move ! (1 ∷ []) $ drop ! $
         use0 W (raw (C-f-token-of 𝓤 H A mem run .pre (to-f-token-of 𝓤 H A mem run r (ParsedL.lowered r)))) (goes-f-token-of 𝓤 H A W mem run r (ParsedL.lowered r) (subst (Is ParsedT.the-row r) (ParsedL.lowers .val-is r _ is) is)) $
-        calls-at ! fm (C-f-token-of 𝓤 H A mem run) known-f-token-of (to-f-token-of 𝓤 H A mem run r (ParsedL.lowered r)) (and-then ! (load ! (from ! (stop !)) (look ! 47 refl)) (no-more !)) (λ w₂.
+        calls-at ! fm (C-f-token-of 𝓤 H A mem run) known-f-token-of (to-f-token-of 𝓤 H A mem run r (ParsedL.lowered r)) (and-then ! (load ! (from ! (stop !)) (look ! 35 refl)) (no-more !)) (λ w₂.
         use1 W (later (some (λ (r₂ : ℕ). ((‵ ftrue) ⊛ ‵ (u32 .own r₂ (w₂ ∷ []))) ⊛ raw (ensured 𝓤 H A f-token-of.ended (f-token-of.clauses 𝓤 H A mem run) tt (r, tt) tt r₂)))) (id⊢ 𝓤 _) $ await ! tt $ pick ! (λ r₂.
         split ! $ move ! (1 ∷ []) $ use1 W (some (λ (ws₂ : Unit {0} × Unit {0}). ‵ (lasts f-token-of.ended tt (r, tt) ws₂) ⊛ raw (fact 𝓤 (r₂ ≡ r .message .token)))) (id⊢ 𝓤 _) $ pick ! (λ ws₂.
         split ! $ move ! (1 ∷ []) $ heard ! (r₂ ≡ r .message .token) (λ e₂.
         fsplit ! $ drop ! $ drop ! $ split ! $
         move ! (1 ∷ []) $ peeks ! u32 (Is u32) (shows 𝓤 H A u32) r₂ (w₂ ∷ []) (λ is₂. drop ! $
-        land ! (from ! (stop !)) (init ! 45 refl (uint-lawful 𝓤 H A W w32 .typed r₂ _ is₂ .0)) $ rewrite ! 45 (λ (u : Val). ‵ (fat fullShare (tyInt w32) l₉ 0 u)) (ap only (is₂ .0)) refl $
+        land ! (from ! (stop !)) (init ! 33 refl (uint-lawful 𝓤 H A W w32 .typed r₂ _ is₂ .0)) $ rewrite ! 33 (λ (u : Val). ‵ (fat fullShare (tyInt w32) l₉ 0 u)) (ap only (is₂ .0)) refl $
         drop ! $
-        part-3 l₀ l₁ l₂ l₃ l₄ l₅ l₆ l₇ l₈ l₉ l₁₀ l₁₁ l₁₂ l₁₃ l₁₄ l₁₅ l₁₆ l₁₇ l₁₈ l₁₉ l₂₀ l₂₁ l₂₂ l₂₃ l₂₄ l₂₅ l₂₆ l₂₇ w r ws e is w₂ r₂ ws₂ e₂ is₂))))))))))
+        part-3 l₀ l₁ l₂ l₃ l₄ l₅ l₆ l₇ l₈ l₉ l₁₀ l₁₁ l₁₂ l₁₃ l₁₄ l₁₅ l₁₆ l₁₇ l₁₈ l₁₉ l₂₀ l₂₁ w r ws e is w₂ r₂ ws₂ e₂ is₂))))))))))
 
     walk : ent 𝓤 (onEntry 𝓤 H A call.signature κs qs x at) (WpFn 𝓤 H C Λ code.function (vint w32 s ∷ vint w32 n ∷ s-mem ∷ s-table ∷ v-links ∷ s-bytes ∷ s-message ∷ []) Post)
     walk =
         qed W ((‵ (flft κ₀ q₀) ⊛ ‵ (flft κ₁ q₁) ⊛ ‵ (flft κ₂ q₂) ⊛ ‵ (flft κ₃ q₃) ⊛ ‵ ftrue) ∷ ‵ (owns (u32 ∷ u32 ∷ ShrSlice (named 0) κ₀ u8 ∷ MutSlice (named 1) κ₁ RecordT.the-row ∷ LinkStatesT.the-row ∷ ShrSlice (named 2) κ₂ u8 ∷ MutSlice (named 3) κ₃ u8 ∷ []) x at) ∷ []) ∵ enter ! C Λ code.function (vint w32 s ∷ vint w32 n ∷ s-mem ∷ s-table ∷ v-links ∷ s-bytes ∷ s-message ∷ []) _ $
-        alloc1 ! (λ l₀. alloc1 ! (λ l₁. alloc1 ! (λ l₂. alloc1 ! (λ l₃. alloc1 ! (λ l₄. alloc1 ! (λ l₅. alloc1 ! (λ l₆. alloc1 ! (λ l₇. alloc1 ! (λ l₈. alloc1 ! (λ l₉. alloc1 ! (λ l₁₀. alloc1 ! (λ l₁₁. alloc1 ! (λ l₁₂. alloc1 ! (λ l₁₃. alloc1 ! (λ l₁₄. alloc1 ! (λ l₁₅. alloc1 ! (λ l₁₆. alloc1 ! (λ l₁₇. alloc1 ! (λ l₁₈. alloc1 ! (λ l₁₉. alloc1 ! (λ l₂₀. alloc1 ! (λ l₂₁. alloc1 ! (λ l₂₂. alloc1 ! (λ l₂₃. alloc1 ! (λ l₂₄. alloc1 ! (λ l₂₅. alloc1 ! (λ l₂₆. alloc1 ! (λ l₂₇. alloc0 ! $ params1 ! $
-        pass1 ! (init ! 52 refl (tt, record { fits = g-s })) $ pass1 ! (init ! 50 refl (tt, record { fits = g-n })) $ pass1 ! (init ! 48 refl (tt, (tt, (record { fits = g-mem .0 }, tt)))) $ pass1 ! (init ! 46 refl (tt, (tt, (record { fits = g-table .0 }, tt)))) $ pass1 ! (init ! 44 refl (LL.lawful LinkStatesT.the-type LinkStatesL.the-laws 𝓤 H A W .typed links _ g-links .0)) $ pass1 ! (init ! 42 refl (tt, (tt, (record { fits = g-bytes .0 }, tt)))) $ pass1 ! (init ! 40 refl (tt, (tt, (record { fits = g-message .0 }, tt)))) $ pass0 ! $
-        move ! (57 ∷ []) $ fsplit ! $ drop ! $ fsplit ! $ drop ! $ fsplit ! $ move ! (1 ∷ []) $ fsplit ! $ move ! (1 ∷ []) $ fsplit ! $ drop ! $ fsplit ! $ move ! (1 ∷ []) $ fsplit ! $ move ! (1 ∷ []) $ drop ! $ move ! (60 ∷ []) $ split ! $ move ! (1 ∷ []) $ split ! $ move ! (1 ∷ []) $ split ! $ move ! (1 ∷ []) $ split ! $ move ! (1 ∷ []) $ drop ! $
-        part-2 l₀ l₁ l₂ l₃ l₄ l₅ l₆ l₇ l₈ l₉ l₁₀ l₁₁ l₁₂ l₁₃ l₁₄ l₁₅ l₁₆ l₁₇ l₁₈ l₁₉ l₂₀ l₂₁ l₂₂ l₂₃ l₂₄ l₂₅ l₂₆ l₂₇))))))))))))))))))))))))))))
+        alloc1 ! (λ l₀. alloc1 ! (λ l₁. alloc1 ! (λ l₂. alloc1 ! (λ l₃. alloc1 ! (λ l₄. alloc1 ! (λ l₅. alloc1 ! (λ l₆. alloc1 ! (λ l₇. alloc1 ! (λ l₈. alloc1 ! (λ l₉. alloc1 ! (λ l₁₀. alloc1 ! (λ l₁₁. alloc1 ! (λ l₁₂. alloc1 ! (λ l₁₃. alloc1 ! (λ l₁₄. alloc1 ! (λ l₁₅. alloc1 ! (λ l₁₆. alloc1 ! (λ l₁₇. alloc1 ! (λ l₁₈. alloc1 ! (λ l₁₉. alloc1 ! (λ l₂₀. alloc1 ! (λ l₂₁. alloc0 ! $ params1 ! $
+        pass1 ! (init ! 40 refl (tt, record { fits = g-s })) $ pass1 ! (init ! 38 refl (tt, record { fits = g-n })) $ pass1 ! (init ! 36 refl (tt, (tt, (record { fits = g-mem .0 }, tt)))) $ pass1 ! (init ! 34 refl (tt, (tt, (record { fits = g-table .0 }, tt)))) $ pass1 ! (init ! 32 refl (LL.lawful LinkStatesT.the-type LinkStatesL.the-laws 𝓤 H A W .typed links _ g-links .0)) $ pass1 ! (init ! 30 refl (tt, (tt, (record { fits = g-bytes .0 }, tt)))) $ pass1 ! (init ! 28 refl (tt, (tt, (record { fits = g-message .0 }, tt)))) $ pass0 ! $
+        move ! (45 ∷ []) $ fsplit ! $ drop ! $ fsplit ! $ drop ! $ fsplit ! $ move ! (1 ∷ []) $ fsplit ! $ move ! (1 ∷ []) $ fsplit ! $ drop ! $ fsplit ! $ move ! (1 ∷ []) $ fsplit ! $ move ! (1 ∷ []) $ drop ! $ move ! (48 ∷ []) $ split ! $ move ! (1 ∷ []) $ split ! $ move ! (1 ∷ []) $ split ! $ move ! (1 ∷ []) $ split ! $ move ! (1 ∷ []) $ drop ! $
+        part-2 l₀ l₁ l₂ l₃ l₄ l₅ l₆ l₇ l₈ l₉ l₁₀ l₁₁ l₁₂ l₁₃ l₁₄ l₁₅ l₁₆ l₁₇ l₁₈ l₁₉ l₂₀ l₂₁))))))))))))))))))))))
 
 module _ {M : Type 1} (𝓤 : URA M) (H : Heap 𝓤) (A : Atoms 𝓤) (W : Given 𝓤 H A) (mem : Memory → SProp 𝓤) (run : Routine → Fun 𝓤) where
-  call-walks : (C : Calls 𝓤 H) (Λ : Loops 𝓤 H) → FmC 𝓤 H (W .laws) C → Triple 𝓤 (C #f-parse) (C-f-parse 𝓤 H A mem run) → Triple 𝓤 (C #f-token-of) (C-f-token-of 𝓤 H A mem run) → Triple 𝓤 (C #f-find) (C-f-find 𝓤 H A mem run) → Triple 𝓤 (C #f-before) (C-f-before 𝓤 H A mem run) → Triple 𝓤 (C #f-hearing-at) (C-f-hearing-at 𝓤 H A mem run) → Triple 𝓤 (C #f-tell-at) (C-f-tell-at 𝓤 H A mem run) → Triple 𝓤 (C #f-put) (C-f-put 𝓤 H A mem run) → Triple 𝓤 (C #f-answer-of) (C-f-answer-of 𝓤 H A mem run) → Walks 𝓤 H A call.ended stayed (WpFn 𝓤 H C Λ code.function) (call.clauses 𝓤 H A mem run)
-  call-walks C Λ fm known-f-parse known-f-token-of known-f-find known-f-before known-f-hearing-at known-f-tell-at known-f-put known-f-answer-of = walked 𝓤 H A call.ended stayed (call.clauses 𝓤 H A mem run) (WpFn 𝓤 H C Λ code.function)
+  call-walks : (C : Calls 𝓤 H) (Λ : Loops 𝓤 H) → FmC 𝓤 H (W .laws) C → Triple 𝓤 (C #f-parse) (C-f-parse 𝓤 H A mem run) → Triple 𝓤 (C #f-token-of) (C-f-token-of 𝓤 H A mem run) → Triple 𝓤 (C #f-find) (C-f-find 𝓤 H A mem run) → Triple 𝓤 (C #f-before) (C-f-before 𝓤 H A mem run) → Triple 𝓤 (C #f-hear-unless) (C-f-hear-unless 𝓤 H A mem run) → Walks 𝓤 H A call.ended stayed (WpFn 𝓤 H C Λ code.function) (call.clauses 𝓤 H A mem run)
+  call-walks C Λ fm known-f-parse known-f-token-of known-f-find known-f-before known-f-hear-unless = walked 𝓤 H A call.ended stayed (call.clauses 𝓤 H A mem run) (WpFn 𝓤 H C Λ code.function)
       (λ κs. ((uint-vals w32), ((uint-vals w32), (slice-vals, (slice-vals, ((LL.vals LinkStatesT.the-type LinkStatesL.the-laws), (slice-vals, (slice-vals, tt)))))))) (λ κs. ((uint-tells w32), ((uint-tells w32), (shr-slice-tells (named 0) (κs .0) u8, (mut-slice-tells (named 1) (κs .1 .0) RecordT.the-row, ((LL.tells LinkStatesT.the-type LinkStatesL.the-laws), (shr-slice-tells (named 2) (κs .1 .1 .0) u8, (mut-slice-tells (named 3) (κs .1 .1 .1 .0) u8, tt))))))))
-      (λ κs qs bounds a g are. via 𝓤 _ (fst∗ 𝓤 _ (emp 𝓤)) (walk 𝓤 H A W mem run (κs .0) (κs .1 .0) (κs .1 .1 .0) (κs .1 .1 .1 .0) (qs .0) (qs .1 .0) (qs .1 .1 .0) (qs .1 .1 .1 .0) (a .0) (a .1 .0) (a .1 .1 .0 .ptr .0) (a .1 .1 .0 .ptr .1) (a .1 .1 .0 .name) (a .1 .1 .0 .now) (a .1 .1 .1 .0 .ptr .0) (a .1 .1 .1 .0 .ptr .1) (a .1 .1 .1 .0 .name) (a .1 .1 .1 .0 .now) (a .1 .1 .1 .1 .0) (LL.val LinkStatesT.the-type LinkStatesL.the-laws (a .1 .1 .1 .1 .0)) (a .1 .1 .1 .1 .1 .0 .ptr .0) (a .1 .1 .1 .1 .1 .0 .ptr .1) (a .1 .1 .1 .1 .1 .0 .name) (a .1 .1 .1 .1 .1 .0 .now) (a .1 .1 .1 .1 .1 .1 .0 .ptr .0) (a .1 .1 .1 .1 .1 .1 .0 .ptr .1) (a .1 .1 .1 .1 .1 .1 .0 .name) (a .1 .1 .1 .1 .1 .1 .0 .now) (are .0 .1) (are .1 .0 .1) (are .1 .1 .0 .0 .1) (are .1 .1 .1 .0 .0 .1) (are .1 .1 .1 .1 .0) (are .1 .1 .1 .1 .1 .0 .0 .1) (are .1 .1 .1 .1 .1 .1 .0 .0 .1) C Λ fm known-f-parse known-f-token-of known-f-find known-f-before known-f-hearing-at known-f-tell-at known-f-put known-f-answer-of))
+      (λ κs qs bounds a g are. via 𝓤 _ (fst∗ 𝓤 _ (emp 𝓤)) (walk 𝓤 H A W mem run (κs .0) (κs .1 .0) (κs .1 .1 .0) (κs .1 .1 .1 .0) (qs .0) (qs .1 .0) (qs .1 .1 .0) (qs .1 .1 .1 .0) (a .0) (a .1 .0) (a .1 .1 .0 .ptr .0) (a .1 .1 .0 .ptr .1) (a .1 .1 .0 .name) (a .1 .1 .0 .now) (a .1 .1 .1 .0 .ptr .0) (a .1 .1 .1 .0 .ptr .1) (a .1 .1 .1 .0 .name) (a .1 .1 .1 .0 .now) (a .1 .1 .1 .1 .0) (LL.val LinkStatesT.the-type LinkStatesL.the-laws (a .1 .1 .1 .1 .0)) (a .1 .1 .1 .1 .1 .0 .ptr .0) (a .1 .1 .1 .1 .1 .0 .ptr .1) (a .1 .1 .1 .1 .1 .0 .name) (a .1 .1 .1 .1 .1 .0 .now) (a .1 .1 .1 .1 .1 .1 .0 .ptr .0) (a .1 .1 .1 .1 .1 .1 .0 .ptr .1) (a .1 .1 .1 .1 .1 .1 .0 .name) (a .1 .1 .1 .1 .1 .1 .0 .now) (are .0 .1) (are .1 .0 .1) (are .1 .1 .0 .0 .1) (are .1 .1 .1 .0 .0 .1) (are .1 .1 .1 .1 .0) (are .1 .1 .1 .1 .1 .0 .0 .1) (are .1 .1 .1 .1 .1 .1 .0 .0 .1) C Λ fm known-f-parse known-f-token-of known-f-find known-f-before known-f-hear-unless))
 
-call-meets : {M : Type 1} (𝓤 : URA M) (H : Heap 𝓤) (A : Atoms 𝓤) → Given 𝓤 H A → (mem : Memory → SProp 𝓤) (run : Routine → Fun 𝓤) (𝓣 : Tables 𝓤 H) → Triple 𝓤 (𝓣 .C #f-parse) (C-f-parse 𝓤 H A mem run) → Triple 𝓤 (𝓣 .C #f-token-of) (C-f-token-of 𝓤 H A mem run) → Triple 𝓤 (𝓣 .C #f-find) (C-f-find 𝓤 H A mem run) → Triple 𝓤 (𝓣 .C #f-before) (C-f-before 𝓤 H A mem run) → Triple 𝓤 (𝓣 .C #f-hearing-at) (C-f-hearing-at 𝓤 H A mem run) → Triple 𝓤 (𝓣 .C #f-tell-at) (C-f-tell-at 𝓤 H A mem run) → Triple 𝓤 (𝓣 .C #f-put) (C-f-put 𝓤 H A mem run) → Triple 𝓤 (𝓣 .C #f-answer-of) (C-f-answer-of 𝓤 H A mem run)
+call-meets : {M : Type 1} (𝓤 : URA M) (H : Heap 𝓤) (A : Atoms 𝓤) → Given 𝓤 H A → (mem : Memory → SProp 𝓤) (run : Routine → Fun 𝓤) (𝓣 : Tables 𝓤 H) → Triple 𝓤 (𝓣 .C #f-parse) (C-f-parse 𝓤 H A mem run) → Triple 𝓤 (𝓣 .C #f-token-of) (C-f-token-of 𝓤 H A mem run) → Triple 𝓤 (𝓣 .C #f-find) (C-f-find 𝓤 H A mem run) → Triple 𝓤 (𝓣 .C #f-before) (C-f-before 𝓤 H A mem run) → Triple 𝓤 (𝓣 .C #f-hear-unless) (C-f-hear-unless 𝓤 H A mem run)
     → Meets 𝓤 H A call.signature (WpFn 𝓤 H (𝓣 .C) (𝓣 .Λ) code.function) (call.spec 𝓤 H A mem run)
-call-meets 𝓤 H A W mem run 𝓣 known-f-parse known-f-token-of known-f-find known-f-before known-f-hearing-at known-f-tell-at known-f-put known-f-answer-of =
+call-meets 𝓤 H A W mem run 𝓣 known-f-parse known-f-token-of known-f-find known-f-before known-f-hear-unless =
     walk-meets 𝓤 H A call.ended stayed W
     (goes-dropped 𝓤 H A W 4 (plain (λ _. u32)) yes (λ κs x f. refl), (goes-dropped 𝓤 H A W 4 (plain (λ _. u32)) yes (λ κs x f. refl), (goes-dropped 𝓤 H A W 4 (shrSliceOf (0 ∷ []) tt (plain (λ _. u8))) yes (λ κs x f. refl), (goes-gave-slice 𝓤 H A W 4 1 tt (plain (λ _. RecordT.the-row)), (goes-dropped 𝓤 H A W 4 (plain (λ _. LinkStatesT.the-row)) yes (λ κs x f. refl), (goes-dropped 𝓤 H A W 4 (shrSliceOf (2 ∷ []) tt (plain (λ _. u8))) yes (λ κs x f. refl), (goes-gave-slice 𝓤 H A W 4 3 tt (plain (λ _. u8)), tt)))))))
-    (call.clauses 𝓤 H A mem run) (WpFn 𝓤 H (𝓣 .C) (𝓣 .Λ) code.function) (WpFn-mono 𝓤 H (W .laws) 𝓣 code.function) (call-walks 𝓤 H A W mem run (𝓣 .C) (𝓣 .Λ) (fmOf 𝓤 H (W .laws) 𝓣) known-f-parse known-f-token-of known-f-find known-f-before known-f-hearing-at known-f-tell-at known-f-put known-f-answer-of)
+    (call.clauses 𝓤 H A mem run) (WpFn 𝓤 H (𝓣 .C) (𝓣 .Λ) code.function) (WpFn-mono 𝓤 H (W .laws) 𝓣 code.function) (call-walks 𝓤 H A W mem run (𝓣 .C) (𝓣 .Λ) (fmOf 𝓤 H (W .laws) 𝓣) known-f-parse known-f-token-of known-f-find known-f-before known-f-hear-unless)
 
 pub fordlinnet-make-hear-spec : {M : Type 1} → stated.statement M
 unfolding code.routine tablesOf
@@ -417,7 +334,4 @@ fordlinnet-make-hear-spec 𝓤 H 𝓜 𝓖 𝓡 =
     (cited 𝓤 H (C-f-token-of 𝓤 H (𝓖 .A) (𝓜 .mem) (𝓡 .run)) 𝓜 𝓡 code.env #f-token-of f-token-of-def.routine code.calls-hearing·token-of (f-token-of-thm.met 𝓤 H 𝓜 𝓖 𝓡))
     (cited 𝓤 H (C-f-find 𝓤 H (𝓖 .A) (𝓜 .mem) (𝓡 .run)) 𝓜 𝓡 code.env #f-find f-find-def.routine code.calls-slots·find (f-find-thm.met 𝓤 H 𝓜 𝓖 𝓡))
     (cited 𝓤 H (C-f-before 𝓤 H (𝓖 .A) (𝓜 .mem) (𝓡 .run)) 𝓜 𝓡 code.env #f-before f-before-def.routine code.calls-hearing·before (f-before-thm.met 𝓤 H 𝓜 𝓖 𝓡))
-    (cited 𝓤 H (C-f-hearing-at 𝓤 H (𝓖 .A) (𝓜 .mem) (𝓡 .run)) 𝓜 𝓡 code.env #f-hearing-at f-hearing-at-def.routine code.calls-direct-hear·hearing-at (f-hearing-at-thm.met 𝓤 H 𝓜 𝓖 𝓡))
-    (cited 𝓤 H (C-f-tell-at 𝓤 H (𝓖 .A) (𝓜 .mem) (𝓡 .run)) 𝓜 𝓡 code.env #f-tell-at f-tell-at-def.routine code.calls-direct-hear·tell-at (f-tell-at-thm.met 𝓤 H 𝓜 𝓖 𝓡))
-    (cited 𝓤 H (C-f-put 𝓤 H (𝓖 .A) (𝓜 .mem) (𝓡 .run)) 𝓜 𝓡 code.env #f-put f-put-def.routine code.calls-direct-hear·put (f-put-thm.met 𝓤 H 𝓜 𝓖 𝓡))
-    (cited 𝓤 H (C-f-answer-of 𝓤 H (𝓖 .A) (𝓜 .mem) (𝓡 .run)) 𝓜 𝓡 code.env #f-answer-of f-answer-of-def.routine code.calls-direct-hear·answer-of (f-answer-of-thm.met 𝓤 H 𝓜 𝓖 𝓡)))
+    (cited 𝓤 H (C-f-hear-unless 𝓤 H (𝓖 .A) (𝓜 .mem) (𝓡 .run)) 𝓜 𝓡 code.env #f-hear-unless f-hear-unless-def.routine code.calls-direct-hear·hear-unless (f-hear-unless-thm.met 𝓤 H 𝓜 𝓖 𝓡)))

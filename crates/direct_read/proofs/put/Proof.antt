@@ -50,23 +50,23 @@ use denote.Exit.{yes}
 use Rattle.connection.specs.declared.Record.{Record}
 use Rattle.connection.proofs.Record as RecordT
 use Rattle.connection.proofs.Record.Laws as RecordL
-use Rattle.direct_read.specs.declared.Reading.{Reading}
-use Rattle.direct_read.proofs.Reading as ReadingT
-use Rattle.direct_read.proofs.Reading.Laws as ReadingL
+use Rattle.reading.specs.declared.Reading.{Reading}
+use Rattle.reading.proofs.Reading as ReadingT
+use Rattle.reading.proofs.Reading.Laws as ReadingL
 use Rattle.connection.specs.Connection.{zeroRecord}
 use Rattle.direct.proofs.place_of as f-place-of
 use Rattle.direct.proofs.place_of.Symbol as f-place-of-def
 use Rattle.direct.proofs.place_of.Symbol.{name as #f-place-of}
 use Rattle.direct.proofs.place_of.Met as f-place-of-thm
-use Rattle.direct_read.proofs.left as f-left
-use Rattle.direct_read.proofs.left.Symbol as f-left-def
-use Rattle.direct_read.proofs.left.Symbol.{name as #f-left}
-use Rattle.direct_read.proofs.left.Met as f-left-thm
+use Rattle.reading.proofs.left as f-left
+use Rattle.reading.proofs.left.Symbol as f-left-def
+use Rattle.reading.proofs.left.Symbol.{name as #f-left}
+use Rattle.reading.proofs.left.Met as f-left-thm
 use Rattle.direct_read.proofs.put.Key.{name as #call}
 use Rattle.direct_read.proofs.put as call
 use Rattle.direct_read.proofs.put.Statement as stated
 use Rattle.direct_read.proofs.put.Code as code
-use Rattle.direct_read.specs.Reading.{recordLeft}
+use Rattle.reading.specs.Reading.{recordLeft}
 use Rattle.table.specs.Table.{indexOf, recordAt, withRecord}
 use Rattle.direct_read.proofs.Laws.{put-returns, put-returns-2}
 
@@ -205,4 +205,4 @@ put-spec 𝓤 H 𝓜 𝓖 𝓡 =
     (tables 𝓤 H 𝓜 𝓡 code.env .C) (tables 𝓤 H 𝓜 𝓡 code.env .Λ) #call code.function (code.unfolded 𝓤 H 𝓜 𝓡)
     (call-meets 𝓤 H (𝓖 .A) (givenOf 𝓤 H 𝓜 𝓖) (𝓜 .mem) (𝓡 .run) (tablesOf 𝓤 H 𝓜 (tables 𝓤 H 𝓜 𝓡 code.env))
     (cited 𝓤 H (C-f-place-of 𝓤 H (𝓖 .A) (𝓜 .mem) (𝓡 .run)) 𝓜 𝓡 code.env #f-place-of f-place-of-def.routine code.calls-direct·place-of (f-place-of-thm.met 𝓤 H 𝓜 𝓖 𝓡))
-    (cited 𝓤 H (C-f-left 𝓤 H (𝓖 .A) (𝓜 .mem) (𝓡 .run)) 𝓜 𝓡 code.env #f-left f-left-def.routine code.calls-direct-read·left (f-left-thm.met 𝓤 H 𝓜 𝓖 𝓡)))
+    (cited 𝓤 H (C-f-left 𝓤 H (𝓖 .A) (𝓜 .mem) (𝓡 .run)) 𝓜 𝓡 code.env #f-left f-left-def.routine code.calls-reading·left (f-left-thm.met 𝓤 H 𝓜 𝓖 𝓡)))

@@ -50,24 +50,24 @@ use denote.Exit.{yes}
 use Rattle.connection.specs.declared.Record.{Record}
 use Rattle.connection.proofs.Record as RecordT
 use Rattle.connection.proofs.Record.Laws as RecordL
-use Rattle.direct_send.specs.declared.Sending.{Sending}
-use Rattle.direct_send.proofs.Sending as SendingT
-use Rattle.direct_send.proofs.Sending.Laws as SendingL
+use Rattle.transmitting.specs.declared.Sending.{Sending}
+use Rattle.transmitting.proofs.Sending as SendingT
+use Rattle.transmitting.proofs.Sending.Laws as SendingL
 use Rattle.connection.specs.Connection.{zeroRecord}
 use Rattle.direct.proofs.place_of as f-place-of
 use Rattle.direct.proofs.place_of.Symbol as f-place-of-def
 use Rattle.direct.proofs.place_of.Symbol.{name as #f-place-of}
 use Rattle.direct.proofs.place_of.Met as f-place-of-thm
-use Rattle.direct_send.proofs.left as f-left
-use Rattle.direct_send.proofs.left.Symbol as f-left-def
-use Rattle.direct_send.proofs.left.Symbol.{name as #f-left}
-use Rattle.direct_send.proofs.left.Met as f-left-thm
+use Rattle.transmitted.proofs.left as f-left
+use Rattle.transmitted.proofs.left.Symbol as f-left-def
+use Rattle.transmitted.proofs.left.Symbol.{name as #f-left}
+use Rattle.transmitted.proofs.left.Met as f-left-thm
 use Rattle.direct_send.proofs.put.Key.{name as #call}
 use Rattle.direct_send.proofs.put as call
 use Rattle.direct_send.proofs.put.Statement as stated
 use Rattle.direct_send.proofs.put.Code as code
-use Rattle.direct_send.specs.Sending.{recordLeft}
 use Rattle.table.specs.Table.{indexOf, recordAt, withRecord}
+use Rattle.transmitted.specs.Transmitted.{recordLeft}
 use Rattle.direct_send.proofs.Laws.{put-returns, put-returns-2}
 
 abbrev stayed : Stays (call.ended .signature .params) (call.ended .kept)
@@ -205,4 +205,4 @@ put-spec 𝓤 H 𝓜 𝓖 𝓡 =
     (tables 𝓤 H 𝓜 𝓡 code.env .C) (tables 𝓤 H 𝓜 𝓡 code.env .Λ) #call code.function (code.unfolded 𝓤 H 𝓜 𝓡)
     (call-meets 𝓤 H (𝓖 .A) (givenOf 𝓤 H 𝓜 𝓖) (𝓜 .mem) (𝓡 .run) (tablesOf 𝓤 H 𝓜 (tables 𝓤 H 𝓜 𝓡 code.env))
     (cited 𝓤 H (C-f-place-of 𝓤 H (𝓖 .A) (𝓜 .mem) (𝓡 .run)) 𝓜 𝓡 code.env #f-place-of f-place-of-def.routine code.calls-direct·place-of (f-place-of-thm.met 𝓤 H 𝓜 𝓖 𝓡))
-    (cited 𝓤 H (C-f-left 𝓤 H (𝓖 .A) (𝓜 .mem) (𝓡 .run)) 𝓜 𝓡 code.env #f-left f-left-def.routine code.calls-direct-send·left (f-left-thm.met 𝓤 H 𝓜 𝓖 𝓡)))
+    (cited 𝓤 H (C-f-left 𝓤 H (𝓖 .A) (𝓜 .mem) (𝓡 .run)) 𝓜 𝓡 code.env #f-left f-left-def.routine code.calls-transmitted·left (f-left-thm.met 𝓤 H 𝓜 𝓖 𝓡)))

@@ -1,0 +1,29 @@
+-- The structs of the direct calls filled, for a binding's test: field i is the number i, in the lowest and the highest byte, and a bool is
+-- whether `one` is i. Assumes nothing.
+use Prim.Native.Nat.{ℕ}
+use mathlib.Core.List.{[], _∷_}
+use lib.Dec.{eqb}
+use Rattle.direct.specs.declared.LinkStates.{LinkStates}
+use Rattle.reading.specs.declared.ReadAnswer.{ReadAnswer}
+use Rattle.transmitting.specs.declared.SendAnswer.{SendAnswer}
+use Rattle.hearing.specs.declared.HearAnswer.{HearAnswer}
+
+abbrev pub shapeLinkStates : ℕ → LinkStates
+shapeLinkStates one = record { active = eqb one 1 ∷ eqb one 2 ∷ eqb one 3 ∷ eqb one 4 ∷ [] }
+
+abbrev pub shapeReadAnswer : ℕ → ReadAnswer
+shapeReadAnswer one = record { refusal = 1; torn = eqb one 2; made = eqb one 3; count = 67108868 }
+
+abbrev pub shapeSendAnswer : ℕ → SendAnswer
+shapeSendAnswer one =
+    record {
+      refusal = 1;
+      made = eqb one 2;
+      placings = 3;
+      taken = 67108868;
+      first = record { key = 83886085; address = 432345564227567622; start = 117440519; len = 134217736 };
+      second = record { key = 150994953; address = 720575940379279370; start = 184549387; len = 201326604 };
+    }
+
+abbrev pub shapeHearAnswer : ℕ → HearAnswer
+shapeHearAnswer one = record { refusal = 1; made = eqb one 2; state = 3; moved = 288230376151711748 }

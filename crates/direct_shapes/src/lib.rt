@@ -1,0 +1,67 @@
+// For a binding's test: the structs of the direct calls, filled as those of crate `shapes` are (document 02, 2026-11).
+ghost use mathlib.Core.Path.{_≡_};
+ghost use Rattle.direct_shapes.specs.DirectShapes.{shapeLinkStates, shapeReadAnswer, shapeSendAnswer, shapeHearAnswer};
+use direct::LinkStates;
+use hearing::HearAnswer;
+use outcome::Placing;
+use reading::ReadAnswer;
+use transmitting::SendAnswer;
+
+#[no_mangle]
+pub extern "C" fn fordlinnet_shape_link_states(one: u32) -> LinkStates
+    ensures { λ r. ⌜ r ≡ shapeLinkStates one ⌝ }
+{
+    LinkStates {
+        active: [one == 1, one == 2, one == 3, one == 4],
+    }
+}
+
+#[no_mangle]
+pub extern "C" fn fordlinnet_shape_read_answer(one: u32) -> ReadAnswer
+    ensures { λ r. ⌜ r ≡ shapeReadAnswer one ⌝ }
+{
+    ReadAnswer {
+        refusal: 1,
+        torn: one == 2,
+        made: one == 3,
+        count: 67108868,
+    }
+}
+
+#[no_mangle]
+pub extern "C" fn fordlinnet_shape_send_answer(one: u32) -> SendAnswer
+    ensures { λ r. ⌜ r ≡ shapeSendAnswer one ⌝ }
+{
+    let first = Placing {
+        key: 83886085,
+        address: 432345564227567622,
+        start: 117440519,
+        len: 134217736,
+    };
+    let second = Placing {
+        key: 150994953,
+        address: 720575940379279370,
+        start: 184549387,
+        len: 201326604,
+    };
+    SendAnswer {
+        refusal: 1,
+        made: one == 2,
+        placings: 3,
+        taken: 67108868,
+        first: first,
+        second: second,
+    }
+}
+
+#[no_mangle]
+pub extern "C" fn fordlinnet_shape_hear_answer(one: u32) -> HearAnswer
+    ensures { λ r. ⌜ r ≡ shapeHearAnswer one ⌝ }
+{
+    HearAnswer {
+        refusal: 1,
+        made: one == 2,
+        state: 3,
+        moved: 288230376151711748,
+    }
+}

@@ -1,0 +1,2 @@
+-- `Steps`: the parts of a read.
+pub mod Steps

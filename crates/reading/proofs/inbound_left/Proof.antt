@@ -1,0 +1,18 @@
+-- `reading::inbound_left` meets its contract. Assumes nothing.
+use borrow.Author.Needs.{needs}
+use Rattle.reading.specs.Reading.{inboundLeft}
+use Rattle.reading.proofs.inbound_left.Statement.{statement}
+use Rattle.reading.proofs.inbound_left.Tie as tie
+
+told-left-requires : tie.Need-told-left-requires
+told-left-requires c κs = search needs
+
+urgent-left-requires : tie.Need-urgent-left-requires
+urgent-left-requires c κs = search needs
+
+returns : tie.Need-returns
+unfolding inboundLeft
+returns c = simp (c .urgent-left .ensures, c .before .told-left .ensures)
+
+pub inbound-left-spec : {M : Type 1} → statement M
+inbound-left-spec = tie.close (tie.spec told-left-requires urgent-left-requires returns)
