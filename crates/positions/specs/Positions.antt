@@ -1,7 +1,7 @@
 -- Positions: the bytes of a connection, counted from its open in whole numbers that never wrap. What the calls and their answers say of a
 -- slot; that the cursors follow it; that announced bytes stay; and which byte is handed out at each position. Claims about the rules that
--- every contract cites (`answer`, `next`), of any list of calls from any fresh group. A call holds all that a peer hands in, so "any list" is
--- any peer, lying or not. proofs/Positions proves each. Assumes nothing.
+-- every contract cites (`answer`, `next`), of any list of calls from any fresh group. A call holds all that a peer hands in, so "any list"
+-- is any peer, lying or not. proofs/Positions proves each. Assumes nothing.
 use Prim.Native.Nat.{ℕ, _+_, _-_, _%_, _≤_, _<_}
 use mathlib.Core.Path.{_≡_}
 use mathlib.Core.Logic.{_⊎_}
@@ -21,7 +21,9 @@ use Rattle.connection.specs.declared.Remote.{Remote}
 use Rattle.connection.specs.Connection.{zeroToken, zeroRecord, startCursor}
 use Rattle.exchange.specs.declared.Role.the-variants.{Client}
 use Rattle.exchange.specs.Exchange.{noExchange, emptyQueue}
-use Rattle.rules.specs.Rules.{Group, Request, send, gather, urgent, place, read, shutdown, close, abort, openSlot, freeSlot, linkChange, linkMessage, linkSend, sample, Call, on, hear, manage, Says, refusal, accepted, sent, gathered, wasRead, torn, reset, heard, sampled, linkHeard, linkSent, Answer, answer, next, recordOf, elementIn, Fresh}
+use Rattle.rules.specs.Rules.{Group, Request, send, gather, urgent, place, read, shutdown, close, abort, openSlot, freeSlot, linkChange}
+use Rattle.rules.specs.Rules.{linkMessage, linkSend, sample, Call, on, hear, manage, Says, refusal, accepted, sent, gathered, wasRead}
+use Rattle.rules.specs.Rules.{torn, reset, heard, sampled, linkHeard, linkSent, Answer, answer, next, recordOf, elementIn, Fresh}
 use Rattle.order.specs.Statement.{leaves, answers, At}
 use Rattle.safety.specs.Statement.{OpenAt, acceptedB, Opens}
 
@@ -158,8 +160,8 @@ lapOf h = dataOf (h .N)
 abbrev pub byteAt : Group → ℕ → ℕ → ℕ
 byteAt h k y = getD (elementIn h k) (offsetOf (lapOf h) y) 0
 
--- 1. THE CURSORS FOLLOW. C is the cursor of position `handed`, T of `told`, P of `announced`. What was told was handed out, what was handed out
--- was announced, and no more than D bytes are announced past what was told
+-- 1. THE CURSORS FOLLOW. C is the cursor of position `handed`, T of `told`, P of `announced`. What was told was handed out, what was
+-- handed out was announced, and no more than D bytes are announced past what was told
 pub record Follows (h : Group) (k : ℕ) (j : Journal) : Type 0 where
   pub C-at : cursorC h k ≡ cursorAt (lapOf h) (j .handed)
   pub T-at : cursorT h k ≡ cursorAt (lapOf h) (j .told)

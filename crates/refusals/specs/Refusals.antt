@@ -21,7 +21,8 @@ use Rattle.exchange.specs.Exchange.{addingB, dueB}
 use Rattle.exchange.specs.Fates.{isFate, fateOf, actsB, maySend}
 use Rattle.closing.specs.declared.Marks.{Marks}
 use Rattle.closing.specs.declared.State.{State}
-use Rattle.closing.specs.declared.State.the-variants.{Active, PeerCloseWait1, PeerCloseWait2, AppCloseWait1, AppCloseWait2, PeerAbortWait, Closed}
+use Rattle.closing.specs.declared.State.the-variants.{Active, PeerCloseWait1, PeerCloseWait2, AppCloseWait1, AppCloseWait2, PeerAbortWait}
+use Rattle.closing.specs.declared.State.the-variants.{Closed}
 use Rattle.closing.specs.Closing.{marked, stateOf}
 use Rattle.flow.specs.Flow.{windowOf}
 use Rattle.element.specs.Element.{freeB}
@@ -33,7 +34,9 @@ use Rattle.connection.specs.Connection.{coherentB}
 use Rattle.outcome.specs.Outcome.{noMessage, sequenceAfter}
 use Rattle.table.specs.Table.{activeB, findFrom}
 use Rattle.linkcalls.specs.Calls.{heardIn, sentIn}
-use Rattle.rules.specs.Rules.{Group, Request, send, gather, urgent, place, read, shutdown, close, abort, openSlot, freeSlot, linkChange, linkMessage, linkSend, sample, Call, on, hear, manage, refusal, answer, next, outOf, recordOf, linkOf, holderOf, linksOf}
+use Rattle.rules.specs.Rules.{Group, Request, send, gather, urgent, place, read, shutdown, close, abort, openSlot, freeSlot, linkChange}
+use Rattle.rules.specs.Rules.{linkMessage, linkSend, sample, Call, on, hear, manage, refusal, answer, next, outOf, recordOf, linkOf}
+use Rattle.rules.specs.Rules.{holderOf, linksOf}
 
 -- EACH NUMBER'S CONDITION, as the page's table has it.
 
@@ -116,8 +119,8 @@ aborting Closed = false
 abbrev pub notAborting : Group → ℕ → Bool
 notAborting g k = not (aborting (stateOf (recordOf g k .marks)))
 
--- 8: a cursor rule of hear is broken. The new P is out of range, has no good distance from T, or one less than before, or moved after D or C
--- was heard; the new R is out of range, at no good distance before Q, or at one greater than before
+-- 8: a cursor rule of hear is broken. The new P is out of range, has no good distance from T, or one less than before, or moved after D or
+-- C was heard; the new R is out of range, at no good distance before Q, or at one greater than before
 abbrev pub producerBroken : ℕ → Record → Message → Bool
 producerBroken N c m =
     let d = dataOf N in
@@ -225,8 +228,9 @@ placeTest g k shutdown = []
 placeTest g k close = []
 placeTest g k abort = []
 
--- Connection calls test 1, then 2 (hear: 4, 5), 3, 6, 7, 16, 8, 9. Hear finds the lowest slot with the token and gives no 7. Open: 1, 2, 10,
--- 12, 13, 6, 11. Free: 1, 2, 3, 7. Link change: 13. Link message: 13, 6, length 44, then optional, else 4, 14, 15. Link send: 13, 6, 14, 15
+-- Connection calls test 1, then 2 (hear: 4, 5), 3, 6, 7, 16, 8, 9. Hear finds the lowest slot with the token and gives no 7. Open: 1, 2,
+-- 10, 12, 13, 6, 11. Free: 1, 2, 3, 7. Link change: 13. Link message: 13, 6, length 44, then optional, else 4, 14, 15. Link send: 13, 6,
+-- 14, 15
 abbrev pub tests : Group → Call → List Test
 tests g (on k q) =
     1 when sizesWrong g
