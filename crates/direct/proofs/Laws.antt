@@ -1,7 +1,7 @@
--- The links' states, refusals 1, 2, 3 and 6, and a message in a lent buffer: what each definition gives. Assumes nothing.
+-- The links' states, refusals 1, 2, 3 and 6, and a message in a lent buffer, the abort mark: what each definition gives. Assumes nothing.
 use Prim.Native.Nat.{ℕ, zero, suc, _+_, _≤_, _<_}
 use mathlib.Core.Path.{_≡_, refl, sym, ap, _∙_}
-use mathlib.Core.Bool.{Bool, true, false, _&&_, not, cond}
+use mathlib.Core.Bool.{Bool, true, false, _&&_, _||_, not, cond}
 use mathlib.Core.List.{List, [], _∷_, _++_}
 use native.Mathlib.Numerals.{add-one}
 use native.Mathlib.Omega.{arith}
@@ -12,6 +12,8 @@ use denote.Laws.{Is}
 use lib.Seq.{take-length, take-at}
 use borrow.Author.Tests.{le-leb, lt-leb}
 use borrow.Author.Needs.{length-unmapped}
+use Rattle.closing.specs.declared.Marks.{Marks}
+use Rattle.closing.specs.Closing.{abortSent}
 use Rattle.connection.specs.declared.Record.{Record}
 use Rattle.outcome.specs.declared.Outcome.{Outcome}
 use Rattle.connection.specs.Connection.{refusalOf, zeroRecord}
@@ -20,7 +22,7 @@ use Rattle.table.specs.declared.Links.{Links}
 use Rattle.table.specs.Table.{sizesB, slotB, indexOf, recordAt, activeB, refusedBy, keptBy, turnedBy, settledBy}
 use Rattle.slots.proofs.Laws.{record-at-returns, record-at-returns-2}
 use Rattle.direct.specs.declared.LinkStates.{LinkStates}
-use Rattle.direct.specs.Direct.{heldOf, refusalAt, writtenIn, BufferKept}
+use Rattle.direct.specs.Direct.{heldOf, refusalAt, writtenIn, BufferKept, marksLeft}
 use Rattle.direct.proofs.LinkStates.{the-row}
 
 -- four links, which a value of the type has
@@ -118,3 +120,20 @@ links-stay j ls c o = by-test (eqb j 0)
     by-test : (b : Bool) → (cond b (turnedBy ls o) (keptBy c (refusedBy j ls))) .answer .links ≡ ls
     by-test true = refl
     by-test false = refl
+
+-- the marks after a call that sends A, and after one that does not
+or-false : (b : Bool) → b || false ≡ b
+or-false true = refl
+or-false false = refl
+
+or-true : (b : Bool) → b || true ≡ true
+or-true true = refl
+or-true false = refl
+
+pub marks-kept : (m : Marks) → marksLeft m false ≡ m
+unfolding marksLeft
+marks-kept m = λ i. record { sent = m .sent; heard = m .heard; first = m .first; abort = or-false (m .abort) i }
+
+pub marks-aborted : (m : Marks) → marksLeft m true ≡ abortSent m
+unfolding marksLeft abortSent
+marks-aborted m = λ i. record { sent = m .sent; heard = m .heard; first = m .first; abort = or-true (m .abort) i }

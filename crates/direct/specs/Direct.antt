@@ -1,10 +1,12 @@
--- What the calls that change a record where it lies share: refusals 1, 2, 3 and 6, and a message in a lent buffer. Assumes nothing.
+-- What the calls that change a record where it lies share: refusals 1, 2, 3 and 6, a message in a lent buffer, and the abort mark. Assumes
+-- nothing.
 use Prim.Native.Nat.{ℕ}
 use mathlib.Core.Path.{_≡_}
-use mathlib.Core.Bool.{Bool, _&&_, cond, false}
+use mathlib.Core.Bool.{Bool, _&&_, _||_, cond, false}
 use mathlib.Core.List.{List, _++_}
 use lib.Dec.{leb}
 use lib.ListN.{length, take, drop}
+use Rattle.closing.specs.declared.Marks.{Marks}
 use Rattle.connection.specs.declared.Record.{Record}
 use Rattle.connection.specs.Connection.{refusalOf}
 use Rattle.table.specs.Table.{sizesB, slotB, recordAt, activeB}
@@ -24,3 +26,7 @@ writtenIn message b = cond (leb 44 (length b)) (message ++ drop 44 b) b
 -- what lies behind the message stays, and all of the buffer where none was made
 abbrev pub BufferKept : Bool → List ℕ → List ℕ → Type 0
 BufferKept made b c = c ≡ cond made (take 44 c ++ drop 44 b) b
+
+-- the marks after a call that sends A, or one that does not
+unfoldable pub marksLeft : Marks → Bool → Marks
+marksLeft m aborts = record { sent = m .sent; heard = m .heard; first = m .first; abort = m .abort || aborts }

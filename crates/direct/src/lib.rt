@@ -1,9 +1,15 @@
 // What the calls that change a record where it lies in the lent table share (document 02, 2026-11): which links are active, what a call on
-// a slot tests first, and a message written into a lent buffer.
+// a slot tests first, a message written into a lent buffer, and what a call leaves of T, the sequence number, the marks and an urgent place.
 ghost use mathlib.Core.Path.{_≡_};
+ghost use mathlib.Core.Bool.{cond};
+ghost use Rattle.connection.specs.Connection.{noPlace};
+ghost use Rattle.outcome.specs.Outcome.{sequenceAfter};
 ghost use Rattle.table.specs.Table.{activeB, indexOf, recordAt};
-ghost use Rattle.direct.specs.Direct.{heldOf, refusalAt, writtenIn};
+ghost use Rattle.direct.specs.Direct.{heldOf, refusalAt, writtenIn, marksLeft};
+use closing::Marks;
 use connection::Record;
+use connection::Urgent;
+use cursor::Cursor;
 
 // The four links, active or down.
 #[repr(C)]
@@ -80,4 +86,44 @@ pub fn write(message: [u8; 44], to: &mut [u8])
             i += 1;
         }
     }
+}
+
+// T after a call: C where a message told the peer.
+pub fn told_left(t: Cursor, c: Cursor, made: bool) -> Cursor
+    ensures { λ r. ⌜ r ≡ cond made c t ⌝ }
+{
+    if made { c } else { t }
+}
+
+// The next sequence number after a call: used where a message was made.
+pub fn next_left(s: u16, made: bool) -> u16
+    ensures { λ r. ⌜ r ≡ cond made (sequenceAfter s) s ⌝ }
+{
+    if made {
+        ((s as u32 + 1) % 65536) as u16
+    } else {
+        s
+    }
+}
+
+// The marks after a call that sends A, or one that does not.
+pub fn marks_left(m: Marks, aborts: bool) -> Marks
+    ensures { λ r. ⌜ r ≡ marksLeft m aborts ⌝ }
+{
+    let a = m.abort | aborts;
+    let mut next = m;
+    next.abort = a;
+    next
+}
+
+// An urgent place after a call that passes it, or one that does not.
+pub fn place_left(u: Urgent, passed: bool) -> Urgent
+    ensures { λ r. ⌜ r ≡ cond passed noPlace u ⌝ }
+{
+    let at = Cursor { offset: 0, wrap: 0 };
+    let none = Urgent {
+        standing: false,
+        place: at,
+    };
+    if passed { none } else { u }
 }

@@ -22,7 +22,8 @@ use Rattle.hear.specs.Hear.{abortedOf, acceptedOf, ruledOf, followedOf, hearOf}
 use Rattle.rules.specs.Rules.{heard, saysOf}
 use Rattle.hearing.specs.declared.Hearing.{Hearing}
 use Rattle.hearing.specs.Hearing.{refusedHearing, abortHearing, waitHearing, acceptedHearing, ruledHearing, hearingOf}
-use Rattle.hearing.specs.Hearing.{inboundLeft, outboundLeft, recordLeft, marksLeft, toldBy}
+use Rattle.hearing.specs.Hearing.{inboundLeft, outboundLeft, recordLeft, toldBy}
+use Rattle.direct.proofs.Laws.{marks-kept, marks-aborted}
 use Rattle.direct_hear.specs.DirectHear.{saysIn}
 
 -- the record that a hearing leaves
@@ -36,23 +37,6 @@ pub record Agrees (rec : Record) (m : Message) (t : Hearing) (o : Outcome) : Typ
   pub message : o .message ≡ cond (t .said .made) (encodeOf (messageOf (toldBy rec t))) noMessage
   pub after : o .after ≡ leftOf rec m t
   pub apart : t .takes && t .closes ≡ false
-
--- the marks, as a message tells them
-or-false : (b : Bool) → b || false ≡ b
-or-false true = refl
-or-false false = refl
-
-or-true : (b : Bool) → b || true ≡ true
-or-true true = refl
-or-true false = refl
-
-marks-kept : (m : Marks) → marksLeft m false ≡ m
-unfolding marksLeft
-marks-kept m = λ i. record { sent = m .sent; heard = m .heard; first = m .first; abort = or-false (m .abort) i }
-
-marks-aborted : (m : Marks) → marksLeft m true ≡ abortSent m
-unfolding marksLeft abortSent
-marks-aborted m = λ i. record { sent = m .sent; heard = m .heard; first = m .first; abort = or-true (m .abort) i }
 
 module _ (rec : Record) (m : Message) where
   by-test : {x y : Hearing} {o p : Outcome} (b : Bool) → (b ≡ true → Agrees rec m x o) → (b ≡ false → Agrees rec m y p)

@@ -27,8 +27,9 @@ use Rattle.table.specs.Table.{sizesB, slotB, activeB, foundOf, refusedBy, keptB
 use Rattle.rules.specs.Rules.{saysOf}
 use Rattle.receiving.specs.Receiving.{copiedOf}
 use Rattle.direct.specs.Direct.{heldOf}
+use Rattle.direct.proofs.Laws.{marks-kept, marks-aborted}
 use Rattle.reading.specs.declared.Reading.{Reading}
-use Rattle.reading.specs.Reading.{unreadIn, dueIn, tookOf, tornReading, readingOf, refusedReading, inboundLeft, outboundLeft, marksLeft, recordLeft, movedOf}
+use Rattle.reading.specs.Reading.{unreadIn, dueIn, tookOf, tornReading, readingOf, refusedReading, inboundLeft, outboundLeft, recordLeft, movedOf}
 use Rattle.direct_read.specs.DirectRead.{saysIn}
 use Rattle.reading.proofs.Steps.{tookBy, read-forbidden, read-took, read-torn}
 
@@ -46,22 +47,6 @@ move : {rec : Record} {x y : Reading} {a b : Turned} → x ≡ y → a ≡ b →
 move {rec} {x} {y} {a} {b} p q g = subst (λ (w : Reading). Agrees rec w a) (sym p) (subst (λ (w : Turned). Agrees rec y w) (sym q) g)
 
 -- the marks, as a read leaves them
-or-false : (b : Bool) → b || false ≡ b
-or-false true = refl
-or-false false = refl
-
-or-true : (b : Bool) → b || true ≡ true
-or-true true = refl
-or-true false = refl
-
-marks-kept : (m : Marks) → marksLeft m false ≡ m
-unfolding marksLeft
-marks-kept m = λ i. record { sent = m .sent; heard = m .heard; first = m .first; abort = or-false (m .abort) i }
-
-marks-torn : (m : Marks) → marksLeft m true ≡ abortSent m
-unfolding marksLeft abortSent
-marks-torn m = λ i. record { sent = m .sent; heard = m .heard; first = m .first; abort = or-true (m .abort) i }
-
 -- in a coherent record, D less what is free is the distance C to P
 unread-same : (n : ℕ) (rec : Record) → coherentB n rec ≡ true → unreadIn n (rec .inbound) ≡ unreadOf n (rec .inbound)
 unfolding unreadIn unreadOf windowOf
@@ -92,8 +77,8 @@ module _ (ls : Links) (rec : Record) where
       record {
         says = refl;
         made = refl;
-        message = ap (λ (w : Marks). encodeOf (messageOf (marksTo rec w))) (sym (marks-torn (rec .marks)));
-        after = ap (λ (w : Marks). toldOf (marksTo rec w)) (sym (marks-torn (rec .marks)));
+        message = ap (λ (w : Marks). encodeOf (messageOf (marksTo rec w))) (sym (marks-aborted (rec .marks)));
+        after = ap (λ (w : Marks). toldOf (marksTo rec w)) (sym (marks-aborted (rec .marks)));
         copied = refl;
         from-is = refl;
         silent = λ e. absurd (e refl);

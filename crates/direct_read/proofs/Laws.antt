@@ -26,11 +26,11 @@ use Rattle.receiving.specs.Receiving.{copiedOf}
 use Rattle.receiving.proofs.Bytes.{read-none}
 use Rattle.receiving.proofs.Laws.{read-did}
 use Rattle.direct.specs.declared.LinkStates.{LinkStates}
-use Rattle.direct.specs.Direct.{heldOf, refusalAt, writtenIn, BufferKept}
+use Rattle.direct.specs.Direct.{heldOf, refusalAt, writtenIn, BufferKept, marksLeft}
 use Rattle.direct.proofs.Laws.{front, kept, links-stay}
 use Rattle.reading.specs.declared.ReadAnswer.{ReadAnswer}
 use Rattle.reading.specs.declared.Reading.{Reading}
-use Rattle.reading.specs.Reading.{refusedAnswer, refusedReading, tornReading, tookOf, readingOf, inboundLeft, outboundLeft, marksLeft, recordLeft, movedOf, messageLeft, copiedBy}
+use Rattle.reading.specs.Reading.{refusedAnswer, refusedReading, tornReading, tookOf, readingOf, inboundLeft, outboundLeft, recordLeft, movedOf, messageLeft, copiedBy}
 use Rattle.direct_read.specs.ReadLeft.{LeftBy, LeftUnless}
 use Rattle.direct_read.specs.DirectRead.{answerIn, ReadMade}
 use Rattle.direct_read.proofs.Agree.{Agrees, agree, refused-agree}

@@ -19,7 +19,7 @@ use Rattle.connection.specs.Connection.{pTo, tTo, lastTo, flagsTo, urgentInTo, 
 use Rattle.outcome.specs.Outcome.{sequenceAfter, messageOf}
 use Rattle.heard.specs.Heard.{producerB, consumerB, movedBy, nextB}
 use Rattle.table.specs.Table.{sizesB}
-use Rattle.direct.specs.Direct.{writtenIn}
+use Rattle.direct.specs.Direct.{writtenIn, marksLeft}
 use Rattle.hearing.specs.declared.Parsed.{Parsed}
 use Rattle.hearing.specs.declared.Hearing.{Hearing}
 
@@ -148,9 +148,6 @@ unfoldable pub recordLeft : Record → Message → Hearing → Record
 recordLeft rec m t =
     marksTo (outboundTo (inboundTo rec (inboundLeft (rec .inbound) m t)) (outboundLeft (rec .outbound) m t))
     (marksHeard (rec .marks) (m .flags .done) (m .flags .closed))
-
-unfoldable pub marksLeft : Marks → Bool → Marks
-marksLeft m aborts = record { sent = m .sent; heard = m .heard; first = m .first; abort = m .abort || aborts }
 
 -- what a message tells of the record: our urgent place where it was not cleared, and A
 unfoldable pub toldBy : Record → Hearing → Record

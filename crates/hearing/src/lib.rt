@@ -3,16 +3,14 @@
 ghost use mathlib.Core.Path.{_≡_};
 ghost use mathlib.Core.Bool.{cond};
 ghost use Rattle.closing.specs.Closing.{numberOf};
-ghost use Rattle.connection.specs.Connection.{noPlace, placeAt};
-ghost use Rattle.outcome.specs.Outcome.{sequenceAfter};
+ghost use Rattle.connection.specs.Connection.{placeAt};
 ghost use Rattle.table.specs.Table.{activeB};
 ghost use Rattle.hearing.specs.Hearing.{noHeard, parsedIn, refusedBefore, refusedHearing, abortHearing, waitHearing};
 ghost use Rattle.hearing.specs.Hearing.{acceptedHearing, ruledHearing, hearingOf, noneHearing, inboundLeft, outboundLeft};
-ghost use Rattle.hearing.specs.Hearing.{recordLeft, marksLeft, toldBy, messageLeft};
+ghost use Rattle.hearing.specs.Hearing.{recordLeft, toldBy, messageLeft};
 use cdc::Decoded;
 use cdc::Flags;
 use cdc::Message;
-use closing::Marks;
 use closing::State;
 use connection::Inbound;
 use connection::Outbound;
@@ -270,29 +268,12 @@ fn urgent_left(u: Urgent, at: Cursor, urged: bool) -> Urgent
     if urged { new } else { u }
 }
 
-fn cleared_if(u: Urgent, passed: bool) -> Urgent
-    ensures { λ r. ⌜ r ≡ cond passed noPlace u ⌝ }
-{
-    let at = Cursor { offset: 0, wrap: 0 };
-    let none = Urgent {
-        standing: false,
-        place: at,
-    };
-    if passed { none } else { u }
-}
-
-fn told_left(t: Cursor, c: Cursor, made: bool) -> Cursor
-    ensures { λ r. ⌜ r ≡ cond made c t ⌝ }
-{
-    if made { c } else { t }
-}
-
 fn inbound_left(i: Inbound, m: Message, t: Hearing) -> Inbound
     ensures { λ r. ⌜ r ≡ inboundLeft i m t ⌝ }
 {
     let p = m.producer;
     let c = i.consumer;
-    let told = told_left(i.told, c, t.said.made);
+    let told = direct::told_left(i.told, c, t.said.made);
     let u = urgent_left(i.urgent, p, t.urged);
     let mut next = i;
     next.producer = p;
@@ -304,22 +285,12 @@ fn inbound_left(i: Inbound, m: Message, t: Hearing) -> Inbound
     next
 }
 
-fn next_left(s: u16, made: bool) -> u16
-    ensures { λ r. ⌜ r ≡ cond made (sequenceAfter s) s ⌝ }
-{
-    if made {
-        ((s as u32 + 1) % 65536) as u16
-    } else {
-        s
-    }
-}
-
 fn outbound_left(o: Outbound, m: Message, t: Hearing) -> Outbound
     ensures { λ r. ⌜ r ≡ outboundLeft o m t ⌝ }
 {
     let r = m.consumer;
-    let s = next_left(o.next, t.said.made);
-    let u = cleared_if(o.urgent, t.passed);
+    let s = direct::next_left(o.next, t.said.made);
+    let u = direct::place_left(o.urgent, t.passed);
     let mut next = o;
     next.consumer = r;
     next.next = s;
@@ -341,21 +312,12 @@ pub fn left(rec: Record, m: Message, t: Hearing) -> Record
     next
 }
 
-fn marks_left(m: Marks, aborts: bool) -> Marks
-    ensures { λ r. ⌜ r ≡ marksLeft m aborts ⌝ }
-{
-    let a = m.abort | aborts;
-    let mut next = m;
-    next.abort = a;
-    next
-}
-
 // What a message tells of the record.
 fn told_by(rec: Record, t: Hearing) -> Record
     ensures { λ r. ⌜ r ≡ toldBy rec t ⌝ }
 {
-    let u = cleared_if(rec.outbound.urgent, t.passed);
-    let marks = marks_left(rec.marks, t.aborts);
+    let u = direct::place_left(rec.outbound.urgent, t.passed);
+    let marks = direct::marks_left(rec.marks, t.aborts);
     let mut o = rec.outbound;
     o.urgent = u;
     let mut next = rec;

@@ -7,7 +7,6 @@ use lib.Dec.{ltb}
 use Rattle.cursor.specs.declared.Cursor.{Cursor}
 use Rattle.cursor.specs.Cursor.{dataOf, stepOf}
 use Rattle.cdc.specs.Cdc.{encodeOf}
-use Rattle.closing.specs.declared.Marks.{Marks}
 use Rattle.flow.specs.Flow.{takenOf, windowOf, updateDue}
 use Rattle.element.specs.Element as Element
 use Rattle.connection.specs.declared.Inbound.{Inbound}
@@ -16,7 +15,7 @@ use Rattle.connection.specs.declared.Record.{Record}
 use Rattle.connection.specs.Connection.{noPlace, cTo, tTo, urgentInTo, nextTo, inboundTo, outboundTo, marksTo, reachedB}
 use Rattle.outcome.specs.Outcome.{sequenceAfter, messageOf}
 use Rattle.receive.specs.Receive.{readForbids}
-use Rattle.direct.specs.Direct.{writtenIn}
+use Rattle.direct.specs.Direct.{writtenIn, marksLeft}
 use Rattle.reading.specs.declared.ReadAnswer.{ReadAnswer}
 use Rattle.reading.specs.declared.Reading.{Reading}
 
@@ -63,9 +62,6 @@ inboundLeft i t =
 
 unfoldable pub outboundLeft : Outbound → Bool → Outbound
 outboundLeft o made = nextTo o (cond made (sequenceAfter (o .next)) (o .next))
-
-unfoldable pub marksLeft : Marks → Bool → Marks
-marksLeft m torn = record { sent = m .sent; heard = m .heard; first = m .first; abort = m .abort || torn }
 
 unfoldable pub recordLeft : Record → Reading → Record
 recordLeft rec t =

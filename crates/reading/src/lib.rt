@@ -2,18 +2,13 @@
 // `direct_read` does where the record lies. The record's changed fields alone are put back: a record by value through each step costs more
 // than the step (docs/SPEED.md).
 ghost use mathlib.Core.Path.{_≡_};
-ghost use mathlib.Core.Bool.{cond};
 ghost use Rattle.flow.specs.Flow.{takenOf};
 ghost use Rattle.element.specs.Element.{baseOf, intactAt};
-ghost use Rattle.connection.specs.Connection.{noPlace};
-ghost use Rattle.outcome.specs.Outcome.{sequenceAfter};
 ghost use Rattle.reading.specs.Reading.{unreadIn, dueIn, tookOf, tornReading, readingOf, refusedAnswer, refusedReading};
-ghost use Rattle.reading.specs.Reading.{inboundLeft, outboundLeft, marksLeft, recordLeft, movedOf, messageLeft, copiedBy};
-use closing::Marks;
+ghost use Rattle.reading.specs.Reading.{inboundLeft, outboundLeft, recordLeft, movedOf, messageLeft, copiedBy};
 use connection::Inbound;
 use connection::Outbound;
 use connection::Record;
-use connection::Urgent;
 use cursor::Cursor;
 
 // A refusal's number, or 0; whether the element was torn; whether a message was made; how many bytes were read.
@@ -145,29 +140,12 @@ pub fn read_record(n: u32, mem: &[u8], slot: u32, rec: Record, room: usize) -> R
     }
 }
 
-fn urgent_left(u: Urgent, cleared: bool) -> Urgent
-    ensures { λ r. ⌜ r ≡ cond cleared noPlace u ⌝ }
-{
-    let at = Cursor { offset: 0, wrap: 0 };
-    let none = Urgent {
-        standing: false,
-        place: at,
-    };
-    if cleared { none } else { u }
-}
-
-fn told_left(t: Cursor, c: Cursor, made: bool) -> Cursor
-    ensures { λ r. ⌜ r ≡ cond made c t ⌝ }
-{
-    if made { c } else { t }
-}
-
 fn inbound_left(i: Inbound, t: Reading) -> Inbound
     ensures { λ r. ⌜ r ≡ inboundLeft i t ⌝ }
 {
     let c = t.consumer;
-    let told = told_left(i.told, c, t.said.made);
-    let u = urgent_left(i.urgent, t.cleared);
+    let told = direct::told_left(i.told, c, t.said.made);
+    let u = direct::place_left(i.urgent, t.cleared);
     let mut next = i;
     next.consumer = c;
     next.told = told;
@@ -175,31 +153,12 @@ fn inbound_left(i: Inbound, t: Reading) -> Inbound
     next
 }
 
-fn next_left(s: u16, made: bool) -> u16
-    ensures { λ r. ⌜ r ≡ cond made (sequenceAfter s) s ⌝ }
-{
-    if made {
-        ((s as u32 + 1) % 65536) as u16
-    } else {
-        s
-    }
-}
-
 fn outbound_left(o: Outbound, made: bool) -> Outbound
     ensures { λ r. ⌜ r ≡ outboundLeft o made ⌝ }
 {
-    let s = next_left(o.next, made);
+    let s = direct::next_left(o.next, made);
     let mut next = o;
     next.next = s;
-    next
-}
-
-fn marks_left(m: Marks, torn: bool) -> Marks
-    ensures { λ r. ⌜ r ≡ marksLeft m torn ⌝ }
-{
-    let a = m.abort | torn;
-    let mut next = m;
-    next.abort = a;
     next
 }
 
@@ -209,7 +168,7 @@ pub fn left(rec: Record, t: Reading) -> Record
 {
     let i = inbound_left(rec.inbound, t);
     let o = outbound_left(rec.outbound, t.said.made);
-    let m = marks_left(rec.marks, t.said.torn);
+    let m = direct::marks_left(rec.marks, t.said.torn);
     let mut next = rec;
     next.inbound = i;
     next.outbound = o;
@@ -222,7 +181,7 @@ fn moved(rec: Record, t: Reading) -> Record
     ensures { λ r. ⌜ r ≡ movedOf rec t ⌝ }
 {
     let c = t.consumer;
-    let m = marks_left(rec.marks, t.said.torn);
+    let m = direct::marks_left(rec.marks, t.said.torn);
     let mut i = rec.inbound;
     i.consumer = c;
     let mut next = rec;

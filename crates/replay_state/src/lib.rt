@@ -42,9 +42,9 @@ fn copy(to: &mut [u8], from: &[u8]) {
 pub fn filled_to(w: World, at: usize) -> World
     ensures { λ r. ⌜ (r .at ≡ at) × ((r .table ≡ w .table) × (r .links ≡ w .links)) ⌝ }
 {
-    let mut next = w;
-    next.at = at;
-    next
+    let mut filled = w;
+    filled.at = at;
+    filled
 }
 
 pub fn bad(o: &mut [u8; 65536], w: World) -> World

@@ -112,14 +112,14 @@ pub fn next(buf: &mut [u8; 65536], c: Scan) -> Scan
 pub fn begin(buf: &mut [u8; 65536]) -> Scan
     ensures { λ r. ⌜ r .left ≤ 18446744073709551614 ⌝ }
 {
-    let c = Scan {
+    let before = Scan {
         byte: b'\n',
         left: u64::MAX,
         at: 0,
         end: 0,
         good: true,
     };
-    next(buf, c)
+    next(buf, before)
 }
 
 // The line does not parse.

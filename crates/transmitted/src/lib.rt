@@ -1,44 +1,25 @@
 // The record and the message that a send leaves, by what it does with its record (crate `transmitting`).
 ghost use mathlib.Core.Path.{_≡_};
-ghost use mathlib.Core.Bool.{cond};
-ghost use Rattle.outcome.specs.Outcome.{sequenceAfter};
 ghost use Rattle.transmitted.specs.Transmitted.{inboundLeft, outboundLeft, recordLeft, movedOf, messageLeft};
 use connection::Inbound;
 use connection::Outbound;
 use connection::Record;
-use cursor::Cursor;
 use transmitting::Sending;
-
-fn told_left(t: Cursor, c: Cursor, made: bool) -> Cursor
-    ensures { λ r. ⌜ r ≡ cond made c t ⌝ }
-{
-    if made { c } else { t }
-}
 
 fn inbound_left(i: Inbound, made: bool) -> Inbound
     ensures { λ r. ⌜ r ≡ inboundLeft i made ⌝ }
 {
-    let told = told_left(i.told, i.consumer, made);
+    let told = direct::told_left(i.told, i.consumer, made);
     let mut next = i;
     next.told = told;
     next
-}
-
-fn next_left(s: u16, made: bool) -> u16
-    ensures { λ r. ⌜ r ≡ cond made (sequenceAfter s) s ⌝ }
-{
-    if made {
-        ((s as u32 + 1) % 65536) as u16
-    } else {
-        s
-    }
 }
 
 fn outbound_left(o: Outbound, t: Sending) -> Outbound
     ensures { λ r. ⌜ r ≡ outboundLeft o t ⌝ }
 {
     let q = t.producer;
-    let s = next_left(o.next, t.said.made);
+    let s = direct::next_left(o.next, t.said.made);
     let mut next = o;
     next.producer = q;
     next.blocked = t.blocked;

@@ -5,8 +5,8 @@ use Rattle.hearing.specs.Hearing.{toldBy}
 use Rattle.hearing.proofs.told_by.Statement.{statement}
 use Rattle.hearing.proofs.told_by.Tie as tie
 
-cleared-if-requires : tie.Need-cleared-if-requires
-cleared-if-requires c κs = search needs
+place-left-requires : tie.Need-place-left-requires
+place-left-requires c κs = search needs
 
 marks-left-requires : tie.Need-marks-left-requires
 marks-left-requires c κs = search needs
@@ -15,7 +15,7 @@ returns : tie.Need-returns
 unfolding toldBy marksTo
 returns c =
     let m = c .before in
-    simp (m .marks-left .ensures, m .before .cleared-if .ensures)
+    simp (m .marks-left .ensures, m .before .place-left .ensures)
 
 pub told-by-spec : {M : Type 1} → statement M
-told-by-spec = tie.close (tie.spec cleared-if-requires marks-left-requires returns)
+told-by-spec = tie.close (tie.spec place-left-requires marks-left-requires returns)

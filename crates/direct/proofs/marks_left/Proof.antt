@@ -1,0 +1,12 @@
+-- `direct::marks_left` meets its contract. Assumes nothing.
+use mathlib.Core.Path.{refl}
+use Rattle.direct.specs.Direct.{marksLeft}
+use Rattle.direct.proofs.marks_left.Statement.{statement}
+use Rattle.direct.proofs.marks_left.Tie as tie
+
+returns : tie.Need-returns
+unfolding marksLeft
+returns c = refl
+
+pub marks-left-spec : {M : Type 1} → statement M
+marks-left-spec = tie.close (tie.spec returns)
