@@ -2,6 +2,13 @@
 // up and on link messages. What each answers is printed to the output buffer `o`.
 ghost use mathlib.Core.Path.{_≡_};
 ghost use Prim.Native.Nat.{_≤_};
+ghost use lib.ListN.{length, take, replicate};
+ghost use Rattle.pool.specs.Pool.{freePool};
+ghost use Rattle.pool_text.specs.PoolText.{Left};
+ghost use Rattle.setup_text.specs.SetupText as Setup;
+ghost use Rattle.link_text.specs.LinkText as Link;
+ghost use Rattle.replay_state.specs.World.{linksTo, booksTo, settingsTo, atTo};
+ghost use Rattle.replay_calls.specs.ReplayCalls.{freshOf, Called, Lent, Gathered};
 use exchange::Role;
 use group::Command;
 use link_read::LinkLine;
@@ -12,7 +19,9 @@ use setup_text::SetupLine;
 use stream::output;
 use table::Links;
 
-fn fill(s: &mut [u8], b: u8) {
+fn fill(s: &mut [u8], b: u8)
+    ensures { λ _. ⌜ now (s .exit) ≡ replicate (length (now (s .entry))) b ⌝ }
+{
     let mut i = 0;
     while i < s.len() {
         s[i] = b;
@@ -31,7 +40,7 @@ fn fresh(
     settings: [u8; 252],
     at: usize,
 ) -> World
-    ensures { λ r. ⌜ (r .at ≡ at) × ((r .s ≡ s) × (r .n ≡ n)) ⌝ }
+    ensures { λ r. ⌜ (r .at ≡ at) × (r ≡ freshOf s n len count books settings (r .at)) ⌝ }
 {
     let z = connection::zero_record();
     let g = gauge::cleared();
@@ -59,7 +68,7 @@ fn fresh(
 
 // As if after `group 1 8 8` and `pool`, with settings all zero.
 pub fn first() -> World
-    ensures { λ r. ⌜ r .at ≤ 65536 ⌝ }
+    ensures { λ r. ⌜ r ≡ freshOf 1 8 8 1 freePool (replicate 252 0) 0 ⌝ }
 {
     let books = pool::free_pool();
     fresh(1, 8, 8, 1, books, [0u8; 252], 0)
@@ -74,7 +83,7 @@ pub fn start_over(
     len: usize,
     count: usize,
 ) -> World
-    ensures { λ r. ⌜ (r .at ≤ 65536) × ((r .s ≡ s) × (r .n ≡ n)) ⌝ }
+    ensures { λ r. ⌜ (r .at ≤ 65536) × (r ≡ freshOf s n len count (w .books) (w .settings) (r .at)) ⌝ }
 {
     let most = least(len, mem.len());
     fill(&mut mem[0..most], 0);
@@ -93,7 +102,9 @@ fn call(
     w: World,
     command: Command,
 ) -> World
-    ensures { λ r. ⌜ (r .at ≤ 65536) × ((r .s ≡ w .s) × (r .n ≡ w .n)) ⌝ }
+    ensures { λ r.
+        ⌜ Called w command (now (mem .entry)) (now (bytes .entry)) (replicate (length (now (out .entry))) 165) r (now (mem .exit))
+        (now (out .exit)) ⌝ }
 {
     let table = w.table;
     let links = w.links;
@@ -121,7 +132,9 @@ pub fn lent(
     count: usize,
     room: usize,
 ) -> World
-    ensures { λ r. ⌜ (r .at ≤ 65536) × ((r .s ≡ w .s) × (r .n ≡ w .n)) ⌝ }
+    ensures { λ r.
+        ⌜ Lent w command count room (now (mem .entry)) (now (given .entry)) (now (out .entry)) r (now (mem .exit))
+        (now (out .exit)) ⌝ }
 {
     let len = least(w.len, mem.len());
     let k = least(count, given.len());
@@ -145,7 +158,7 @@ fn gather<'a>(
     w: World,
     slot: u32,
 ) -> World
-    ensures { λ r. ⌜ (r .at ≤ 65536) × ((r .s ≡ w .s) × (r .n ≡ w .n)) ⌝ }
+    ensures { λ r. ⌜ Gathered w slot (now (mem .entry)) (now (head .entry)) (now (body .entry)) r ⌝ }
 {
     let table = w.table;
     let links = w.links;
@@ -173,7 +186,7 @@ pub fn gather_line<'a>(
     h: usize,
     b: usize,
 ) -> World
-    ensures { λ r. ⌜ (r .at ≤ 65536) × ((r .s ≡ w .s) × (r .n ≡ w .n)) ⌝ }
+    ensures { λ r. ⌜ Gathered w slot (take (w .len) (now (mem .entry))) (take h (now (given .entry))) (take b (now (body .entry))) r ⌝ }
 {
     let len = least(w.len, mem.len());
     let k = least(h, given.len());
@@ -183,7 +196,8 @@ pub fn gather_line<'a>(
 
 // A line of the pool, made on its books.
 pub fn pool_line(given: &[u8], o: &mut [u8; 65536], w: World, line: PoolLine) -> World
-    ensures { λ r. ⌜ (r .at ≤ 65536) × ((r .table ≡ w .table) × (r .links ≡ w .links)) ⌝ }
+    ensures { λ r.
+        ⌜ (r .at ≤ 65536) × ((r ≡ atTo (booksTo w (r .books)) (r .at)) × Left (w .books) (now (given .entry)) line (r .books)) ⌝ }
 {
     let books = w.books;
     let a = pool_text::act(o, w.at, books, given, line);
@@ -202,7 +216,9 @@ pub fn setup_line(
     w: World,
     line: SetupLine,
 ) -> World
-    ensures { λ r. ⌜ (r .at ≤ 65536) × ((r .table ≡ w .table) × (r .links ≡ w .links)) ⌝ }
+    ensures { λ r.
+        ⌜ (r .at ≤ 65536)
+        × ((r ≡ atTo (settingsTo w (r .settings)) (r .at)) × (r .settings ≡ Setup.leftOf (w .settings) (now (given .entry)) line)) ⌝ }
 {
     let settings = w.settings;
     let a = setup_text::act(o, w.at, settings, given, out, line);
@@ -215,7 +231,9 @@ pub fn setup_line(
 
 // A line on link messages, made on the links.
 pub fn link_line(given: &[u8], o: &mut [u8; 65536], w: World, line: LinkLine) -> World
-    ensures { λ r. ⌜ (r .at ≤ 65536) × (r .table ≡ w .table) ⌝ }
+    ensures { λ r.
+        ⌜ (r .at ≤ 65536)
+        × ((r ≡ atTo (linksTo w (r .links)) (r .at)) × (r .links ≡ Link.leftOf (w .links) (now (given .entry)) line)) ⌝ }
 {
     let links = w.links;
     let a = link_text::act(o, w.at, links, given, line);

@@ -1,7 +1,9 @@
 // The group of a replay, and the lines of the replay format that are no calls of it: those that look at it, and those that lay something in.
 // What each prints goes to the output buffer `o`.
 ghost use mathlib.Core.Path.{_≡_};
-ghost use Prim.Native.Nat.{_≤_};
+ghost use Prim.Native.Nat.{_≤_, min};
+ghost use Rattle.table.specs.Table.{gaugeSet};
+ghost use Rattle.replay_state.specs.World.{tableTo, linksTo, atTo, laidIn};
 use connection::Record;
 use gauge::Gauge;
 use records::print;
@@ -24,7 +26,7 @@ pub struct World {
 
 // Parts of a buffer are cut by it, so that no number leads out of one.
 pub fn least(a: usize, b: usize) -> usize
-    ensures { λ r. ⌜ (r ≤ a) × (r ≤ b) ⌝ }
+    ensures { λ r. ⌜ (r ≡ min a b) × ((r ≤ a) × (r ≤ b)) ⌝ }
 {
     if a < b { a } else { b }
 }
@@ -40,7 +42,7 @@ fn copy(to: &mut [u8], from: &[u8]) {
 
 // The output buffer is filled up to `at` now.
 pub fn filled_to(w: World, at: usize) -> World
-    ensures { λ r. ⌜ (r .at ≡ at) × ((r .table ≡ w .table) × (r .links ≡ w .links)) ⌝ }
+    ensures { λ r. ⌜ (r .at ≡ at) × (r ≡ atTo w (r .at)) ⌝ }
 {
     let mut filled = w;
     filled.at = at;
@@ -48,7 +50,7 @@ pub fn filled_to(w: World, at: usize) -> World
 }
 
 pub fn bad(o: &mut [u8; 65536], w: World) -> World
-    ensures { λ r. ⌜ (r .at ≤ 65536) × ((r .table ≡ w .table) × (r .links ≡ w .links)) ⌝ }
+    ensures { λ r. ⌜ (r .at ≤ 65536) × (r ≡ atTo w (r .at)) ⌝ }
 {
     let at = output::text(o, w.at, b"bad line\n");
     filled_to(w, at)
@@ -56,12 +58,12 @@ pub fn bad(o: &mut [u8; 65536], w: World) -> World
 
 // Lays a record into a slot from 1 to COUNT.
 pub fn lay_record(o: &mut [u8; 65536], w: World, slot: usize, c: Record) -> World
-    ensures { λ r. ⌜ (r .at ≤ 65536) × (r .links ≡ w .links) ⌝ }
+    ensures { λ r. ⌜ (r .at ≤ 65536) × ((r ≡ atTo (tableTo w (r .table)) (r .at)) × (r .table ≡ laidIn (w .table) (w .count) slot c)) ⌝ }
 {
     if slot < 1 {
         return bad(o, w);
     }
-    if records::rows(w.count) < slot {
+    if least(w.count, records::ROWS) < slot {
         return bad(o, w);
     }
     let i = slot - 1;
@@ -83,7 +85,7 @@ pub fn poke(
     at: usize,
     count: usize,
 ) -> World
-    ensures { λ r. ⌜ (r .at ≤ 65536) × ((r .table ≡ w .table) × (r .links ≡ w .links)) ⌝ }
+    ensures { λ r. ⌜ (r .at ≤ 65536) × (r ≡ atTo w (r .at)) ⌝ }
 {
     let len = least(w.len, mem.len());
     let k = least(count, given.len());
@@ -100,7 +102,7 @@ pub fn poke(
 
 // Prints bytes of the memory from byte `at` on, where they lie within it.
 pub fn memory(mem: &[u8], o: &mut [u8; 65536], w: World, at: usize, count: usize) -> World
-    ensures { λ r. ⌜ (r .at ≤ 65536) × ((r .table ≡ w .table) × (r .links ≡ w .links)) ⌝ }
+    ensures { λ r. ⌜ (r .at ≤ 65536) × (r ≡ atTo w (r .at)) ⌝ }
 {
     let len = least(w.len, mem.len());
     if at <= len {
@@ -114,7 +116,7 @@ pub fn memory(mem: &[u8], o: &mut [u8; 65536], w: World, at: usize, count: usize
 }
 
 pub fn table(o: &mut [u8; 65536], w: World) -> World
-    ensures { λ r. ⌜ (r .at ≤ 65536) × ((r .table ≡ w .table) × (r .links ≡ w .links)) ⌝ }
+    ensures { λ r. ⌜ (r .at ≤ 65536) × (r ≡ atTo w (r .at)) ⌝ }
 {
     let table = w.table;
     let links = w.links;
@@ -125,7 +127,7 @@ pub fn table(o: &mut [u8; 65536], w: World) -> World
 
 // A link's health, as the press room sees it.
 pub fn health(o: &mut [u8; 65536], w: World, link: u8) -> World
-    ensures { λ r. ⌜ (r .at ≤ 65536) × ((r .table ≡ w .table) × (r .links ≡ w .links)) ⌝ }
+    ensures { λ r. ⌜ (r .at ≤ 65536) × (r ≡ atTo w (r .at)) ⌝ }
 {
     let links = w.links;
     let g = table::gauge_of(links, link);
@@ -136,7 +138,7 @@ pub fn health(o: &mut [u8; 65536], w: World, link: u8) -> World
 
 // Lays a gauge in at a link.
 pub fn lay_gauge(o: &mut [u8; 65536], w: World, link: u8, g: Gauge) -> World
-    ensures { λ r. ⌜ (r .at ≤ 65536) × (r .table ≡ w .table) ⌝ }
+    ensures { λ r. ⌜ (r .at ≤ 65536) × ((r ≡ atTo (linksTo w (r .links)) (r .at)) × (r .links ≡ gaugeSet (w .links) link g)) ⌝ }
 {
     let before = w.links;
     let after = table::set_gauge(before, link, g);

@@ -1,0 +1,84 @@
+-- The group of a replay: one setter for each field that a line changes. What a line leaves is these, one after the other.
+-- Assumes nothing.
+use Prim.Native.Nat.{ℕ, min}
+use mathlib.Core.Bool.{cond}
+use mathlib.Core.List.{List}
+use lib.Dec.{leb}
+use Rattle.connection.specs.declared.Record.{Record}
+use Rattle.table.specs.declared.Links.{Links}
+use Rattle.table.specs.Table.{withRecord}
+use Rattle.replay_state.specs.declared.World.{World}
+
+abbrev pub tableTo : World → List Record → World
+tableTo w t =
+    record {
+      s = w .s;
+      n = w .n;
+      len = w .len;
+      table = t;
+      count = w .count;
+      links = w .links;
+      books = w .books;
+      settings = w .settings;
+      at = w .at;
+    }
+
+abbrev pub linksTo : World → Links → World
+linksTo w l =
+    record {
+      s = w .s;
+      n = w .n;
+      len = w .len;
+      table = w .table;
+      count = w .count;
+      links = l;
+      books = w .books;
+      settings = w .settings;
+      at = w .at;
+    }
+
+abbrev pub booksTo : World → List ℕ → World
+booksTo w b =
+    record {
+      s = w .s;
+      n = w .n;
+      len = w .len;
+      table = w .table;
+      count = w .count;
+      links = w .links;
+      books = b;
+      settings = w .settings;
+      at = w .at;
+    }
+
+abbrev pub settingsTo : World → List ℕ → World
+settingsTo w s =
+    record {
+      s = w .s;
+      n = w .n;
+      len = w .len;
+      table = w .table;
+      count = w .count;
+      links = w .links;
+      books = w .books;
+      settings = s;
+      at = w .at;
+    }
+
+abbrev pub atTo : World → ℕ → World
+atTo w at =
+    record {
+      s = w .s;
+      n = w .n;
+      len = w .len;
+      table = w .table;
+      count = w .count;
+      links = w .links;
+      books = w .books;
+      settings = w .settings;
+      at = at;
+    }
+
+-- a record laid into a slot from 1 to COUNT; a replayed table has at most 300 rows
+unfoldable pub laidIn : List Record → ℕ → ℕ → Record → List Record
+laidIn t count slot c = cond (leb slot (min count 300)) (withRecord t slot c) t
