@@ -10,7 +10,8 @@ use lib.Ieee.Exact.{HasValue}
 use lib.ListN.{length}
 use Rattle.gauge.specs.Gauge.{mostMs, clearedOf, sampledOf, healthOf, after, wholeFrom}
 use Rattle.table.specs.Table.{gaugeAt, withGauge}
-use Rattle.rules.specs.Rules.{Group, openSlot, freeSlot, linkChange, linkMessage, linkSend, sample, Call, on, hear, manage, sampled, answer, next, linksOf, Fresh}
+use Rattle.rules.specs.Rules.{Group, openSlot, freeSlot, linkChange, linkMessage, linkSend, sample, Call, on, hear, manage, sampled}
+use Rattle.rules.specs.Rules.{answer, next, linksOf, Fresh}
 use Rattle.exchange.specs.declared.Touch.{Touch}
 use Rattle.exchange.specs.declared.Touch.the-variants.{Nothing, Up, Down, All}
 use Rattle.linkcalls.specs.Calls.{touched}
@@ -20,8 +21,8 @@ use Rattle.order.specs.Statement.{leaves}
 use Rattle.changes.specs.Numbers.{refusedB}
 use Rattle.safety.specs.Links.{callOf}
 
--- 1. WHO CHANGES A GAUGE, on any group: an accepted sample of its link, which answers the health that the gauge then has; and a call that takes
--- its link down, which clears it (`touched`). `withGauge` is another gauge at one link, and every other as it was
+-- 1. WHO CHANGES A GAUGE, on any group: an accepted sample of its link, which answers the health that the gauge then has; and a call that
+-- takes its link down, which clears it (`touched`). `withGauge` is another gauge at one link, and every other as it was
 pub data Regauges (g : Group) (c : Call) : Type 0 where
   by-sample : (l ms : ℕ) → c ≡ manage (sample l ms) → answer g c .says ≡ sampled (healthOf (sampledOf (gaugeAt (g .gauges) l) ms))
       → next g c .gauges ≡ withGauge (g .gauges) l (sampledOf (gaugeAt (g .gauges) l) ms) → Regauges g c
@@ -59,8 +60,8 @@ GaugesUnread =
     (g h : Group) (c : Call) → Document01 c → SameButGauges g h → (answer g c ≡ answer h c) × SameButGauges (next g c) (next h c)
 
 -- 3. WHAT A GAUGE HOLDS, over any list of calls from any fresh group: the accepted samples of its link since the link last went down,
--- oldest first. An open does not clear it, nor does a call by which the link becomes active. Where all four go down, so does l: no other has
--- a gauge
+-- oldest first. An open does not clear it, nor does a call by which the link becomes active. Where all four go down, so does l: no other
+-- has a gauge
 abbrev pub downB : Touch → ℕ → Bool
 downB Nothing l = false
 downB (Up k) l = false

@@ -9,75 +9,25 @@ use Rattle.table.specs.declared.Links.{Links}
 use Rattle.table.specs.Table.{withRecord}
 use Rattle.replay_state.specs.declared.World.{World}
 
+-- a line keeps S, N, LEN and COUNT
+abbrev pub lineTo : World → List Record → Links → List ℕ → List ℕ → ℕ → World
+lineTo w t l b s at =
+    record { s = w .s; n = w .n; len = w .len; table = t; count = w .count; links = l; books = b; settings = s; at = at }
+
 abbrev pub tableTo : World → List Record → World
-tableTo w t =
-    record {
-      s = w .s;
-      n = w .n;
-      len = w .len;
-      table = t;
-      count = w .count;
-      links = w .links;
-      books = w .books;
-      settings = w .settings;
-      at = w .at;
-    }
+tableTo w t = lineTo w t (w .links) (w .books) (w .settings) (w .at)
 
 abbrev pub linksTo : World → Links → World
-linksTo w l =
-    record {
-      s = w .s;
-      n = w .n;
-      len = w .len;
-      table = w .table;
-      count = w .count;
-      links = l;
-      books = w .books;
-      settings = w .settings;
-      at = w .at;
-    }
+linksTo w l = lineTo w (w .table) l (w .books) (w .settings) (w .at)
 
 abbrev pub booksTo : World → List ℕ → World
-booksTo w b =
-    record {
-      s = w .s;
-      n = w .n;
-      len = w .len;
-      table = w .table;
-      count = w .count;
-      links = w .links;
-      books = b;
-      settings = w .settings;
-      at = w .at;
-    }
+booksTo w b = lineTo w (w .table) (w .links) b (w .settings) (w .at)
 
 abbrev pub settingsTo : World → List ℕ → World
-settingsTo w s =
-    record {
-      s = w .s;
-      n = w .n;
-      len = w .len;
-      table = w .table;
-      count = w .count;
-      links = w .links;
-      books = w .books;
-      settings = s;
-      at = w .at;
-    }
+settingsTo w s = lineTo w (w .table) (w .links) (w .books) s (w .at)
 
 abbrev pub atTo : World → ℕ → World
-atTo w at =
-    record {
-      s = w .s;
-      n = w .n;
-      len = w .len;
-      table = w .table;
-      count = w .count;
-      links = w .links;
-      books = w .books;
-      settings = w .settings;
-      at = at;
-    }
+atTo w at = lineTo w (w .table) (w .links) (w .books) (w .settings) at
 
 -- a record laid into a slot from 1 to COUNT; a replayed table has at most 300 rows
 unfoldable pub laidIn : List Record → ℕ → ℕ → Record → List Record

@@ -13,7 +13,8 @@ use Rattle.connection.specs.declared.Outbound.{Outbound}
 use Rattle.connection.specs.declared.Record.{Record}
 use Rattle.connection.specs.Connection.{noPlace, placeAt}
 use Rattle.rules.specs.Rules.{Group, send, urgent, read, abort, on, refusal, accepted, sent, wasRead, heard}
-use Rattle.vectors.specs.Vectors.{cur, start, inwards, outwards, unmarked, tokenA, tokenB, laid, aGroup, hostA, hostB, bytes, placing, gives, slot, Vector, plays, found, hears, told}
+use Rattle.vectors.specs.Vectors.{cur, start, inwards, outwards, unmarked, tokenA, tokenB, laid, aGroup, hostA, hostB, bytes}
+use Rattle.vectors.specs.Vectors.{placing, gives, slot, Vector, plays, found, hears, told}
 
 -- A's messages of scenarios 5 and 6 with the 500 urgent bytes, P and U on, and with the 1,000 after them; B's that tell up to an offset:
 -- the wrap number and the sequence number are left open

@@ -14,7 +14,8 @@ use Rattle.cursor.specs.Cursor.{dataOf, distanceOf}
 use Rattle.cdc.specs.declared.Message.{Message}
 use Rattle.cdc.specs.Cdc.{encodeOf, wholeExample}
 use Rattle.closing.specs.declared.Marks.{Marks}
-use Rattle.closing.specs.declared.State.the-variants.{Active, PeerCloseWait1, PeerCloseWait2, AppCloseWait1, AppCloseWait2, PeerAbortWait, Closed}
+use Rattle.closing.specs.declared.State.the-variants.{Active, PeerCloseWait1, PeerCloseWait2, AppCloseWait1, AppCloseWait2, PeerAbortWait}
+use Rattle.closing.specs.declared.State.the-variants.{Closed}
 use Rattle.flow.specs.Flow.{windowOf}
 use Rattle.gauge.specs.declared.Gauge.{Gauge}
 use Rattle.gauge.specs.declared.Health.the-variants.{Steady, Late}
@@ -33,7 +34,9 @@ use Rattle.connection.specs.declared.Opening.{Opening}
 use Rattle.connection.specs.Connection.{zeroRecord, zeroToken, noPlace, placeAt, noMarks}
 use Rattle.pieces.specs.Pieces.{Piece}
 use Rattle.table.specs.Table.{gaugeAt}
-use Rattle.rules.specs.Rules.{Group, Request, send, gather, urgent, place, read, shutdown, close, abort, openSlot, freeSlot, linkChange, sample, Call, on, hear, manage, Says, refusal, accepted, sent, gathered, wasRead, torn, reset, heard, sampled, linkHeard, linkSent, Answer, answer, next, recordOf, groupOf}
+use Rattle.rules.specs.Rules.{Group, Request, send, gather, urgent, place, read, shutdown, close, abort, openSlot, freeSlot, linkChange}
+use Rattle.rules.specs.Rules.{sample, Call, on, hear, manage, Says, refusal, accepted, sent, gathered, wasRead, torn, reset, heard}
+use Rattle.rules.specs.Rules.{sampled, linkHeard, linkSent, Answer, answer, next, recordOf, groupOf}
 
 -- WHAT A ROW LAYS. An offset and a wrap number
 abbrev pub cur : ℕ → ℕ → Cursor
