@@ -6,7 +6,7 @@ set -eu
 cd "$(dirname "$0")/../.."
 copy=$PWD/target/calls
 below="cursor cdc llc layout llcfields exchange closing gauge flow element connection outcome produced transmit pieces receive heard hear"
-below="$below finish table slots"
+below="$below finish table slots failover"
 below="$below linkcalls rules sending receiving ending calls opening linkstate management group"
 below="$below gathering"
 rm -rf "$copy/crates"

@@ -1,20 +1,22 @@
-/* Two ends of one connection in one program: they open, one sends, the other places, hears, reads and closes. What a network card and a
- * network would do, carry() does: it places the bytes and hands over the messages. */
+/* Two ends of one connection in one program: they open, one sends, the other places, hears, reads and closes; a link fails, and the
+ * connection goes on over another. What a network card and a network would do, carry() does: it places the bytes and hands over the
+ * messages. */
 #include <stdio.h>
 #include <stdlib.h>
 #include <string.h>
 
 #include "fordlinnet.h"
 
-enum { SLOTS = 3, SIZE = 64, SLOT = 3, LINK = 1 };
+enum { SLOTS = 3, SIZE = 64, SLOT = 3, LINK = 1, OTHER = 2 };
 
 struct end {
     const char *name;
     uint8_t memory[SLOTS * SIZE];
     struct fordlinnet_record table[SLOTS];
     struct fordlinnet_group group;
+    uint8_t moved[SLOTS * FORDLINNET_MESSAGE_LENGTH]; /* the buffer of the calls on links */
     uint32_t token;
-    uint32_t key;
+    uint32_t key; /* on link 1; on link l it is l - 1 more */
     uint64_t base;
 };
 
@@ -27,11 +29,26 @@ static void expect(int met, const char *what) {
     exit(1);
 }
 
+/* The end's memory on a link: each card has a key and an address of its own for it. */
+static struct fordlinnet_rtoken memory_on(const struct end *me, uint32_t link) {
+    struct fordlinnet_rtoken t = {.key = me->key + link - 1, .base = me->base + (link - 1) * 0x1000};
+    return t;
+}
+
+static struct fordlinnet_link_answer change(struct end *me, uint8_t link, bool up) {
+    return fordlinnet_link_change(&me->group, link, up, me->moved, sizeof me->moved);
+}
+
 static void open_towards(struct end *me, const struct end *peer) {
-    struct fordlinnet_rtoken there = {.key = peer->key, .base = peer->base};
-    struct fordlinnet_remote remote = {.size = SIZE, .index = SLOT, .link1 = there, .link2 = there, .link3 = there, .link4 = there};
+    struct fordlinnet_remote remote = {.size = SIZE,
+                                       .index = SLOT,
+                                       .link1 = memory_on(peer, 1),
+                                       .link2 = memory_on(peer, 2),
+                                       .link3 = memory_on(peer, 3),
+                                       .link4 = memory_on(peer, 4)};
     struct fordlinnet_opening opening = {.own = me->token, .peer = peer->token, .link = LINK, .remote = remote};
     struct fordlinnet_answer a;
+    struct fordlinnet_link_answer l;
 
     me->group.s = SLOTS;
     me->group.n = SIZE;
@@ -43,17 +60,17 @@ static void open_towards(struct end *me, const struct end *peer) {
 
     a = fordlinnet_open(&me->group, SLOT, opening);
     expect(a.said == FORDLINNET_REFUSED && a.refusal == FORDLINNET_LINK_DOWN, "open is refused while the link is down");
-    a = fordlinnet_link_change(&me->group, LINK, true);
-    expect(a.said == FORDLINNET_ACCEPTED && me->group.links.active[LINK - 1], "the link is active");
+    l = change(me, LINK, true);
+    expect(l.said == FORDLINNET_LINK_CHANGED && l.count == 0 && me->group.links.active[LINK - 1], "the link is active");
     a = fordlinnet_open(&me->group, SLOT, opening);
     expect(a.said == FORDLINNET_ACCEPTED && me->table[SLOT - 1].id.opened, "the slot is open");
     printf("%s: slot %d is open\n", me->name, SLOT);
 }
 
-/* The offset in the peer's element that a placing's address means. */
+/* The offset in the peer's element that a placing's address means on the link whose key it has. */
 static uint32_t offset_at(const struct end *peer, uint32_t key, uint64_t address) {
-    expect(key == peer->key, "the peer's key");
-    return (uint32_t)(address - peer->base - (SLOT - 1) * SIZE);
+    expect(key == peer->key || key == peer->key + 1, "a key of the peer's");
+    return (uint32_t)(address - memory_on(peer, key - peer->key + 1).base - (SLOT - 1) * SIZE);
 }
 
 static void place(struct end *peer, uint32_t key, uint64_t address, const uint8_t *bytes, uint32_t length) {
@@ -61,7 +78,7 @@ static void place(struct end *peer, uint32_t key, uint64_t address, const uint8_
     struct fordlinnet_answer a = fordlinnet_place(&peer->group, SLOT, offset, bytes, length);
     expect(a.said == FORDLINNET_ACCEPTED, "the bytes are placed");
     expect(fordlinnet_place_direct(&peer->group, SLOT, offset, bytes, length) == 0, "the small answer says the same");
-    printf("%s: %u bytes are placed\n", peer->name, (unsigned)length);
+    printf("%s: %u bytes are placed by key %u\n", peer->name, (unsigned)length, (unsigned)key);
 }
 
 /* Field by field: what lies between the fields is nobody's. */
@@ -227,15 +244,19 @@ static void set_up(void) {
 static struct fordlinnet_link_answer cross(struct end *peer, uint8_t link, struct fordlinnet_link_answer a) {
     struct fordlinnet_link_answer h;
     expect(a.made, "a link message is made");
-    h = fordlinnet_link_message(&peer->group, link, a.message, sizeof a.message);
-    expect(h.said == FORDLINNET_LINK_HEARD, "a link message is heard");
+    h = fordlinnet_link_message(&peer->group, link, a.message, sizeof a.message, peer->moved, sizeof peer->moved);
+    expect(h.said == FORDLINNET_LINK_HEARD && h.count == 0, "a link message is heard");
     printf("%s: link message %u over link %u, fate %u, stage %u\n", peer->name, (unsigned)h.fields.kind, (unsigned)link, (unsigned)h.fate,
            (unsigned)h.links.exchange.stage);
     return h;
 }
 
+static struct fordlinnet_link_answer link_send(struct end *me, uint8_t link, struct fordlinnet_fields fields) {
+    return fordlinnet_link_send(&me->group, link, fields, me->moved, sizeof me->moved);
+}
+
 static struct fordlinnet_link_answer say(struct end *me, uint8_t link, struct fordlinnet_fields fields) {
-    struct fordlinnet_link_answer a = fordlinnet_link_send(&me->group, link, fields);
+    struct fordlinnet_link_answer a = link_send(me, link, fields);
     expect(a.said == FORDLINNET_LINK_SENT && a.made && a.message[0] == fields.kind, "a link message is sent");
     return a;
 }
@@ -255,28 +276,63 @@ static void link_messages(void) {
     a = say(&left, LINK, test);
     h = cross(&right, LINK, a);
     expect(h.made && h.message[3] == 0x80 && h.fields.values[1] == 7 && h.fields.values[2] == 8, "a reply to TEST LINK");
-    a = fordlinnet_link_message(&right.group, LINK, a.message, 43);
+    a = fordlinnet_link_message(&right.group, LINK, a.message, 43, right.moved, sizeof right.moved);
     expect(a.said == FORDLINNET_REFUSED && a.refusal == FORDLINNET_MALFORMED && !a.made, "43 bytes are no link message");
-    a = fordlinnet_link_send(&left.group, LINK, no_kind);
+    a = link_send(&left, LINK, no_kind);
     expect(a.said == FORDLINNET_UNKNOWN && !a.made, "05 is no named kind");
-    a = fordlinnet_link_send(&right.group, LINK, added);
+    a = link_send(&right, LINK, added);
     expect(a.said == FORDLINNET_REFUSED && a.refusal == FORDLINNET_BARRED, "a reply that nobody asked for");
 
     cross(&right, LINK, say(&left, LINK, add));
-    a = fordlinnet_link_send(&left.group, 2, confirm);
+    a = link_send(&left, OTHER, confirm);
     expect(a.said == FORDLINNET_REFUSED && a.refusal == FORDLINNET_BARRED, "CONFIRM LINK before the reply to ADD LINK");
     h = cross(&left, LINK, say(&right, LINK, remove));
     expect(h.fate == FORDLINNET_QUEUED && left.group.links.queue.count == 1, "a DELETE LINK waits");
     cross(&left, LINK, say(&right, LINK, added));
-    cross(&right, 2, say(&left, 2, confirm));
-    a = say(&right, 2, confirmed);
+    cross(&right, OTHER, say(&left, OTHER, confirm));
+    a = say(&right, OTHER, confirmed);
     expect(right.group.links.active[1], "link 2 is active at the client");
-    h = cross(&left, 2, a);
+    h = cross(&left, OTHER, a);
     expect(left.group.links.active[1] && left.group.links.exchange.stage == 0, "link 2 is active at the server");
     expect(h.up.some && h.up.link == LINK && h.up.fields.kind == FORDLINNET_DELETE_LINK && h.up.fate == FORDLINNET_TAKEN,
            "the DELETE LINK is taken up");
     expect(left.group.links.queue.count == 0, "none waits");
     printf("link 2 is active; a DELETE LINK is taken up\n");
+}
+
+/* Link 1 is down at one end: its connection moves to link 2, and the message with F goes over link 2. Every message before it was heard, so
+ * that it names the last one heard and changes nothing there. */
+static void moves(struct end *me, struct end *peer) {
+    struct fordlinnet_link_answer a = fordlinnet_link_change(&me->group, LINK, false, me->moved, sizeof me->moved - 1);
+    struct fordlinnet_record before = peer->table[SLOT - 1];
+    struct fordlinnet_answer h;
+    expect(a.said == FORDLINNET_REFUSED && a.refusal == FORDLINNET_WRONG_SIZES && me->group.links.active[LINK - 1], "room for S messages");
+    expect(me->table[SLOT - 1].id.link == LINK, "a refused call moves nothing");
+    a = change(me, LINK, false);
+    expect(a.said == FORDLINNET_LINK_CHANGED && a.count == 1 && me->table[SLOT - 1].id.link == OTHER, "the connection moves");
+    printf("%s: link %d is down, %u message with F, the connection is on link %u\n", me->name, LINK, (unsigned)a.count,
+           (unsigned)me->table[SLOT - 1].id.link);
+    h = hear(peer, me->moved, FORDLINNET_MESSAGE_LENGTH);
+    expect(h.said == FORDLINNET_HEARD && h.moved == 0 && !h.made && same_record(before, peer->table[SLOT - 1]), "F changes nothing");
+    printf("%s: heard F, state %u\n", peer->name, (unsigned)h.state);
+}
+
+/* Both ends move; then bytes go on by the peer's key on link 2. A message with F that comes after them costs the connection, so that a copy
+ * hears it. */
+static void failover(void) {
+    struct end copy;
+    struct fordlinnet_answer a;
+    moves(&left, &right);
+    moves(&right, &left);
+    a = send(&left, "by another link");
+    expect(a.said == FORDLINNET_SENT && a.n == 15 && a.first.key == memory_on(&right, OTHER).key, "by link 2's key");
+    carry(&right, a, text("by another link"));
+    copy = right;
+    copy.group.table = copy.table;
+    a = hear(&copy, left.moved, FORDLINNET_MESSAGE_LENGTH);
+    expect(a.said == FORDLINNET_HEARD && a.state == FORDLINNET_PEER_ABORT_WAIT && a.made, "F after a later message");
+    printf("%s: F heard too late, state %u\n", copy.name, (unsigned)a.state);
+    read_all(&right, "by another link");
 }
 
 /* A connection that is aborted is freed. */
@@ -340,6 +396,7 @@ int main(void) {
     pool_and_gauge();
     set_up();
     link_messages();
+    failover();
 
     a = fordlinnet_shutdown(&left.group, SLOT);
     expect(a.said == FORDLINNET_ACCEPTED && a.made, "D is sent");

@@ -7,12 +7,24 @@
  * bytes, records and memory it is lent. Asked of the caller is only what C's types cannot say:
  *
  *   - a pointer is valid for its length, and not null even where that is 0; a table's is aligned as its struct is;
- *   - memory, table and out bytes overlap neither each other nor bytes lent for reading, and no other thread touches them meanwhile;
+ *   - memory, table and out bytes, a link call's buffer among them, overlap neither each other nor bytes lent for reading, and no other
+ *     thread touches them meanwhile;
  *   - a bool handed in, in a record or in links too, is 0 or 1.
  *
  * A refused call leaves memory, table, links and out bytes as they were, and its answer has said == FORDLINNET_REFUSED and the number in
  * refusal. What a message's bytes are for (made == true: 44 bytes in message) is the caller's: they go to the peer over the
  * connection's link, and a link message's reply over the link that it came from.
+ *
+ * Failover (RFC 7609, 4.6). Where link change, link message or link send takes links down, each open, coherent connection on them moves to
+ * the lowest-numbered active link, which its record then names. For each that did not send A a message with F stands in the call's buffer,
+ * and the caller puts it on the new link
+ *
+ *   - after the connection's writes on the old link, bytes and messages, are done or were put again in order;
+ *   - before any later message of the connection.
+ *
+ * F carries the number of the last message made, and the peer aborts the connection where it heard less, or more.
+ * Where no link is active connections stay; once one is, setting theirs active and down again moves them. An open is given a key and an
+ * address for each of the four links, and after a move placings have the new link's: keys heard in link messages later are not kept.
  */
 #ifndef FORDLINNET_H
 #define FORDLINNET_H
@@ -29,19 +41,29 @@ extern "C" {
 
 /* What a command asks (fordlinnet_command.number). Any other number: the answer says FORDLINNET_UNKNOWN, and nothing changes. */
 enum {
-    FORDLINNET_OPEN = 1,         /* slot, opening */
-    FORDLINNET_FREE = 2,         /* slot */
-    FORDLINNET_LINK_CHANGE = 3,  /* link, up */
-    FORDLINNET_SAMPLE = 4,       /* link, ms */
-    FORDLINNET_SEND = 5,         /* slot; bytes */
-    FORDLINNET_URGENT_SEND = 6,  /* slot; bytes */
-    FORDLINNET_PLACE = 7,        /* slot, offset; bytes */
-    FORDLINNET_READ = 8,         /* slot; out */
-    FORDLINNET_SHUTDOWN = 9,     /* slot */
-    FORDLINNET_CLOSE = 10,       /* slot */
-    FORDLINNET_ABORT = 11,       /* slot */
-    FORDLINNET_HEAR = 12         /* bytes */
+    FORDLINNET_OPEN = 1,        /* slot, opening */
+    FORDLINNET_FREE = 2,        /* slot */
+    FORDLINNET_SAMPLE = 4,      /* link, ms */
+    FORDLINNET_SEND = 5,        /* slot; bytes */
+    FORDLINNET_URGENT_SEND = 6, /* slot; bytes */
+    FORDLINNET_PLACE = 7,       /* slot, offset; bytes */
+    FORDLINNET_READ = 8,        /* slot; out */
+    FORDLINNET_SHUTDOWN = 9,    /* slot */
+    FORDLINNET_CLOSE = 10,      /* slot */
+    FORDLINNET_ABORT = 11,      /* slot */
+    FORDLINNET_HEAR = 12        /* bytes */
 };
+
+/* What a command on the links asks (fordlinnet_link_command.number). Any other number, or a kind to send that is none of the messages':
+ * the answer says FORDLINNET_UNKNOWN, and nothing changes. */
+enum {
+    FORDLINNET_LINK_CHANGE = 3,   /* link, up */
+    FORDLINNET_LINK_MESSAGE = 13, /* link; bytes */
+    FORDLINNET_LINK_SEND = 14     /* link, fields */
+};
+
+/* The bytes of every message, CDC and link messages alike. */
+enum { FORDLINNET_MESSAGE_LENGTH = 44 };
 
 /* What an answer says, and the fields that then hold something; all others are zero. In every answer of a group's call `links` holds the
  * links as they are now, and `message` the 44 bytes where `made`. */
@@ -60,12 +82,14 @@ enum {
     FORDLINNET_RETURNED = 11, /* pool: the block's units are free */
     FORDLINNET_ANSWERED = 12, /* set-up: see fordlinnet_setup_answer */
     FORDLINNET_LINK_HEARD = 13, /* link message: see fordlinnet_link_answer */
-    FORDLINNET_LINK_SENT = 14   /* link send: the same */
+    FORDLINNET_LINK_SENT = 14,  /* link send: the same */
+    FORDLINNET_LINK_CHANGED = 15 /* link change: count */
 };
 
 /* The refusals of a group's calls and of the pool's, each given exactly when: */
 enum {
-    FORDLINNET_WRONG_SIZES = 1,    /* S, N, the memory's length or the table's is wrong */
+    FORDLINNET_WRONG_SIZES = 1,    /* S, N, the memory's length or the table's is wrong; in the calls on links, the buffer has less than
+                                      44 x S bytes */
     FORDLINNET_NOT_OPEN = 2,       /* slot outside 1 to S, or closed (for open: outside only) */
     FORDLINNET_INCOHERENT = 3,     /* the open record is not coherent; pool: books with blocks that overlap, leave the pool, have another
                                       size or start off a multiple of theirs */
@@ -76,7 +100,7 @@ enum {
     FORDLINNET_STATE_FORBIDS = 7,  /* the state forbids: a send of any kind after D, C or A sent or C heard; place after A sent or D or C
                                       heard; read after C or A sent; shutdown after D, C or A sent; close after C or A sent; abort after A
                                       sent; free outside PeerAbortWait */
-    FORDLINNET_CURSOR_RULE = 8,    /* a cursor rule of hear is broken */
+    FORDLINNET_CURSOR_RULE = 8,    /* a cursor rule of hear is broken; messages with A or F are exempt */
     FORDLINNET_NOT_FREE = 9,       /* a placed byte is outside the data or not free */
     FORDLINNET_ALREADY_OPEN = 10,  /* open: slot already open */
     FORDLINNET_TOKEN_HELD = 11,    /* open: own token held by another open slot */
@@ -85,8 +109,8 @@ enum {
     FORDLINNET_NO_LINK = 13,       /* link number outside 1 to 4 */
     FORDLINNET_CARRIED_LINK = 14,  /* a carried link number acted on is outside 1 to 4 */
     FORDLINNET_BARRED = 15,        /* a fifth queued message, or a link send barred or replying unasked */
-    FORDLINNET_NOT_NEXT = 16,      /* hear: the sequence number is not the last heard plus one; messages with A, and any after A was sent,
-                                      are exempt */
+    FORDLINNET_NOT_NEXT = 16,      /* hear: the sequence number is not the last heard plus one; messages with A or F, and any after A was
+                                      sent, are exempt */
     FORDLINNET_NO_SAMPLE = 17,     /* sample: above 60,000 milliseconds */
     FORDLINNET_NO_SIZE = 18,       /* pool: not 1, 2, 4, 8, 16, 32 or 64 units */
     FORDLINNET_NO_BLOCK = 19,      /* pool: no block of that size is wholly free and starts at a multiple of it */
@@ -277,7 +301,6 @@ struct fordlinnet_command {
     uint32_t offset;
     uint32_t ms;
     uint8_t link;
-    bool up;
     struct fordlinnet_opening opening;
 };
 
@@ -321,14 +344,24 @@ struct fordlinnet_taken_up {
     struct fordlinnet_fields fields;
 };
 
-/* The answer of link message and link send; what `said` does not name is zero. Link message names its fate and its fields, and the reply
- * where one is made; both name a message taken up when an exchange ends. */
+/* One of the calls on the links by its number; what the number does not name is not looked at. */
+struct fordlinnet_link_command {
+    uint32_t number;
+    uint8_t link;
+    bool up;
+    struct fordlinnet_fields fields;
+};
+
+/* The answer of link change, link message and link send; what `said` does not name is zero. Link message names its fate and its fields, and
+ * the reply where one is made; link message and link send name a message taken up when an exchange ends; all three how many messages with F
+ * stand at the front of the buffer, 44 bytes each, in slot order (link send: always 0). */
 struct fordlinnet_link_answer {
-    uint32_t said; /* FORDLINNET_UNKNOWN, FORDLINNET_REFUSED, FORDLINNET_LINK_HEARD or FORDLINNET_LINK_SENT */
+    uint32_t said; /* FORDLINNET_UNKNOWN, _REFUSED, _LINK_HEARD, _LINK_SENT or _LINK_CHANGED */
     uint32_t refusal;
     uint32_t fate;
     struct fordlinnet_fields fields;
     struct fordlinnet_taken_up up;
+    uint32_t count;
     bool made;
     uint8_t message[44]; /* zeros where none is made */
     struct fordlinnet_links links;
@@ -462,8 +495,8 @@ struct fordlinnet_hear_answer {
 
 /* THE PROVED FUNCTIONS */
 
-/* Makes the call that the command names. Every call of a connection and of management but gather, link message and link send;
- * below each has a function of its own. */
+/* Makes the call that the command names. Every call of a connection and of management but gather, link change, link message and link
+ * send; below each has a function of its own. */
 struct fordlinnet_answer fordlinnet_make(uint32_t s, uint32_t n, uint8_t *memory, size_t memory_length, struct fordlinnet_record *table,
                                          size_t table_length, struct fordlinnet_links links, struct fordlinnet_command command,
                                          const uint8_t *bytes, size_t bytes_length, uint8_t *out, size_t out_length);
@@ -503,11 +536,12 @@ struct fordlinnet_gathered fordlinnet_make_gather(uint32_t s, uint32_t n, const 
 struct fordlinnet_piece fordlinnet_next_piece(const uint8_t *head, size_t head_length, const uint8_t *body, size_t body_length,
                                               struct fordlinnet_record found, uint32_t n, uint32_t k);
 
-/* Link message and link send, which see the links alone. A kind that is none of the messages': the answer says FORDLINNET_UNKNOWN, and
- * nothing changes. */
-struct fordlinnet_link_answer fordlinnet_make_link_message(struct fordlinnet_links links, uint8_t link, const uint8_t *bytes,
-                                                           size_t bytes_length);
-struct fordlinnet_link_answer fordlinnet_make_link_send(struct fordlinnet_links links, uint8_t link, struct fordlinnet_fields fields);
+/* Makes the call on the links that the command names. Of the table it changes at most the links of records; of the memory only the length
+ * is looked at. The messages with F go to the front of out; its other bytes stay. */
+struct fordlinnet_link_answer fordlinnet_make_link(uint32_t s, uint32_t n, const uint8_t *memory, size_t memory_length,
+                                                   struct fordlinnet_record *table, size_t table_length, struct fordlinnet_links links,
+                                                   struct fordlinnet_link_command command, const uint8_t *bytes, size_t bytes_length,
+                                                   uint8_t *out, size_t out_length);
 
 /* What a console shows of a link; of a number outside 1 to 4 as of a link with no sample. */
 struct fordlinnet_view fordlinnet_view_link(struct fordlinnet_links links, uint8_t link);
@@ -532,7 +566,8 @@ struct fordlinnet_setup_answer fordlinnet_make_setup(struct fordlinnet_settings 
  * is i. */
 struct fordlinnet_record fordlinnet_shape_record(uint32_t one);
 struct fordlinnet_links fordlinnet_shape_links(uint32_t one);
-struct fordlinnet_command fordlinnet_shape_command(uint32_t one);
+struct fordlinnet_command fordlinnet_shape_command(void);
+struct fordlinnet_link_command fordlinnet_shape_link_command(uint32_t one);
 struct fordlinnet_answer fordlinnet_shape_answer(uint32_t one);
 struct fordlinnet_link_answer fordlinnet_shape_link_answer(uint32_t one);
 struct fordlinnet_gathered fordlinnet_shape_gathered(uint32_t one);
@@ -601,30 +636,54 @@ static inline struct fordlinnet_answer fordlinnet_free(struct fordlinnet_group *
     return fordlinnet_call(g, fordlinnet_command_of(FORDLINNET_FREE, slot), 0, 0, 0, 0);
 }
 
-/* Sets a link, active or down; one that goes down loses its gauge, and ends an exchange that it is part of. Refused with 13. */
-static inline struct fordlinnet_answer fordlinnet_link_change(struct fordlinnet_group *g, uint8_t link, bool up) {
-    struct fordlinnet_command c = fordlinnet_command_of(FORDLINNET_LINK_CHANGE, 0);
+/* The calls on the links. Each is lent a buffer of at least 44 x S bytes, apart from memory and table, or is refused with 1; what `count`
+ * says of it is sent over the new link as the head of this file has it: after all writes on the old link are done or were put again in
+ * order, else the peer aborts the connection; before any later message. Pieces of a gather found before the call still name the old link,
+ * as placings handed out before it do. */
+
+static inline struct fordlinnet_link_command fordlinnet_link_command_of(uint32_t number, uint8_t link) {
+    struct fordlinnet_link_command c;
+    size_t i;
+    c.number = number;
     c.link = link;
+    c.up = false;
+    c.fields.kind = 0;
+    for (i = 0; i < 12; i++) c.fields.values[i] = 0;
+    return c;
+}
+
+static inline struct fordlinnet_link_answer fordlinnet_link_call(struct fordlinnet_group *g, struct fordlinnet_link_command c,
+                                                                 const uint8_t *bytes, size_t length, uint8_t *out, size_t room) {
+    uint8_t none[1] = {0}, nowhere[1] = {0};
+    struct fordlinnet_link_answer a =
+        fordlinnet_make_link(g->s, g->n, g->memory, g->memory_length, g->table, g->table_length, g->links, c, length ? bytes : none,
+                             length, room ? out : nowhere, room);
+    g->links = a.links;
+    return a;
+}
+
+/* Sets a link, active or down; one that goes down loses its gauge, ends an exchange that it is part of, and its connections move. Refused
+ * with 1, 13. */
+static inline struct fordlinnet_link_answer fordlinnet_link_change(struct fordlinnet_group *g, uint8_t link, bool up, uint8_t *out,
+                                                                   size_t room) {
+    struct fordlinnet_link_command c = fordlinnet_link_command_of(FORDLINNET_LINK_CHANGE, link);
     c.up = up;
-    return fordlinnet_call(g, c, 0, 0, 0, 0);
+    return fordlinnet_link_call(g, c, 0, 0, out, room);
 }
 
-/* Takes a link message's bytes: its fate by the exchange that runs, the reply where one is due at once, what it does to the links.
- * Refused with 13, 6, 4, 14, 15. */
+/* Takes a link message's bytes: its fate by the exchange that runs, the reply where one is due at once, what it does to the links, and the
+ * connections that move. Refused with 1, 13, 6, 4, 14, 15. */
 static inline struct fordlinnet_link_answer fordlinnet_link_message(struct fordlinnet_group *g, uint8_t link, const uint8_t *bytes,
-                                                                    size_t length) {
-    uint8_t none[1] = {0};
-    struct fordlinnet_link_answer a = fordlinnet_make_link_message(g->links, link, length ? bytes : none, length);
-    g->links = a.links;
-    return a;
+                                                                    size_t length, uint8_t *out, size_t room) {
+    return fordlinnet_link_call(g, fordlinnet_link_command_of(FORDLINNET_LINK_MESSAGE, link), bytes, length, out, room);
 }
 
-/* Makes a link message's bytes, of its kind and values. Refused with 13, 6, 14, 15. */
-static inline struct fordlinnet_link_answer fordlinnet_link_send(struct fordlinnet_group *g, uint8_t link,
-                                                                 struct fordlinnet_fields fields) {
-    struct fordlinnet_link_answer a = fordlinnet_make_link_send(g->links, link, fields);
-    g->links = a.links;
-    return a;
+/* Makes a link message's bytes, of its kind and values. Refused with 1, 13, 6, 14, 15. */
+static inline struct fordlinnet_link_answer fordlinnet_link_send(struct fordlinnet_group *g, uint8_t link, struct fordlinnet_fields fields,
+                                                                 uint8_t *out, size_t room) {
+    struct fordlinnet_link_command c = fordlinnet_link_command_of(FORDLINNET_LINK_SEND, link);
+    c.fields = fields;
+    return fordlinnet_link_call(g, c, 0, 0, out, room);
 }
 
 /* Hands a link's gauge an answer time of TEST LINK in milliseconds. Refused with 13, 6, 17. */
@@ -706,7 +765,8 @@ static inline struct fordlinnet_read_answer fordlinnet_read_direct(struct fordli
                                 room ? out : none, room, message, 44);
 }
 
-/* Takes a message from the peer, for the slot whose token it carries. Refused with 1, 4, 5, 3, 6, 16, 8. */
+/* Takes a message from the peer, for the slot whose token it carries. Refused with 1, 4, 5, 3, 6, 16, 8. One with F changes nothing if it
+ * names the last message heard; else a message is lost, and an abort message is made, state FORDLINNET_PEER_ABORT_WAIT. */
 static inline struct fordlinnet_answer fordlinnet_hear(struct fordlinnet_group *g, const uint8_t *bytes, size_t length) {
     return fordlinnet_call(g, fordlinnet_command_of(FORDLINNET_HEAR, 0), bytes, length, 0, 0);
 }

@@ -92,7 +92,6 @@ AT(command, slot, 4, 4);
 AT(command, offset, 8, 4);
 AT(command, ms, 12, 4);
 AT(command, link, 16, 1);
-AT(command, up, 17, 1);
 AT(command, opening, 24, 88);
 SIZE(placing, 24);
 AT(placing, key, 0, 4);
@@ -122,15 +121,21 @@ AT(taken_up, some, 0, 1);
 AT(taken_up, link, 1, 1);
 AT(taken_up, fate, 4, 4);
 AT(taken_up, fields, 8, 104);
-SIZE(link_answer, 576);
+SIZE(link_command, 112);
+AT(link_command, number, 0, 4);
+AT(link_command, link, 4, 1);
+AT(link_command, up, 5, 1);
+AT(link_command, fields, 8, 104);
+SIZE(link_answer, 584);
 AT(link_answer, said, 0, 4);
 AT(link_answer, refusal, 4, 4);
 AT(link_answer, fate, 8, 4);
 AT(link_answer, fields, 16, 104);
 AT(link_answer, up, 120, 112);
-AT(link_answer, made, 232, 1);
-AT(link_answer, message, 233, 44);
-AT(link_answer, links, 280, 296);
+AT(link_answer, count, 232, 4);
+AT(link_answer, made, 236, 1);
+AT(link_answer, message, 237, 44);
+AT(link_answer, links, 288, 296);
 SIZE(gathered, 608);
 AT(gathered, answer, 0, 440);
 AT(gathered, found, 440, 168);
@@ -338,7 +343,6 @@ static void see_command(struct fordlinnet_command v) {
     NUMBER(v.offset);
     NUMBER(v.ms);
     NUMBER(v.link);
-    flag(v.up);
     NUMBER(v.opening.own);
     NUMBER(v.opening.peer);
     NUMBER(v.opening.link);
@@ -384,6 +388,14 @@ static void fields_of(struct fordlinnet_fields v) {
     for (i = 0; i < 12; i++) NUMBER(v.values[i]);
 }
 
+static void see_link_command(struct fordlinnet_link_command v) {
+    begin("link_command");
+    NUMBER(v.number);
+    NUMBER(v.link);
+    flag(v.up);
+    fields_of(v.fields);
+}
+
 static void see_link_answer(struct fordlinnet_link_answer v) {
     begin("link_answer");
     NUMBER(v.said);
@@ -394,6 +406,7 @@ static void see_link_answer(struct fordlinnet_link_answer v) {
     NUMBER(v.up.link);
     NUMBER(v.up.fate);
     fields_of(v.up.fields);
+    NUMBER(v.count);
     flag(v.made);
     bytes(v.message, 44);
     links(v.links);
@@ -520,10 +533,11 @@ int main(void) {
     see_piece(fordlinnet_shape_piece());
     see_view(fordlinnet_shape_view());
     see_pool_answer(fordlinnet_shape_pool_answer());
+    see_command(fordlinnet_shape_command());
     for (one = 0; one <= fields + 1; one++) {
         see_record(fordlinnet_shape_record(one));
         see_links(fordlinnet_shape_links(one));
-        see_command(fordlinnet_shape_command(one));
+        see_link_command(fordlinnet_shape_link_command(one));
         see_answer(fordlinnet_shape_answer(one));
         see_link_answer(fordlinnet_shape_link_answer(one));
         see_answer(fordlinnet_shape_gathered(one).answer);

@@ -15,6 +15,7 @@
 pub mod clc;
 pub mod compare;
 pub mod count;
+pub mod failover;
 pub mod gauge;
 pub mod generate;
 pub mod links;

@@ -303,6 +303,9 @@ pub struct LinkAnswer {
     pub fate: Fate,
     pub reply: Option<Bytes44>,
     pub taken_up: Option<TakenUp>,
+    /// The F messages in the buffer (2026-13). "A reply stays in the answer and is
+    /// not counted."
+    pub count: usize,
 }
 
 /// What link send answers.
@@ -310,6 +313,8 @@ pub struct LinkAnswer {
 pub struct LinkSent {
     pub bytes: Bytes44,
     pub taken_up: Option<TakenUp>,
+    /// As in link message; 0 by the table of 2026-13's part 1.
+    pub count: usize,
 }
 
 /// "The link field of 01, 02, 03 and 04, but not of an 02 request from the
@@ -341,17 +346,22 @@ fn mtu_invalid(fields: &Fields) -> bool {
 }
 
 impl Group {
-    /// **Link change** sets one link. Tests 13.
-    pub fn link_change(&mut self, link: u8, active: bool) -> Result<(), u8> {
+    /// **Link change** sets one link. Tests 1, 13. It names the count of F
+    /// messages alone (2026-13).
+    pub fn link_change(&mut self, link: u8, active: bool, buffer: &mut [u8]) -> Result<usize, u8> {
+        if self.sizes_or_buffer_wrong(buffer.len()) {
+            return Err(1);
+        }
         if !link_in_range(link) {
             return Err(13);
         }
+        let before = self.links;
         if active {
             self.links[usize::from(link) - 1] = true;
         } else {
             self.set_down(&[link]);
         }
-        Ok(())
+        Ok(self.fail_over(&before, buffer))
     }
 
     /// 6, but "not for 01 on the link being added".
@@ -387,9 +397,17 @@ impl Group {
         acts && acts_outside(fields, self.role.other())
     }
 
-    /// **Link message** (link, bytes). Tests "13, 6, length 44 (4), then optional,
-    /// else 4, 14, 15".
-    pub fn link_message(&mut self, link: u8, bytes: &[u8]) -> Result<LinkAnswer, u8> {
+    /// **Link message** (link, bytes). Tests "1, 13, 6, length 44, then optional,
+    /// else 4, 14, 15". "An optional message is not refused and counts 0."
+    pub fn link_message(
+        &mut self,
+        link: u8,
+        bytes: &[u8],
+        buffer: &mut [u8],
+    ) -> Result<LinkAnswer, u8> {
+        if self.sizes_or_buffer_wrong(buffer.len()) {
+            return Err(1);
+        }
         if !link_in_range(link) {
             return Err(13);
         }
@@ -403,6 +421,7 @@ impl Group {
                 fate: Fate::Dropped,
                 reply: None,
                 taken_up: None,
+                count: 0,
             });
         }
         let fields = Fields::read(&bytes).ok_or(4u8)?;
@@ -416,6 +435,7 @@ impl Group {
         if fate == Fate::Queued && self.queue.is_full() {
             return Err(15);
         }
+        let before = self.links;
         let from = self.role.other();
         let mut reply = None;
         let mut taken_up = None;
@@ -432,6 +452,7 @@ impl Group {
             fate,
             reply: reply.map(|reply| reply.write()),
             taken_up,
+            count: self.fail_over(&before, buffer),
         })
     }
 
@@ -473,9 +494,17 @@ impl Group {
         }
     }
 
-    /// **Link send** (link, kind, values). Tests 13, 6, 14, 15.
-    pub fn link_send(&mut self, link: u8, fields: &Fields) -> Result<LinkSent, u8> {
+    /// **Link send** (link, kind, values). Tests 1, 13, 6, 14, 15.
+    pub fn link_send(
+        &mut self,
+        link: u8,
+        fields: &Fields,
+        buffer: &mut [u8],
+    ) -> Result<LinkSent, u8> {
         let fields = fields.reduced();
+        if self.sizes_or_buffer_wrong(buffer.len()) {
+            return Err(1);
+        }
         if !link_in_range(link) {
             return Err(13);
         }
@@ -488,6 +517,7 @@ impl Group {
         if self.send_barred(link, &fields) {
             return Err(15);
         }
+        let before = self.links;
         let next = self.exchange.next_if_due(&fields, self.role, false, link);
         let taken_up = match next {
             Some(next) => self.go_on(next),
@@ -499,6 +529,7 @@ impl Group {
         Ok(LinkSent {
             bytes: fields.write(),
             taken_up,
+            count: self.fail_over(&before, buffer),
         })
     }
 

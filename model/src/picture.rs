@@ -9,6 +9,7 @@ mod svg;
 
 use std::ops::Range;
 
+use crate::failover::{failover_message, tells};
 use crate::generate::message_of;
 use crate::replay::{lines, push_hex, skipped, Answer, Line, Replay};
 use crate::smcr::*;
@@ -52,6 +53,12 @@ enum What {
     },
     /// Something of the group: text in the middle.
     Middle { text: String, refused: bool },
+    /// A call on a link that moves an end: text in the middle, and beside each line
+    /// where its end goes and what it tells.
+    Move {
+        text: String,
+        sides: [Option<(String, String)>; 2],
+    },
 }
 
 /// An end as it stands after a step.
@@ -59,6 +66,8 @@ enum What {
 struct Shot {
     record: Connection,
     element: Vec<u8>,
+    /// It moved to another link since its open.
+    moved: bool,
 }
 
 /// The slots drawn at the left and at the right, counted from 0. Where the left
@@ -118,7 +127,7 @@ fn find_ends(input: &[u8]) -> Ends {
     })
 }
 
-fn shot(group: &Group, index: usize) -> Shot {
+fn shot(group: &Group, index: usize, moved: bool) -> Shot {
     let n = group.size as usize;
     let element = group
         .memory
@@ -127,6 +136,7 @@ fn shot(group: &Group, index: usize) -> Shot {
     Shot {
         record: group.table.get(index).copied().unwrap_or_default(),
         element,
+        moved,
     }
 }
 
@@ -134,6 +144,7 @@ fn shot(group: &Group, index: usize) -> Shot {
 fn collect(input: &[u8], ends: Ends) -> (Vec<Row>, u32) {
     let mut rows: Vec<Row> = Vec::new();
     let mut size = 0;
+    let mut moved = [false; 2];
     replayed(input, |line, made, before, after| {
         size = after.size;
         let Some((call, answer)) = made else {
@@ -144,20 +155,32 @@ fn collect(input: &[u8], ends: Ends) -> (Vec<Row>, u32) {
             }
             return;
         };
-        let Some(what) = describe(call, answer, ends, before, after) else {
+        for side in 0..2 {
+            let record = |table: &[Connection]| table.get(ends[side]?).copied();
+            let (old, new) = (record(before), record(&after.table));
+            let (old, new) = (old.unwrap_or_default(), new.unwrap_or_default());
+            let kept = old.open && new.open && !matches!(call, Line::Record { .. });
+            moved[side] = kept && (moved[side] || old.link != new.link);
+        }
+        let shots = [0, 1].map(|side| ends[side].map(|index| shot(after, index, moved[side])));
+        let Some(what) = describe(call, answer, ends, before, after, &shots) else {
             return;
         };
         let step = Step {
             what,
-            ends: ends.map(|end| end.map(|index| shot(after, index))),
+            ends: shots,
             written: written(call, answer, ends, after),
         };
-        // What concerns the group goes into one row as long as nothing else happens.
+        // What concerns the group goes into one row as long as nothing else happens
+        // and the row has room.
         if let (Some(Row::Step(last)), What::Middle { text, .. }) = (rows.last_mut(), &step.what) {
             if let What::Middle { text: earlier, .. } = &mut last.what {
-                *earlier = format!("{earlier}; {text}");
-                last.ends = step.ends;
-                return;
+                let both = format!("{earlier}; {text}");
+                if draw::fits(&both) {
+                    *earlier = both;
+                    last.ends = step.ends;
+                    return;
+                }
             }
         }
         rows.push(Row::Step(step));
@@ -202,18 +225,36 @@ fn describe(
     ends: Ends,
     before: &[Connection],
     after: &Group,
+    shots: &[Option<Shot>; 2],
 ) -> Option<What> {
-    let refusal = match answer {
-        Answer::Refused(number) | Answer::RefusedRead(number, _) => {
-            Some(format!("refused {number}"))
-        }
-        _ => None,
-    };
+    if let Some(moves) = describe_moves(line, ends, before, after) {
+        return Some(moves);
+    }
+    let refusal = answer.refusal().map(|number| format!("refused {number}"));
     let refused = refusal.is_some();
     let makes = match message_of(answer).and_then(|bytes| Message::read(&bytes)) {
         Some(message) => format!("makes message {}", message.sequence),
         None => String::new(),
     };
+    // What a connection that moved places goes by another link's key.
+    let places = match answer {
+        Answer::Sent(sent) | Answer::Urgent(sent) if !sent.placings.is_empty() => {
+            let slot = |slot: u32| side_of(ends, slot).and_then(|side| shots[side].as_ref());
+            let shot = match line {
+                Line::Send { slot: own, .. } | Line::Urgent { slot: own, .. } => slot(*own),
+                _ => None,
+            };
+            match shot {
+                Some(shot) if shot.moved => {
+                    let (link, key) = (shot.record.link, sent.placings[0].key);
+                    format!("by link {link}, key {key}")
+                }
+                _ => String::new(),
+            }
+        }
+        _ => String::new(),
+    };
+    let makes = joined(&[&places, &makes]);
     let call = |slot: u32, text: String, below: String| {
         side_of(ends, slot).map(|side| What::Call {
             side,
@@ -237,7 +278,7 @@ fn describe(
             },
             refused: false,
         }),
-        (Line::Link { link, up }, _) => Some(What::Middle {
+        (Line::Link { link, up, .. }, _) => Some(What::Middle {
             text: format!("link {link} {}", if *up { "active" } else { "down" }),
             refused,
         }),
@@ -355,6 +396,38 @@ fn describe(
         }
         _ => None,
     }
+}
+
+/// A call on a link that moves one of the ends.
+fn describe_moves(line: &Line, ends: Ends, before: &[Connection], after: &Group) -> Option<What> {
+    if !matches!(line, Line::Link { .. } | Line::LinkMsg { .. }) {
+        return None;
+    }
+    let sides = ends.map(|end| {
+        let (old, new) = (before.get(end?)?, after.table.get(end?)?);
+        if old.link == new.link {
+            return None;
+        }
+        let tells = if tells(old) {
+            let told = Message::read(&failover_message(old))?;
+            format!("makes message {} with F", told.sequence)
+        } else {
+            "silent: A was sent".to_string()
+        };
+        Some((
+            format!("link {} \u{2192} link {}", old.link, new.link),
+            tells,
+        ))
+    });
+    let from = ends.into_iter().zip(&sides).find_map(|(end, side)| {
+        let old = before.get(end?)?;
+        side.as_ref().map(|_| old.link)
+    })?;
+    let text = match line {
+        Line::LinkMsg { link, .. } => format!("link message on link {link}: link {from} down"),
+        _ => format!("link {from} down"),
+    };
+    Some(What::Move { text, sides })
 }
 
 /// A message's sequence number, cursors and flags.

@@ -388,7 +388,7 @@ impl Message {
 /// the marks we have sent; P, U, R and F stay zero for now. Making one sets T
 /// to C and uses the next sequence number. [...] after 65,535 comes 0." 2026-04:
 /// from an urgent send taken whole on "our messages carry flags P and U until R
-/// reaches or passes" its place.
+/// reaches or passes" its place. 2026-13 excepts F messages, which `failover` makes.
 fn make_message(c: &mut Connection) -> Bytes44 {
     let urgent = c.urgent_sent.is_some();
     make_message_with(c, urgent, urgent)
@@ -413,7 +413,7 @@ fn make_message_with(c: &mut Connection, pending: bool, present: bool) -> Bytes4
     message.write()
 }
 
-/// Torn, reset, a heard abort and the call abort make an abort message: the abort
+/// Torn, reset, a heard abort, a wrong F and the call abort make an abort message: the abort
 /// mark is set, and the message carries it.
 fn make_abort_message(c: &mut Connection) -> Bytes44 {
     c.abort_sent = true;
@@ -684,7 +684,8 @@ impl Group {
         Ok(self.copy_and_update(index, out))
     }
 
-    /// **Hear**, message bytes. Tests 1, 4, 5, 3, 6, 16, 8 in this order.
+    /// **Hear**, message bytes. Tests 1, 4, 5, 3, 6, 16, 8 in this order; 16 and 8
+    /// do not apply where F is on (2026-13).
     pub fn hear(&mut self, bytes: &[u8]) -> Result<Heard, u8> {
         if self.sizes_wrong() {
             return Err(1);
@@ -704,6 +705,9 @@ impl Group {
         }
         if c.abort_sent {
             return Ok(heard_without_change(c));
+        }
+        if message.failover {
+            return Ok(hear_failover(c, &message));
         }
         if not_next(c, &message) {
             return Err(16);
@@ -952,12 +956,29 @@ fn hear_abort(c: &mut Connection) -> Heard {
     }
 }
 
-/// "If we had sent A and this has none: accepted, no change."
+/// "If we had sent A and this has none: accepted, no change." So is an F message
+/// with the last number heard.
 fn heard_without_change(c: &Connection) -> Heard {
     Heard {
         moved: 0,
         state: state(c),
         message: None,
+    }
+}
+
+/// 2026-13: "has F, its number is the last heard: nothing: no field of the record
+/// changes"; "any other number: sets the abort mark, then makes an abort message:
+/// record and message are those of Abort". "The slot stays open, also where C was
+/// heard."
+fn hear_failover(c: &mut Connection, message: &Message) -> Heard {
+    if message.sequence == c.heard_sequence {
+        return heard_without_change(c);
+    }
+    let message = make_abort_message(c);
+    Heard {
+        moved: 0,
+        state: state(c),
+        message: Some(message),
     }
 }
 

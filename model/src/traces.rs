@@ -21,7 +21,7 @@ pub fn input() -> Vec<u8> {
         let count = if seed % 16 == 5 || seed % 8 == 3 {
             40
         } else {
-            1_500
+            1_100
         };
         part(&format!("traffic {seed}"), traffic::list(seed, count));
     }
@@ -29,7 +29,7 @@ pub fn input() -> Vec<u8> {
 }
 
 /// How far the second hostile list goes.
-const HOSTILE: usize = 3_000;
+const HOSTILE: usize = 1_000;
 /// Seeds of traffic with elements of 8, of 10,000, of 65,540 bytes, and small.
 const TRAFFIC: [u64; 10] = [1, 2, 3, 4, 5, 6, 7, 8, 9, 10];
 

@@ -18,15 +18,15 @@ fn answers(input: &str) -> Vec<String> {
 fn example() {
     let input =
         "group 1 10000 10000\nlink 1 1\nopen 1 5 16909060 1 10000 1 0 0 0 0 0 0 0 0\nshutdown 1\n";
-    let output = "group\nlink\nopen\nshutdown message FE2C0001010203040000000000000004000000000000\
+    let output = "group\nlink count 0 out -\nopen\nshutdown message FE2C0001010203040000000000000004000000000000\
                   00040080000000000000000000000000000000000000\n";
     assert_eq!(answer_all(input.as_bytes()), output.as_bytes());
 }
 
 #[test]
 fn last_line_without_its_end() {
-    assert_eq!(answers("link 1 1"), ["link"]);
-    assert_eq!(answers("link 1 1\n"), ["link"]);
+    assert_eq!(answers("link 1 1"), ["link count 0 out -"]);
+    assert_eq!(answers("link 1 1\n"), ["link count 0 out -"]);
     assert_eq!(answers("\n\n# nothing\n#\n"), Vec::<String>::new());
     assert_eq!(answers(""), Vec::<String>::new());
 }
@@ -37,10 +37,10 @@ fn the_group_before_the_first_group_line() {
     assert_eq!(answers("memory 0 9"), ["bad line"]);
     assert_eq!(
         answers(&format!("link 1 1\nopen 1 1 1 1 8 {AT}\nmemory 0 8")),
-        ["link", "open", "memory E2D4C3D900000000"]
+        ["link count 0 out -", "open", "memory E2D4C3D900000000"]
     );
     let beyond = format!("link 1 1\nopen 2 1 1 1 8 {AT}");
-    assert_eq!(answers(&beyond), ["link", "refused 2"]);
+    assert_eq!(answers(&beyond), ["link count 0 out -", "refused 2"]);
 }
 
 #[test]
@@ -56,7 +56,17 @@ fn lines_that_do_not_parse() {
         "Link 1 1",
         "links 1 1",
         "link 1",
-        "link 1 1 1",
+        "link 1 1 44 1",
+        "link 1 1 65601",
+        "link 1 1 -",
+        "linkmsg 1 - 44 1",
+        "linkmsg 1 - 65601",
+        "linksend 1 07:0,1,2 44 1",
+        "linksend 1 07:0,1,2 65601",
+        "links",
+        "links 1 0 0",
+        "links 1 0 0 2",
+        "links 1 0 0 0 0",
         "link 256 1",
         "link 1 2",
         "link -1 1",
@@ -111,12 +121,20 @@ fn lines_that_do_not_parse() {
 #[test]
 fn lines_that_parse() {
     for (line, answer) in [
-        ("link 0001 01", "link"),
+        ("link 0001 01", "link count 0 out -"),
         (
             "link 00000000000000000000000000000000000000000005 1",
-            "refused 13",
+            "refused 13 out -",
         ),
-        ("link 255 1", "refused 13"),
+        ("link 255 1", "refused 13 out -"),
+        ("link 1 1 44", "link count 0 out -"),
+        ("link 1 1 65600", "link count 0 out -"),
+        ("link 1 1 1", "refused 1 out -"),
+        ("link 5 1 43", "refused 1 out -"),
+        ("linkmsg 1 00 0", "refused 1 out -"),
+        ("linksend 9 07:0,1,2 0", "refused 1 out -"),
+        ("linksend 9 07:0,1,2", "refused 13 out -"),
+        ("links 1 0 01 0", "links"),
         ("send 4294967295 -", "refused 2"),
         ("read 1 0", "refused 2 out -"),
         ("read 1 3", "refused 2 out A5A5A5"),
@@ -126,7 +144,7 @@ fn lines_that_parse() {
         ("memory 8 0", "memory -"),
         ("memory 0 1", "memory 00"),
         ("group 0 4294967295 1048704", "group"),
-        ("linkmsg 1 00", "refused 6"),
+        ("linkmsg 1 00", "refused 6 out -"),
         ("free 1", "refused 2"),
     ] {
         assert_eq!(answers(line), [answer], "{line:?}");
@@ -148,7 +166,7 @@ fn table() {
         ("group 4294967295 8 8", 300),
     ] {
         let lines = answers(&format!(
-            "{group}\nlink 3 1\nrecord {count} {record}\nrecord {} {record}\ntable\n",
+            "{group}\nlinks 0 0 1 0\nrecord {count} {record}\nrecord {} {record}\ntable\n",
             count + 1
         ));
         assert_eq!(lines.len(), 4 + count + 8, "{group}");
@@ -185,8 +203,8 @@ fn what_calls_print() {
             "read 3 out 000000A5A5 message FE2C000000000002000000010000000700000000000000078000000000\
              000000000000000000000000000000",
             "linkmsg 07:0,72623859790382856,651345242494996240 taken reply 072C00800102030405060708090A0B0C0D0E0F10000000000000000000000000000000000000\
-             000000000000",
-            "linkmsg 07:1,72623859790382856,651345242494996240 taken reply -",
+             000000000000 count 0 out -",
+            "linkmsg 07:1,72623859790382856,651345242494996240 taken reply - count 0 out -",
             "poke",
             "torn out A5 message FE2C00010000000200000001000000070000000000000007802000000000000000\
              0000000000000000000000",

@@ -7,7 +7,7 @@ use model::smcr::*;
 /// One open slot whose peer's element has eight bytes, the second after base 100.
 fn group(offset: u32, written: i64) -> Group {
     let mut group = Group::fresh(1, 16, 16, 1);
-    group.link_change(3, true).unwrap();
+    group.link_change(3, true, &mut [0; 44 * 16]).unwrap();
     let opening = Opening {
         index: 2,
         keys: [1, 2, 77, 4],

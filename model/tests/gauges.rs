@@ -15,7 +15,7 @@ fn answers(input: &str) -> Vec<String> {
 
 fn group() -> Group {
     let mut group = Group::fresh(1, 8, 8, 1);
-    group.link_change(2, true).unwrap();
+    group.link_change(2, true, &mut [0; 44 * 16]).unwrap();
     group
 }
 
@@ -90,7 +90,7 @@ fn refusals() {
     assert!(group.sample(2, 60_000).is_ok());
     // A group of wrong sizes has gauges all the same.
     let mut wrong = Group::fresh(0, 0, 3, 7);
-    wrong.link_change(4, true).unwrap();
+    wrong.links[3] = true;
     assert!(wrong.sample(4, 1).is_ok());
 }
 
@@ -101,15 +101,15 @@ fn what_clears_a_gauge() {
     let heard = group.gauges[1];
     group.open(&Opening::at_base_0(1, 5, 6, 2, 8)).unwrap();
     assert_eq!(group.gauges[1], heard);
-    group.link_change(2, true).unwrap();
+    group.link_change(2, true, &mut [0; 44 * 16]).unwrap();
     assert_eq!(group.gauges[1], heard);
-    group.link_change(1, false).unwrap();
+    group.link_change(1, false, &mut [0; 44 * 16]).unwrap();
     assert_eq!(group.gauges[1], heard);
-    group.link_change(2, false).unwrap();
+    group.link_change(2, false, &mut [0; 44 * 16]).unwrap();
     assert_eq!(group.gauges[1], Gauge::default());
     // Down already: what was handed in is cleared too.
     group.gauges[1] = heard;
-    group.link_change(2, false).unwrap();
+    group.link_change(2, false, &mut [0; 44 * 16]).unwrap();
     assert_eq!(group.gauges[1].health(), Health::Unheard);
 }
 
@@ -152,7 +152,7 @@ fn replay_lines() {
     assert_eq!(
         lines[..9],
         [
-            "link",
+            "link count 0 out -",
             "health unheard",
             "sample steady 4024000000000000",
             "health steady 4024000000000000",

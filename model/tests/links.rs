@@ -48,26 +48,27 @@ fn the_pages_example() {
     let expected = [
         "group".to_string(),
         "role".to_string(),
-        "link".to_string(),
-        format!("linksend {add}"),
+        "link count 0 out -".to_string(),
+        format!("linksend {add} count 0 out -"),
         "links 1 0 0 0".to_string(),
         "role server".to_string(),
         "exchange 1 1 2".to_string(),
         empty.clone(),
-        "refused 15".to_string(),
-        "linkmsg 04:0,0,1,2,131072 queued reply -".to_string(),
-        format!("linkmsg 06:0,0,0,1,5,0,0,0,0,0,0,0 denied reply {denied}"),
-        "linkmsg 02:1,0,0,0,0,0,65,2,5,0 taken reply -".to_string(),
+        "refused 15 out -".to_string(),
+        "linkmsg 04:0,0,1,2,131072 queued reply - count 0 out -".to_string(),
+        format!("linkmsg 06:0,0,0,1,5,0,0,0,0,0,0,0 denied reply {denied} count 0 out -"),
+        "linkmsg 02:1,0,0,0,0,0,65,2,5,0 taken reply - count 0 out -".to_string(),
         "links 1 0 0 0".to_string(),
         "role server".to_string(),
         "exchange 2 1 2".to_string(),
         queued.clone(),
-        format!("linksend {confirm}"),
+        format!("linksend {confirm} count 0 out -"),
         "links 1 0 0 0".to_string(),
         "role server".to_string(),
         "exchange 4 1 2".to_string(),
         queued,
-        "linkmsg 01:1,0,0,0,0,2,0,4 taken reply - then 1 04:0,0,1,2,131072 taken".to_string(),
+        "linkmsg 01:1,0,0,0,0,2,0,4 taken reply - then 1 04:0,0,1,2,131072 taken count 0 out -"
+            .to_string(),
         "links 1 1 0 0".to_string(),
         "role server".to_string(),
         "exchange 0 0 0".to_string(),
@@ -260,7 +261,7 @@ fn reply(kind: u8, link: u64) -> Fields {
 }
 
 fn hear(group: &mut Group, link: u8, fields: &Fields) -> Result<LinkAnswer, u8> {
-    group.link_message(link, &fields.write())
+    group.link_message(link, &fields.write(), &mut [0; 44])
 }
 
 #[test]
@@ -268,8 +269,8 @@ fn an_add_at_both_ends() {
     let mut server = group(Role::Server, 0, 0, 0);
     let mut client = group(Role::Client, 0, 0, 0);
     let send = |from: &mut Group, to: &mut Group, link: u8, fields: Fields| {
-        let sent = from.link_send(link, &fields).unwrap();
-        let answer = to.link_message(link, &sent.bytes).unwrap();
+        let sent = from.link_send(link, &fields, &mut [0; 44]).unwrap();
+        let answer = to.link_message(link, &sent.bytes, &mut [0; 44]).unwrap();
         assert_eq!((answer.fate, answer.reply), (Fate::Taken, None));
         assert_eq!(from.exchange, to.exchange);
     };
@@ -286,7 +287,10 @@ fn an_add_at_both_ends() {
     send(&mut client, &mut server, 1, reply(ADD_LINK_CONTINUATION, 4));
     assert_eq!(client.exchange, exchange(2, 1, 4));
     // 01 goes over link 4, which is down; nothing else does.
-    assert_eq!(server.link_send(4, &Fields::zero(TEST_LINK)), Err(6));
+    assert_eq!(
+        server.link_send(4, &Fields::zero(TEST_LINK), &mut [0; 44]),
+        Err(6)
+    );
     send(&mut server, &mut client, 4, request(CONFIRM_LINK, 4));
     send(&mut client, &mut server, 4, reply(CONFIRM_LINK, 4));
     assert_eq!(client.exchange, Exchange::default());
@@ -306,21 +310,25 @@ fn a_delete_takes_the_link_down_at_its_end() {
     let mut server = group(Role::Server, 0, 0, 0);
     let mut client = group(Role::Client, 0, 0, 0);
     server.gauges[1].count = 1;
-    let sent = server.link_send(1, &request(DELETE_LINK, 2)).unwrap();
+    let sent = server
+        .link_send(1, &request(DELETE_LINK, 2), &mut [0; 44])
+        .unwrap();
     // Not when the server sends it, but when the reply is heard.
     assert_eq!(server.exchange, exchange(5, 1, 2));
     assert!(server.links[1]);
-    let answer = client.link_message(1, &sent.bytes).unwrap();
+    let answer = client.link_message(1, &sent.bytes, &mut [0; 44]).unwrap();
     assert!(!client.links[1]);
     assert_eq!(client.exchange, Exchange::default());
     let reply = Fields::read(&answer.reply.unwrap()).unwrap();
     assert_eq!(reply.values, [1, 0, 0, 2, 0]);
-    server.link_message(1, &answer.reply.unwrap()).unwrap();
+    server
+        .link_message(1, &answer.reply.unwrap(), &mut [0; 44])
+        .unwrap();
     assert!(!server.links[1]);
     assert_eq!(server.gauges[1], Gauge::default());
     assert_eq!(server.exchange, Exchange::default());
     // A link that is down already: reason 00100000.
-    let again = client.link_message(1, &sent.bytes).unwrap();
+    let again = client.link_message(1, &sent.bytes, &mut [0; 44]).unwrap();
     let reply = Fields::read(&again.reply.unwrap()).unwrap();
     assert_eq!(reply.get("reason"), 0x0010_0000);
 }
@@ -330,7 +338,7 @@ fn keys_go_on_above_two_and_three() {
     for (num, stage) in [(0, 6), (2, 6), (3, 7), (255, 7)] {
         let mut group = group(Role::Client, 0, 0, 0);
         let fields = Fields::zero(CONFIRM_RKEY).with("num", num);
-        group.link_send(2, &fields).unwrap();
+        group.link_send(2, &fields, &mut [0; 44]).unwrap();
         assert_eq!(group.exchange, exchange(stage, 2, 0));
         let answer = hear(&mut group, 2, &fields.with("R", 1)).unwrap();
         assert_eq!((answer.fate, answer.reply), (Fate::Taken, None));
@@ -340,8 +348,8 @@ fn keys_go_on_above_two_and_three() {
         let mut group = group(Role::Server, 8, 2, 0);
         let fields = Fields::zero(CONFIRM_RKEY_CONTINUATION).with("num", num);
         // Only we send it, and only over v.
-        assert_eq!(group.link_send(1, &fields), Err(15));
-        group.link_send(2, &fields).unwrap();
+        assert_eq!(group.link_send(1, &fields, &mut [0; 44]), Err(15));
+        group.link_send(2, &fields, &mut [0; 44]).unwrap();
         assert_eq!(group.exchange.stage, stage);
         let mut negative = group.clone();
         hear(&mut group, 2, &fields.clone().with("R", 1)).unwrap();
@@ -468,11 +476,11 @@ fn replies() {
 fn refusals_of_link_message() {
     let mut server = group(Role::Server, 2, 1, 4);
     let before = server.clone();
-    assert_eq!(server.link_message(5, &[1]), Err(13));
+    assert_eq!(server.link_message(5, &[1], &mut [0; 44]), Err(13));
     // Link 4 is down and being added: 6 unless the first byte is 01.
-    assert_eq!(server.link_message(4, &[2]), Err(6));
-    assert_eq!(server.link_message(4, &[]), Err(6));
-    assert_eq!(server.link_message(4, &[1]), Err(4));
+    assert_eq!(server.link_message(4, &[2], &mut [0; 44]), Err(6));
+    assert_eq!(server.link_message(4, &[], &mut [0; 44]), Err(6));
+    assert_eq!(server.link_message(4, &[1], &mut [0; 44]), Err(4));
     assert_eq!(
         hear(&mut server, 4, &request(CONFIRM_LINK, 4))
             .unwrap()
@@ -480,9 +488,9 @@ fn refusals_of_link_message() {
         Fate::Dropped
     );
     let mut wrong = request(DELETE_LINK, 99).write();
-    assert_eq!(server.link_message(1, &wrong), Err(14));
+    assert_eq!(server.link_message(1, &wrong, &mut [0; 44]), Err(14));
     wrong[1] = 0;
-    assert_eq!(server.link_message(1, &wrong), Err(4));
+    assert_eq!(server.link_message(1, &wrong, &mut [0; 44]), Err(4));
     // Queued, but the queue is full: 14 first, then 15.
     server.queue.count = 4;
     assert_eq!(hear(&mut server, 1, &request(DELETE_LINK, 99)), Err(14));
@@ -509,28 +517,49 @@ fn refusals_of_link_send() {
     for role in Role::ALL {
         let mut idle = group(role, 0, 0, 0);
         let before = idle.clone();
-        assert_eq!(idle.link_send(0, &request(CONFIRM_LINK, 99)), Err(13));
-        assert_eq!(idle.link_send(4, &request(CONFIRM_LINK, 99)), Err(6));
-        assert_eq!(idle.link_send(1, &request(CONFIRM_LINK, 99)), Err(14));
-        assert_eq!(idle.link_send(1, &request(CONFIRM_LINK, 3)), Err(15));
+        assert_eq!(
+            idle.link_send(0, &request(CONFIRM_LINK, 99), &mut [0; 44]),
+            Err(13)
+        );
+        assert_eq!(
+            idle.link_send(4, &request(CONFIRM_LINK, 99), &mut [0; 44]),
+            Err(6)
+        );
+        assert_eq!(
+            idle.link_send(1, &request(CONFIRM_LINK, 99), &mut [0; 44]),
+            Err(14)
+        );
+        assert_eq!(
+            idle.link_send(1, &request(CONFIRM_LINK, 3), &mut [0; 44]),
+            Err(15)
+        );
         // Replying unasked.
         for kind in KINDS {
-            assert_eq!(idle.link_send(1, &reply(kind, 3)), Err(15), "{kind:02X}");
+            assert_eq!(
+                idle.link_send(1, &reply(kind, 3), &mut [0; 44]),
+                Err(15),
+                "{kind:02X}"
+            );
         }
         assert_eq!(idle, before);
         // Group 2 does not begin while another exchange runs; group 1 always may.
         for stage in 1..=11 {
             let mut busy = group(role, stage, 3, 2);
             for kind in [CONFIRM_RKEY, DELETE_RKEY] {
-                assert_eq!(busy.link_send(1, &Fields::zero(kind)), Err(15));
+                assert_eq!(
+                    busy.link_send(1, &Fields::zero(kind), &mut [0; 44]),
+                    Err(15)
+                );
             }
-            assert!(busy.link_send(1, &Fields::zero(TEST_LINK)).is_ok());
-            let delete = busy.link_send(1, &request(DELETE_LINK, 2));
+            assert!(busy
+                .link_send(1, &Fields::zero(TEST_LINK), &mut [0; 44])
+                .is_ok());
+            let delete = busy.link_send(1, &request(DELETE_LINK, 2), &mut [0; 44]);
             assert_eq!(delete.is_ok(), role == Role::Client);
-            let add = busy.link_send(1, &request(ADD_LINK, 2));
+            let add = busy.link_send(1, &request(ADD_LINK, 2), &mut [0; 44]);
             assert_eq!(add.is_ok(), role == Role::Client && stage > 4, "{stage}");
             assert!(busy
-                .link_send(1, &request(DELETE_LINK, 9).with("A", 1))
+                .link_send(1, &request(DELETE_LINK, 9).with("A", 1), &mut [0; 44])
                 .is_ok());
             assert_eq!(
                 (busy.links, busy.exchange),
@@ -585,7 +614,7 @@ fn links_that_end_an_exchange() {
             let mut server = group(Role::Server, stage, 1, 2);
             server.queue.count = 1;
             let before = server.clone();
-            server.link_change(link, false).unwrap();
+            server.link_change(link, false, &mut [0; 44]).unwrap();
             let ends = link == 1 || (link == 2 && ended_by_w);
             if ends {
                 assert_eq!(server.exchange, Exchange::default());
@@ -596,7 +625,7 @@ fn links_that_end_an_exchange() {
             }
             // Coming up ends nothing.
             let mut other = before.clone();
-            other.link_change(link, true).unwrap();
+            other.link_change(link, true, &mut [0; 44]).unwrap();
             assert_eq!(other.exchange, before.exchange);
         }
     }
@@ -664,9 +693,12 @@ fn replay_lines() {
     assert_eq!(
         answers("link 1 1\nlinksend 1 07:2,18446744073709551615,1")[1],
         format!(
-            "linksend {}",
+            "linksend {} count 0 out -",
             padded("072C0000 FFFFFFFFFFFFFFFF 0000000000000001")
         )
     );
-    assert_eq!(answers("link 1 1\nlinksend 1 07:1,0,0")[1], "refused 15");
+    assert_eq!(
+        answers("link 1 1\nlinksend 1 07:1,0,0")[1],
+        "refused 15 out -"
+    );
 }

@@ -1,12 +1,12 @@
 //! The lists themselves: the same seed gives the same list, the stored traces
-//! reach every cell, the two orders of a pair answer alike, and what is read is
-//! what was sent.
+//! reach every cell, connections move in every kind, the two orders of a pair
+//! answer alike, and what is read is what was sent.
 
 use std::collections::VecDeque;
 
-use model::generate::{exhaust, hostile, orders, traffic};
+use model::generate::{exhaust, hostile, orders, told_in, traffic};
 use model::random::Random;
-use model::replay::{answer_all, lines};
+use model::replay::{answer_all, lines, Answer, Line, Replay};
 use model::smcr::*;
 use model::{count, traces};
 
@@ -27,6 +27,42 @@ fn stored_traces_reach_every_cell() {
     assert!(output.len() < 6_000_000, "{}", output.len());
     let missing = count::count(&input).missing();
     assert!(missing.is_empty(), "{missing:?}");
+}
+
+/// Every kind of list has connections that move and F messages that are accepted,
+/// and all but the orders' have some that abort.
+#[test]
+fn connections_move_in_every_kind() {
+    let traffic = |seed| traffic::list(seed, traffic::COUNT);
+    for (name, list) in [
+        ("traffic 1", traffic(1)),
+        ("traffic 2", traffic(2)),
+        ("traffic 7", traffic(7)),
+        ("hostile 1", hostile::list(1, None)),
+        ("hostile 2", hostile::list(2, None)),
+        ("exhaust 1", exhaust::list(1)),
+        ("orders 1", orders::pair(1, orders::COUNT).first),
+        ("orders 2", orders::pair(2, orders::COUNT).first),
+    ] {
+        let (mut told, mut accepted, mut aborted) = (0, 0, 0);
+        let mut replay = Replay::new();
+        for line in lines(&list) {
+            let Ok(call) = replay.parse(line) else {
+                continue;
+            };
+            let answer = replay.execute(&call);
+            told += told_in(&answer).len();
+            let (Line::Hear { bytes }, Answer::Heard(heard)) = (&call, &answer) else {
+                continue;
+            };
+            let failover = Message::read(bytes).is_some_and(|message| message.failover);
+            let quiet = heard.message.is_none() && heard.state != State::PeerAbortWait;
+            accepted += usize::from(failover && quiet);
+            aborted += usize::from(failover && heard.message.is_some());
+        }
+        assert!(told > 10 && accepted > 5, "{name}: {told} {accepted}");
+        assert!(aborted > 0 || name.starts_with("orders"), "{name}");
+    }
 }
 
 #[test]
@@ -75,7 +111,7 @@ fn what_is_read_is_what_was_sent() {
         let mut random = Random::new(seed);
         let size = random.between(8, 30) as u32;
         let mut group = Group::fresh(2, size, 2 * size as usize, 2);
-        group.link_change(1, true).unwrap();
+        group.link_change(1, true, &mut [0; 44 * 16]).unwrap();
         group.open(&Opening::at_base_0(1, 1, 2, 1, size)).unwrap();
         group.open(&Opening::at_base_0(2, 2, 1, 1, size)).unwrap();
         let mut flights = [VecDeque::new(), VecDeque::new()];

@@ -86,6 +86,26 @@ fn a_blocked_writer_is_seen() {
 }
 
 #[test]
+fn a_move_is_seen() {
+    let mut lines = vec![
+        "group 2 24 48",
+        "link 1 1",
+        "link 3 1",
+        "open 1 11 22 1 24 2 7 0 0 0 9 0 0 0",
+        "open 2 22 11 1 24 1 7 0 0 0 9 0 0 0",
+        "abort 2",
+        "link 1 0",
+    ];
+    let row = added(&lines);
+    assert!(row.contains(">link 1 down</text>"));
+    assert_eq!(row.matches("link 1 \u{2192} link 3").count(), 2);
+    assert!(row.contains("makes message 0 with F") && row.contains("silent: A was sent"));
+    assert_eq!(row.matches(">link 3</text>").count(), 2);
+    lines.push("send 1 4142");
+    assert!(added(&lines).contains("by link 3, key 9, makes message 1"));
+}
+
+#[test]
 fn one_end_or_two() {
     let one = drawn(&ONE_END);
     assert!(one.contains(">the peer</text>") && one.contains(">slot 1</text>"));

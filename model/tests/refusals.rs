@@ -66,8 +66,20 @@ fn number_1() {
             last(&format!("group {group}\nopen 0 0 0 0 0 {AT}")),
             "refused 1"
         );
-        assert_eq!(last(&format!("group {group}\nlink 4 1")), "link");
-        assert_eq!(last(&format!("group {group}\nlinkmsg 1 00")), "refused 6");
+        // 2026-13: the three calls on links too, before all else; sample does not.
+        for call in [
+            "link 4 1",
+            "link 5 0",
+            "linkmsg 9 00",
+            "linksend 9 01:0,0,0,0,0,0,0,0",
+        ] {
+            assert_eq!(last(&format!("group {group}\n{call}")), "refused 1 out -");
+        }
+        assert_eq!(
+            last(&format!("group {group}\nlink 4 1 65600")),
+            "refused 1 out -"
+        );
+        assert_eq!(last(&format!("group {group}\nsample 9 1")), "refused 13");
     }
     assert_eq!(
         last(&format!(
@@ -171,22 +183,31 @@ fn number_6_and_link_messages() {
         "refused 6 out A5"
     );
     assert_eq!(last(&format!("{START}open 2 7 8 2 16 {AT}")), "refused 6");
-    assert_eq!(last(&format!("{START}linkmsg 2 00")), "refused 6");
-    assert_eq!(last(&format!("{START}linkmsg 5 00")), "refused 13");
+    assert_eq!(last(&format!("{START}linkmsg 2 00")), "refused 6 out -");
+    assert_eq!(last(&format!("{START}linkmsg 5 00")), "refused 13 out -");
     let rest = "0".repeat(84);
     for (first, answer) in [
         (
             "072C",
-            format!("linkmsg 07:0,0,0 taken reply 072C0080{}", "0".repeat(80)),
+            format!(
+                "linkmsg 07:0,0,0 taken reply 072C0080{} count 0 out -",
+                "0".repeat(80)
+            ),
         ),
-        ("072D", "refused 4".to_string()),
-        ("042C", "refused 14".to_string()),
-        ("042D", "refused 4".to_string()),
-        ("052C", "refused 4".to_string()),
-        ("FE2C", "refused 4".to_string()),
-        ("C02C", "refused 4".to_string()),
-        ("8000", "linkmsg - dropped reply -".to_string()),
-        ("BF2C", "linkmsg - dropped reply -".to_string()),
+        ("072D", "refused 4 out -".to_string()),
+        ("042C", "refused 14 out -".to_string()),
+        ("042D", "refused 4 out -".to_string()),
+        ("052C", "refused 4 out -".to_string()),
+        ("FE2C", "refused 4 out -".to_string()),
+        ("C02C", "refused 4 out -".to_string()),
+        (
+            "8000",
+            "linkmsg - dropped reply - count 0 out -".to_string(),
+        ),
+        (
+            "BF2C",
+            "linkmsg - dropped reply - count 0 out -".to_string(),
+        ),
     ] {
         assert_eq!(
             last(&format!("{START}linkmsg 1 {first}{rest}")),
@@ -196,7 +217,7 @@ fn number_6_and_link_messages() {
     }
     assert_eq!(
         last(&format!("{START}linkmsg 1 80{}", "0".repeat(84))),
-        "refused 4"
+        "refused 4 out -"
     );
 }
 

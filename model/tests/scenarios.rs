@@ -10,7 +10,7 @@ const TOKEN_B: u32 = 0x0102_0304;
 /// Two hosts with elements of 10,000 bytes.
 fn hosts() -> Group {
     let mut group = Group::fresh(2, 10_000, 20_000, 2);
-    group.link_change(1, true).unwrap();
+    group.link_change(1, true, &mut [0; 44 * 16]).unwrap();
     for (slot, own, peer) in [(1, TOKEN_A, TOKEN_B), (2, TOKEN_B, TOKEN_A)] {
         let opening = Opening::at_base_0(slot, own, peer, 1, 10_000);
         group.open(&opening).unwrap();

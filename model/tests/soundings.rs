@@ -9,7 +9,7 @@ const N: i64 = 10_000;
 /// A group with one open slot, link 1 active and the eye catcher in place.
 fn group(n: u32, peer_size: u32) -> Group {
     let mut group = Group::fresh(1, n, n as usize, 1);
-    group.link_change(1, true).unwrap();
+    group.link_change(1, true, &mut [0; 44 * 16]).unwrap();
     let opening = Opening::at_base_0(1, 5, 0x0102_0304, 1, peer_size);
     group.open(&opening).unwrap();
     group
@@ -166,7 +166,7 @@ fn addresses_by_link() {
         (4, 255, u64::MAX - 255 * 8 + 1, 0x0A0B_0C0D),
     ] {
         let mut group = group(10_000, 8);
-        group.link_change(link, true).unwrap();
+        group.link_change(link, true, &mut [0; 44 * 16]).unwrap();
         group.table[0].link = link;
         group.table[0].index = index;
         group.table[0].keys = [1; 4];

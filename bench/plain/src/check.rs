@@ -4,7 +4,7 @@ use crate::ours::Ours;
 use crate::plain;
 use fordlinnet::{Group, Read, Record, Refusal, Sent};
 use model::generate::{exhaust, hostile, traffic};
-use model::replay::{lines, skipped, Line, Replay, OUT_FILL};
+use model::replay::{lent_bytes, lines, skipped, Line, Replay, OUT_FILL};
 use std::fmt::Debug;
 
 fn same<T, U: Debug + PartialEq>(ours: Result<T, Refusal>, plain: Result<U, Refusal>, of: impl Fn(T) -> U, line: &Line) {
@@ -24,12 +24,13 @@ fn read(r: Read) -> plain::Read {
     }
 }
 
-/// Makes the call on two copies of the group. Whether it is one of the four.
+/// Makes the call on two copies of the group. Whether it is one of the five.
 fn beside(group: &Group, line: &Line) -> bool {
     let mut ours = group.clone();
     let (mut memory, mut table): (Vec<u8>, Vec<Record>) = (group.memory().clone(), group.table().to_vec());
-    let active = &group.links().active;
-    let mut plain = plain::Group { s: group.elements(), n: group.element_size(), memory: &mut memory, table: &mut table, active };
+    let mut links = *group.links();
+    let mut plain =
+        plain::Group { s: group.elements(), n: group.element_size(), memory: &mut memory, table: &mut table, links: &mut links };
     match line {
         Line::Send { slot, bytes } => same(ours.send(*slot, bytes), plain.send(*slot, bytes), sent, line),
         Line::Place { slot, offset, bytes } => same(ours.place(*slot, *offset, bytes), plain.place(*slot, *offset, bytes), |()| (), line),
@@ -41,6 +42,14 @@ fn beside(group: &Group, line: &Line) -> bool {
         Line::Hear { bytes } => {
             let heard = |h: fordlinnet::Heard| plain::Heard { moved: h.moved, state: h.state, message: h.message.map(Into::into) };
             same(ours.hear(bytes), plain.hear(bytes), heard, line)
+        }
+        Line::Link { link, up, room } => {
+            let room = lent_bytes(group.elements(), *room);
+            let (mut a, mut b) = (vec![OUT_FILL; room], vec![OUT_FILL; room]);
+            same(ours.link_change_into(*link, *up, &mut a), plain.link_change(*link, *up, &mut b), |c| c.moved.len(), line);
+            assert!(a == b, "{line:?}: another buffer");
+            // as text, so that gauges of no number are compared too
+            assert!(format!("{:?}", ours.links()) == format!("{links:?}"), "{line:?}: other links");
         }
         _ => return false,
     }

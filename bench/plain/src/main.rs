@@ -1,6 +1,7 @@
-//! Read, send, hear and place of the proved archive, through the Rust crate, beside the same in ordinary Rust. First both are compared on
-//! random calls, then timed by turns; a table of nanoseconds a call goes to standard output. Ends with status 1 where a target is missed.
-//! With the word `tables` it times 64 bytes over tables of three sizes instead, with a call's name only that call.
+//! Read, send, hear, place and link change of the proved archive, through the Rust crate, beside the same in ordinary Rust. First both are
+//! compared on random calls, then timed by turns; a table of nanoseconds a call goes to standard output. Ends with status 1 where a target
+//! is missed. With the word `tables` it times 64 bytes over tables of three sizes instead, with a call's name only that call; with
+//! `link-message` it hears a thousand TEST LINKs, for a tool that counts instructions.
 
 mod check;
 #[path = "../../../bindings/rust/tests/model/ours.rs"]
@@ -8,7 +9,7 @@ mod check;
 mod ours;
 mod plain;
 
-use fordlinnet::{Cursor, Group, Links, Opening, RToken, Read, Record, Remote};
+use fordlinnet::{Cursor, Group, Links, Message, Opening, RToken, Read, Record, Remote};
 use std::hint::black_box;
 use std::time::Instant;
 
@@ -18,6 +19,8 @@ const ROUNDS: usize = 41;
 /// At most so many times plain Rust's time; and from 1 KB up.
 const TARGET: f64 = 2.0;
 const TARGET_1K: f64 = 1.1;
+/// The same of a failover.
+const TARGET_MOVE: f64 = 2.0;
 
 #[derive(Clone, Copy, PartialEq)]
 enum What {
@@ -25,6 +28,8 @@ enum What {
     Place,
     Send,
     Hear,
+    /// Link 1 goes down.
+    Change,
 }
 
 /// One row: the group before the call, and what the call is given.
@@ -71,6 +76,11 @@ impl Bench {
     }
 
     fn lay(&mut self, case: &Case) {
+        if case.what == What::Change {
+            self.links.active = [true; 4];
+            self.table.iter_mut().for_each(|record| record.id.link = case.before.id.link);
+            return;
+        }
         self.table[case.slot as usize - 1] = case.before;
     }
 
@@ -83,17 +93,19 @@ impl Bench {
             What::Place => drop(black_box(&group.place(case.slot, case.offset, &self.bytes[..case.count]))),
             What::Send => drop(black_box(&group.send(case.slot, &self.bytes[..case.count]))),
             What::Hear => drop(black_box(&group.hear(&case.message))),
+            What::Change => drop(black_box(group.link_change_into(1, false, &mut self.out[..44 * case.s as usize]))),
         }
     }
 
     #[inline(never)]
     fn plain(&mut self, case: &Case) {
-        let mut group = plain::Group { s: case.s, n: N, memory: &mut self.memory, table: &mut self.table, active: &self.links.active };
+        let mut group = plain::Group { s: case.s, n: N, memory: &mut self.memory, table: &mut self.table, links: &mut self.links };
         match case.what {
             What::Read => drop(black_box(&group.read(case.slot, &mut self.out[..]))),
             What::Place => drop(black_box(&group.place(case.slot, case.offset, &self.bytes[..case.count]))),
             What::Send => drop(black_box(&group.send(case.slot, &self.bytes[..case.count]))),
             What::Hear => drop(black_box(&group.hear(&case.message))),
+            What::Change => drop(black_box(group.link_change(1, false, &mut self.out[..44 * case.s as usize]))),
         }
     }
 
@@ -115,11 +127,15 @@ impl Bench {
                 sent.map_or((u64::MAX, None), |s| (s.taken as u64, s.message.map(Into::into)))
             }
             What::Hear => group.hear(&case.message).map_or((u64::MAX, None), |h| (h.moved, h.message.map(Into::into))),
+            What::Change => {
+                let moved = group.link_change_into(1, false, &mut self.out).map_or(Vec::new(), |changed| changed.moved);
+                (moved.len() as u64, moved.last().map(|message: &Message| *message.as_bytes()))
+            }
         }
     }
 
     fn plain_answer(&mut self, case: &Case) -> (u64, Option<[u8; 44]>) {
-        let mut group = plain::Group { s: case.s, n: N, memory: &mut self.memory, table: &mut self.table, active: &self.links.active };
+        let mut group = plain::Group { s: case.s, n: N, memory: &mut self.memory, table: &mut self.table, links: &mut self.links };
         match case.what {
             What::Read => match group.read(case.slot, &mut self.out[..]) {
                 Ok(plain::Read::Bytes { count, message }) => (count.into(), message),
@@ -135,6 +151,11 @@ impl Bench {
                 sent.map_or((u64::MAX, None), |s| (s.taken.into(), s.message))
             }
             What::Hear => group.hear(&case.message).map_or((u64::MAX, None), |h| (h.moved, h.message)),
+            What::Change => {
+                let count = group.link_change(1, false, &mut self.out).unwrap_or(0);
+                let messages: Vec<[u8; 44]> = self.out.chunks_exact(44).take(count).map(|m| m.try_into().expect("44 bytes")).collect();
+                (count as u64, messages.last().copied())
+            }
         }
     }
 }
@@ -232,7 +253,26 @@ fn rows() -> Vec<Case> {
     rows.push(Case { tells: true, message: message(own, 1024, 0x10), before: read, ..hears });
     rows.push(Case { words: "255 records, the last", s: 255, slot: 255, before: opened(255, own), ..hears });
     rows.push(hears);
+
+    // every slot is on link 1: all move, or all have another link
+    let all = Case { what: What::Change, s: 255, slot: 255, before: opened(255, own), ..base };
+    let mut elsewhere = all.before;
+    elsewhere.id.link = 4;
+    rows.push(Case { words: "255 slots move", tells: true, count: 255 * 44, ..all });
+    rows.push(Case { words: "255 slots, none moves", before: elsewhere, ..all });
     rows
+}
+
+/// A thousand TEST LINKs are heard and answered.
+fn link_message() {
+    let mut group = Group::fresh(3, 64).expect("sizes in range");
+    group.link_change(1, true).expect("a link");
+    let mut test = [0; 44];
+    test[..2].copy_from_slice(&[0x07, 0x2C]);
+    for _ in 0..1000 {
+        let heard = black_box(&mut group).link_message(1, black_box(&test)).expect("an active link");
+        assert!(black_box(heard).reply.is_some());
+    }
 }
 
 /// Send, hear and read of 64 bytes over tables of 1, 16 and 255 records; the connection stands in the last slot, so that hear's search by
@@ -279,8 +319,10 @@ fn time(case: &Case, bench: &mut Bench) -> [f64; 3] {
 
 fn main() {
     let only = std::env::args().nth(1);
-    if only.as_deref() == Some("tables") {
-        return tables();
+    match only.as_deref() {
+        Some("tables") => return tables(),
+        Some("link-message") => return link_message(),
+        _ => {}
     }
     if only.is_none() {
         let calls = check::check(100_000);
@@ -288,13 +330,14 @@ fn main() {
     }
     println!("| call | run | message | bytes | ours, ns | plain, ns | ratio |");
     println!("|---|---|---|---:|---:|---:|---:|");
-    let (mut worst, mut worst_1k, mut over) = (0.0_f64, 0.0_f64, 0);
+    let (mut worst, mut worst_1k, mut worst_move, mut over) = (0.0_f64, 0.0_f64, 0.0_f64, 0);
     for case in rows() {
         let what = match case.what {
             What::Read => "read",
             What::Place => "place",
             What::Send => "send",
             What::Hear => "hear",
+            What::Change => "link change",
         };
         if only.as_ref().is_some_and(|only| only != what) {
             continue;
@@ -308,15 +351,15 @@ fn main() {
         let [laid, ours, plain] = time(&case, &mut bench);
         let (ours, plain) = (ours - laid, plain - laid);
         let ratio = ours / plain;
-        // the targets are read's; the other calls are measured beside it
-        let read = case.what == What::Read;
-        let target = if case.count >= 1024 { TARGET_1K } else { TARGET };
-        if read && case.count >= 1024 {
-            worst_1k = worst_1k.max(ratio);
-        } else if read {
-            worst = worst.max(ratio);
-        }
-        let missed = read && ratio > target;
+        // the targets are read's and a failover's; the other calls are measured beside them
+        let (worst, target) = match case.what {
+            What::Read if case.count >= 1024 => (&mut worst_1k, TARGET_1K),
+            What::Read => (&mut worst, TARGET),
+            What::Change if case.tells => (&mut worst_move, TARGET_MOVE),
+            _ => (&mut 0.0, f64::MAX),
+        };
+        *worst = worst.max(ratio);
+        let missed = ratio > target;
         over += u32::from(missed);
         let run = if case.words.is_empty() {
             if case.wrapped {
@@ -333,7 +376,8 @@ fn main() {
     }
     println!();
     println!(
-        "read: worst ratio {worst:.2} below 1 KB (target {TARGET}), {worst_1k:.2} from 1 KB up (target {TARGET_1K}); {over} rows over"
+        "read: worst ratio {worst:.2} below 1 KB (target {TARGET}), {worst_1k:.2} from 1 KB up (target {TARGET_1K});
+failover: {worst_move:.2} (target {TARGET_MOVE}); {over} rows over"
     );
     if over > 0 {
         std::process::exit(1);

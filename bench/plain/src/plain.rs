@@ -1,10 +1,11 @@
-//! Read, send, hear and place in ordinary Rust, straight and unproved: the whole of each call, with its refusals, the record, the update
-//! test and the message, as one would write it without proofs. Records are changed where they lie; nothing is copied but the bytes.
+//! Read, send, hear, place and link change in ordinary Rust, straight and unproved: the whole of each call, with its refusals, the record,
+//! the update test and the message, as one would write it without proofs. Records are changed where they lie; nothing is copied but the
+//! bytes.
 //!
 //! The record is the crate's own (`fordlinnet::Record`), so that both sides work on the same bytes. The calls are not inlined into their
 //! caller, as those of a library are not.
 
-use fordlinnet::{Cursor, Record, Refusal, State, Urgent};
+use fordlinnet::{Cursor, Exchange, Gauge, Links, Queue, Record, Refusal, Sort, State, Urgent};
 
 pub const EYE_CATCHER: [u8; 4] = [0xE2, 0xD4, 0xC3, 0xD9];
 
@@ -14,7 +15,7 @@ pub struct Group<'a> {
     pub n: u32,
     pub memory: &'a mut [u8],
     pub table: &'a mut [Record],
-    pub active: &'a [bool; 4],
+    pub links: &'a mut Links,
 }
 
 pub type Bytes44 = [u8; 44];
@@ -107,28 +108,30 @@ fn coherent(n: u32, r: &Record) -> bool {
         && place_ok(peer.size, o.consumer, o.producer, o.urgent)
 }
 
-/// Makes a message: T becomes C, and the next sequence number is used.
-fn message(r: &mut Record, pending: bool, present: bool) -> Bytes44 {
+/// The message of a record.
+fn written(r: &Record, sequence: u16) -> Bytes44 {
     let mut m = [0; 44];
     let (q, c) = (r.outbound.producer, r.inbound.consumer);
+    let urgent = u8::from(r.outbound.urgent.standing);
     m[0] = 0xFE;
     m[1] = 0x2C;
-    m[2..4].copy_from_slice(&r.outbound.next.to_be_bytes());
+    m[2..4].copy_from_slice(&sequence.to_be_bytes());
     m[4..8].copy_from_slice(&r.id.peer.to_be_bytes());
     m[10..12].copy_from_slice(&q.wrap.to_be_bytes());
     m[12..16].copy_from_slice(&q.offset.to_be_bytes());
     m[18..20].copy_from_slice(&c.wrap.to_be_bytes());
     m[20..24].copy_from_slice(&c.offset.to_be_bytes());
-    m[24] = u8::from(r.outbound.blocked) << 7 | u8::from(pending) << 6 | u8::from(present) << 5;
+    m[24] = u8::from(r.outbound.blocked) << 7 | urgent << 6 | urgent << 5;
     m[25] = u8::from(r.marks.sent.done) << 7 | u8::from(r.marks.sent.closed) << 6 | u8::from(r.marks.abort) << 5;
-    r.inbound.told = c;
-    r.outbound.next = r.outbound.next.wrapping_add(1);
     m
 }
 
+/// Makes a message: T becomes C, and the next sequence number is used.
 fn usual_message(r: &mut Record) -> Bytes44 {
-    let urgent = r.outbound.urgent.standing;
-    message(r, urgent, urgent)
+    let m = written(r, r.outbound.next);
+    r.inbound.told = r.inbound.consumer;
+    r.outbound.next = r.outbound.next.wrapping_add(1);
+    m
 }
 
 impl Group<'_> {
@@ -144,7 +147,7 @@ impl Group<'_> {
         if !coherent(self.n, r) {
             return Err(Refusal::Incoherent);
         }
-        if !self.active[r.id.link as usize - 1] {
+        if !self.links.active[r.id.link as usize - 1] {
             return Err(Refusal::LinkDown);
         }
         Ok(())
@@ -288,6 +291,13 @@ impl Group<'_> {
         if r.marks.abort {
             return Ok(Heard { moved: 0, state: State::PeerAbortWait, message: None });
         }
+        if m[24] & 0x08 != 0 {
+            if two(2) == r.inbound.last {
+                return Ok(Heard { moved: 0, state: state(r), message: None });
+            }
+            r.marks.abort = true;
+            return Ok(Heard { moved: 0, state: State::PeerAbortWait, message: Some(usual_message(r)) });
+        }
         if two(2) != r.inbound.last.wrapping_add(1) {
             return Err(Refusal::Sequence);
         }
@@ -324,6 +334,44 @@ impl Group<'_> {
             *r = Record::default();
         }
         Ok(Heard { moved: moved as u64, state, message })
+    }
+
+    /// The messages with F go to the buffer's front; how many they are.
+    #[inline(never)]
+    pub fn link_change(&mut self, link: u8, up: bool, out: &mut [u8]) -> Result<usize, Refusal> {
+        if !self.sizes_ok() || out.len() < 44 * self.s as usize {
+            return Err(Refusal::Sizes);
+        }
+        if !(1..=4).contains(&link) {
+            return Err(Refusal::LinkNumber);
+        }
+        let (links, at) = (&mut *self.links, link as usize - 1);
+        let gone = links.active[at] && !up;
+        links.active[at] = up;
+        if !up {
+            links.gauges[at] = Gauge::default();
+            let x = &mut links.exchange;
+            if x.stage > 0 && (x.v == link || (x.sort() == Some(Sort::Add) && x.w == link)) {
+                *x = Exchange::default();
+                links.queue = Queue::default();
+            }
+        }
+        let target = links.active.iter().position(|active| *active);
+        let (true, Some(target)) = (gone, target) else { return Ok(0) };
+        let mut count = 0;
+        for r in self.table.iter_mut().filter(|r| r.id.opened && r.id.link == link) {
+            if !coherent(self.n, r) {
+                continue;
+            }
+            r.id.link = target as u8 + 1;
+            if !r.marks.abort {
+                let mut m = written(r, r.outbound.next.wrapping_sub(1));
+                m[24] |= 0x08;
+                out[44 * count..44 * (count + 1)].copy_from_slice(&m);
+                count += 1;
+            }
+        }
+        Ok(count)
     }
 }
 

@@ -105,6 +105,8 @@ pub(crate) enum Number {
     Shutdown = 9,
     Close = 10,
     Abort = 11,
+    LinkMessage = 13,
+    LinkSend = 14,
 }
 
 /// What an answer says, as far as it is looked at.
@@ -115,6 +117,7 @@ pub(crate) mod said {
     pub const RESET: u32 = 8;
     pub const LINK_HEARD: u32 = 13;
     pub const LINK_SENT: u32 = 14;
+    pub const LINK_CHANGED: u32 = 15;
 }
 
 /// The buffer of a piece; the body is any other.
@@ -126,7 +129,7 @@ pub(crate) mod health {
     pub const LATE: u32 = 3;
 }
 
-/// Any one call but gather, link message and link send, with its numbers.
+/// Any one call but gather and the three on links, with its numbers.
 #[derive(Clone, Copy, Default)]
 #[cfg_attr(test, derive(Debug, PartialEq))]
 #[repr(C)]
@@ -136,7 +139,6 @@ pub(crate) struct Command {
     pub offset: u32,
     pub ms: u32,
     pub link: u8,
-    pub up: bool,
     pub opening: Opening,
 }
 
@@ -213,12 +215,23 @@ pub(crate) struct GatheredAnswer {
 }
 
 /// A link message's kind, by its first byte, and its values in row order; kind 0 and zeros are none.
-#[derive(Clone, Copy)]
+#[derive(Clone, Copy, Default)]
 #[cfg_attr(test, derive(Debug, PartialEq))]
 #[repr(C)]
 pub(crate) struct RawFields {
     pub kind: u8,
     pub values: [u64; 12],
+}
+
+/// Link change, link message or link send, with its numbers.
+#[derive(Clone, Copy, Default)]
+#[cfg_attr(test, derive(Debug, PartialEq))]
+#[repr(C)]
+pub(crate) struct LinkCommand {
+    pub number: u32,
+    pub link: u8,
+    pub up: bool,
+    pub fields: RawFields,
 }
 
 /// A message taken up from the queue; zeros where none was.
@@ -232,7 +245,7 @@ pub(crate) struct RawTakenUp {
     pub fields: RawFields,
 }
 
-/// The answer of link message and link send.
+/// The answer of link change, link message and link send; `count` messages with F stand in the lent buffer.
 #[derive(Clone, Copy)]
 #[cfg_attr(test, derive(Debug, PartialEq))]
 #[repr(C)]
@@ -242,6 +255,7 @@ pub(crate) struct RawLinkAnswer {
     pub fate: u32,
     pub fields: RawFields,
     pub up: RawTakenUp,
+    pub count: u32,
     pub made: bool,
     pub message: [u8; 44],
     pub links: Links,
@@ -456,8 +470,21 @@ extern "C" {
         k: u32,
     ) -> RawPiece;
 
-    fn fordlinnet_make_link_message(links: Links, link: u8, bytes: *const u8, bytes_length: usize) -> RawLinkAnswer;
-    fn fordlinnet_make_link_send(links: Links, link: u8, fields: RawFields) -> RawLinkAnswer;
+    fn fordlinnet_make_link(
+        s: u32,
+        n: u32,
+        memory: *const u8,
+        memory_length: usize,
+        table: *mut Record,
+        table_length: usize,
+        links: Links,
+        command: LinkCommand,
+        bytes: *const u8,
+        bytes_length: usize,
+        out: *mut u8,
+        out_length: usize,
+    ) -> RawLinkAnswer;
+
     fn fordlinnet_view_link(links: Links, link: u8) -> View;
     fn fordlinnet_closed_record() -> Record;
     fn fordlinnet_links_down(server: bool) -> Links;
@@ -475,7 +502,7 @@ pub(crate) struct Lent<'a, M: ?Sized> {
     pub table: &'a mut [Record],
 }
 
-/// Makes any one call but gather, link message and link send. The links are brought up to date.
+/// Makes any one call but gather and the three on links. The links are brought up to date.
 #[inline]
 pub(crate) fn make<M: Memory + ?Sized>(lent: Lent<'_, M>, links: &mut Links, command: Command, bytes: &[u8], out: &mut [u8]) -> Answer {
     let (memory, length) = lent.memory.parts();
@@ -679,18 +706,33 @@ pub(crate) fn piece(head: &[u8], body: &[u8], found: &Record, n: u32, k: u32) ->
     unsafe { fordlinnet_next_piece(head.as_ptr(), head.len(), body.as_ptr(), body.len(), *found, n, k) }
 }
 
-/// Takes a link message's bytes.
-pub(crate) fn link_message(links: &mut Links, link: u8, bytes: &[u8]) -> RawLinkAnswer {
-    // SAFETY: values, and a slice's pointer.
-    let answer = unsafe { fordlinnet_make_link_message(*links, link, bytes.as_ptr(), bytes.len()) };
-    *links = answer.links;
-    answer
-}
-
-/// Sends a link message.
-pub(crate) fn link_send(links: &mut Links, link: u8, fields: RawFields) -> RawLinkAnswer {
-    // SAFETY: values alone.
-    let answer = unsafe { fordlinnet_make_link_send(*links, link, fields) };
+/// Makes a link change, link message or link send. The links are brought up to date.
+#[inline]
+pub(crate) fn make_link<M: Memory + ?Sized>(
+    lent: Lent<'_, M>,
+    links: &mut Links,
+    command: LinkCommand,
+    bytes: &[u8],
+    out: &mut [u8],
+) -> RawLinkAnswer {
+    let (memory, length) = lent.memory.parts();
+    // SAFETY: as in `make`.
+    let answer = unsafe {
+        fordlinnet_make_link(
+            lent.s,
+            lent.n,
+            memory,
+            length,
+            lent.table.as_mut_ptr(),
+            lent.table.len(),
+            *links,
+            command,
+            bytes.as_ptr(),
+            bytes.len(),
+            out.as_mut_ptr(),
+            out.len(),
+        )
+    };
     *links = answer.links;
     answer
 }

@@ -3,7 +3,8 @@
 use crate::border::{self, RawPiece};
 use crate::{Message, Record};
 
-/// What a gather answers. Write the pieces, then carry the message to the peer.
+/// What a gather answers. Write the pieces, then carry the message to the peer. The pieces are those of the link that the connection had,
+/// also where it has moved since.
 #[derive(Clone, Copy, Debug, PartialEq, Eq)]
 #[must_use]
 pub struct Gathered<'a> {

@@ -1,11 +1,12 @@
 //! A group, and its calls.
 
-use crate::border::{self, health, said, Answer, Command, Lent, Memory, Number};
+use crate::border::{self, health, said, Answer, Command, Lent, LinkCommand, Memory, Number, RawLinkAnswer};
 use crate::{
-    Closed, Exchange, Gathered, Health, Heard, LinkFields, LinkHeard, LinkSent, Links, Message, Opening, Placings, Queue, Read, Record,
-    Refusal, Role, Sent,
+    Closed, Exchange, Gathered, Health, Heard, LinkChanged, LinkFields, LinkHeard, LinkSent, Links, Message, Opening, Placings, Queue,
+    Read, Record, Refusal, Role, Sent,
 };
 use std::borrow::BorrowMut;
+use std::fmt;
 
 /// A group: a memory of S elements of N bytes, a table of S records, and four links with what link messages need.
 ///
@@ -21,6 +22,42 @@ pub struct Group<M = Vec<u8>, T = Vec<Record>, L = Links> {
     memory: M,
     table: T,
     links: L,
+    room: Room,
+}
+
+/// Room for a message of every slot, which the calls on links are lent. What it holds is no part of the group, and it is made when it is
+/// first wanted.
+#[derive(Default)]
+struct Room(Vec<[u8; Message::SIZE]>);
+
+impl Room {
+    #[inline]
+    fn of(&mut self, s: u32) -> &mut [u8] {
+        // a larger S is refused in any case
+        let slots = s.min(Group::MOST_ELEMENTS) as usize;
+        if self.0.len() != slots {
+            self.0 = vec![[0; Message::SIZE]; slots];
+        }
+        self.0.as_flattened_mut()
+    }
+}
+
+impl Clone for Room {
+    fn clone(&self) -> Room {
+        Room::default()
+    }
+}
+
+impl PartialEq for Room {
+    fn eq(&self, _: &Room) -> bool {
+        true
+    }
+}
+
+impl fmt::Debug for Room {
+    fn fmt(&self, f: &mut fmt::Formatter<'_>) -> fmt::Result {
+        f.write_str("..")
+    }
 }
 
 impl Group {
@@ -70,12 +107,12 @@ impl Group {
         }
         let memory = vec![0; s as usize * n as usize];
         let table = vec![border::closed_record(); s as usize];
-        Ok(Group { s, n, memory, table, links: border::links_down(role) })
+        Ok(Group { s, n, memory, table, links: border::links_down(role), room: Room::default() })
     }
 }
 
 impl<M, T, L> Group<M, T, L> {
-    /// A group of parts that somebody lends, whatever they hold. Wrong sizes are not tested here: every call on a slot does.
+    /// A group of parts that somebody lends, whatever they hold. Wrong sizes are not tested here: every call but sample does.
     ///
     /// ```
     /// use fordlinnet::{Group, Links, Record, Refusal};
@@ -89,7 +126,7 @@ impl<M, T, L> Group<M, T, L> {
     /// # Ok::<(), Refusal>(())
     /// ```
     pub fn lend(s: u32, n: u32, memory: M, table: T, links: L) -> Group<M, T, L> {
-        Group { s, n, memory, table, links }
+        Group { s, n, memory, table, links, room: Room::default() }
     }
 
     /// S, the elements and slots.
@@ -179,6 +216,9 @@ where
 {
     /// Opens a closed slot: zeroes its element, writes the eye catcher, and lays down a record whose cursors are all at the beginning.
     ///
+    /// The peer's keys of all four links are to be settled before: a connection that later moves to another link
+    /// ([`Group::link_change`]) goes on with what it was given here.
+    ///
     /// # Errors
     ///
     /// Tested in this order: [`Sizes`](Refusal::Sizes), [`Slot`](Refusal::Slot), [`AlreadyOpen`](Refusal::AlreadyOpen),
@@ -196,16 +236,6 @@ where
     /// [`Sizes`](Refusal::Sizes), [`Slot`](Refusal::Slot), [`Incoherent`](Refusal::Incoherent), [`State`](Refusal::State).
     pub fn free(&mut self, slot: u32) -> Result<(), Refusal> {
         refused(&self.call(command(Number::Free, slot), &[], &mut []))
-    }
-
-    /// Sets a link, active or down. One that goes down loses its gauge; an exchange that is run over it ends, and the queue is emptied.
-    ///
-    /// # Errors
-    ///
-    /// [`LinkNumber`](Refusal::LinkNumber).
-    pub fn link_change(&mut self, link: u8, up: bool) -> Result<(), Refusal> {
-        let command = Command { link, up, ..command(Number::LinkChange, 0) };
-        refused(&self.call(command, &[], &mut []))
     }
 
     /// Hands a link's gauge an answer time of TEST LINK, in milliseconds.
@@ -231,7 +261,8 @@ where
     }
 }
 
-/// The two calls of link messages: further links, and memory keys. They read neither the memory nor the table.
+/// The calls on links: a link change, and link messages, which add further links and tell of memory keys. Of the memory they look at the
+/// length alone, and of the records they change links at most.
 ///
 /// A server with link 1 active adds link 2. The lines of [`Group::link_message`]'s answer say what became of what is heard; what needs an
 /// address or a key of ours goes out by [`Group::link_send`].
@@ -259,19 +290,82 @@ where
 /// assert_eq!(server.exchange().sort(), None);
 /// # Ok::<(), fordlinnet::Refusal>(())
 /// ```
+///
+/// # When a link goes down
+///
+/// Where one of these calls takes a link down that was active, and another is active after it, every open, coherent connection on that link
+/// **moves**: its record names the lowest active link ([`Links::lowest_active`]) from then on, and nothing else of it changes. The answer's
+/// `moved` has a message with F for each of them in slot order, but for those that we aborted. Where no link is active after the call,
+/// nothing moves, and the connections wait for theirs.
+///
+/// A message with F says which message was the last, and a peer that has not heard that one aborts the connection. So it is for the caller
+/// to keep the order:
+///
+/// - Put a message with F on the new link only when all that was put on the old one before has arrived there; what may be lost is put on
+///   the new link again first, writes and messages, in their order.
+/// - Placings, and the pieces of a [`Gathered`], name the link that the connection had when they were answered, also those asked for after
+///   the move: written again over another link they need that link's key and base ([`Remote::rtokens`](crate::Remote::rtokens)).
+/// - Later calls answer with the new link's. The peer is told of the move by the message alone; it moves by itself when its own link goes
+///   down.
+///
+/// ```
+/// use fordlinnet::{Group, Opening, RToken, Remote};
+///
+/// let mut group = Group::fresh(2, 64)?;
+/// group.link_change(1, true)?;
+/// group.link_change(2, true)?;
+/// let rtokens = [7, 8, 0, 0].map(|key| RToken { key, base: 4096 });
+/// group.open(1, &Opening { own: 5, peer: 6, link: 1, remote: Remote { size: 64, index: 1, rtokens } })?;
+/// let sent = group.send(1, b"depths ")?;
+/// assert_eq!((sent.placings[0].key, sent.message.map(|message| message.sequence())), (7, Some(1)));
+///
+/// let moved = group.link_change(1, false)?.moved;
+/// assert_eq!((group.table()[0].id.link, group.links().lowest_active()), (2, Some(2)));
+/// assert_eq!((moved.len(), moved[0].token(), moved[0].sequence()), (1, 6, 1));
+/// assert!(moved[0].flags().failover);
+/// assert_eq!(group.send(1, b"in metres")?.placings[0].key, 8);
+/// # Ok::<(), fordlinnet::Refusal>(())
+/// ```
+///
+/// # Whose buffer
+///
+/// A group lends these calls a buffer of its own, 44 bytes a slot. [`Group::link_change_into`] and its like take the caller's instead: the
+/// messages with F stand at its front as well, and its rest stays. One with less than 44 x S bytes is refused
+/// ([`Sizes`](Refusal::Sizes)), whether or not anything would move, and a refused call leaves it as it was.
 impl<M, T, L> Group<M, T, L>
 where
+    M: Memory,
+    T: AsMut<[Record]>,
     L: BorrowMut<Links>,
 {
-    /// Takes a link message's bytes. A reply that is made is to be sent back on the link.
-    ///
-    /// A message is taken if it is due in the exchange that runs; else exchange and message decide (RFC 7609, 3.5.5.3). Where the exchange
-    /// ends, the oldest of the queue is taken up.
+    /// Sets a link, active or down. One that goes down loses its gauge; an exchange that is run over it ends, and the queue is emptied; and
+    /// connections move, as said above.
     ///
     /// # Errors
     ///
-    /// Tested in this order: [`LinkNumber`](Refusal::LinkNumber), [`LinkDown`](Refusal::LinkDown), [`Malformed`](Refusal::Malformed),
-    /// [`CarriedLink`](Refusal::CarriedLink), [`Barred`](Refusal::Barred).
+    /// [`Sizes`](Refusal::Sizes), [`LinkNumber`](Refusal::LinkNumber).
+    pub fn link_change(&mut self, link: u8, up: bool) -> Result<LinkChanged, Refusal> {
+        self.own_desk().change(link, up)
+    }
+
+    /// [`Group::link_change`] with the caller's buffer.
+    ///
+    /// # Errors
+    ///
+    /// As [`Group::link_change`].
+    pub fn link_change_into(&mut self, link: u8, up: bool, out: &mut [u8]) -> Result<LinkChanged, Refusal> {
+        self.desk(out).change(link, up)
+    }
+
+    /// Takes a link message's bytes. A reply that is made is to be sent back on the link.
+    ///
+    /// A message is taken if it is due in the exchange that runs; else exchange and message decide (RFC 7609, 3.5.5.3). Where the exchange
+    /// ends, the oldest of the queue is taken up. Where a link goes down, connections move, as said above.
+    ///
+    /// # Errors
+    ///
+    /// Tested in this order: [`Sizes`](Refusal::Sizes), [`LinkNumber`](Refusal::LinkNumber), [`LinkDown`](Refusal::LinkDown),
+    /// [`Malformed`](Refusal::Malformed), [`CarriedLink`](Refusal::CarriedLink), [`Barred`](Refusal::Barred).
     ///
     /// ```
     /// use fordlinnet::{Fate, Group, LinkKind};
@@ -287,18 +381,23 @@ where
     /// # Ok::<(), fordlinnet::Refusal>(())
     /// ```
     pub fn link_message(&mut self, link: u8, bytes: &[u8]) -> Result<LinkHeard, Refusal> {
-        let answer = border::link_message(self.links.borrow_mut(), link, bytes);
-        if answer.said == said::REFUSED {
-            return Err(crate::refusal::given(answer.refusal));
-        }
-        Ok(LinkHeard::given(&answer))
+        self.own_desk().message(link, bytes)
+    }
+
+    /// [`Group::link_message`] with the caller's buffer.
+    ///
+    /// # Errors
+    ///
+    /// As [`Group::link_message`].
+    pub fn link_message_into(&mut self, link: u8, bytes: &[u8], out: &mut [u8]) -> Result<LinkHeard, Refusal> {
+        self.desk(out).message(link, bytes)
     }
 
     /// Sends a link message: the answer has its bytes, to go out on the link. Values are cut to their rows' bits.
     ///
     /// # Errors
     ///
-    /// Tested in this order: [`LinkNumber`](Refusal::LinkNumber), [`LinkDown`](Refusal::LinkDown),
+    /// Tested in this order: [`Sizes`](Refusal::Sizes), [`LinkNumber`](Refusal::LinkNumber), [`LinkDown`](Refusal::LinkDown),
     /// [`CarriedLink`](Refusal::CarriedLink), [`Barred`](Refusal::Barred).
     ///
     /// ```
@@ -314,11 +413,60 @@ where
     /// # Ok::<(), Refusal>(())
     /// ```
     pub fn link_send(&mut self, link: u8, fields: &LinkFields) -> Result<LinkSent, Refusal> {
-        let answer = border::link_send(self.links.borrow_mut(), link, fields.raw());
-        if answer.said == said::REFUSED {
-            return Err(crate::refusal::given(answer.refusal));
-        }
-        Ok(LinkSent::given(&answer))
+        self.own_desk().send(link, fields)
+    }
+
+    /// [`Group::link_send`] with the caller's buffer.
+    ///
+    /// # Errors
+    ///
+    /// As [`Group::link_send`].
+    pub fn link_send_into(&mut self, link: u8, fields: &LinkFields, out: &mut [u8]) -> Result<LinkSent, Refusal> {
+        self.desk(out).send(link, fields)
+    }
+
+    #[inline]
+    fn desk<'a>(&'a mut self, out: &'a mut [u8]) -> Desk<'a, M> {
+        let lent = Lent { s: self.s, n: self.n, memory: &mut self.memory, table: self.table.as_mut() };
+        Desk { lent, links: self.links.borrow_mut(), out }
+    }
+
+    #[inline]
+    fn own_desk(&mut self) -> Desk<'_, M> {
+        let lent = Lent { s: self.s, n: self.n, memory: &mut self.memory, table: self.table.as_mut() };
+        Desk { lent, links: self.links.borrow_mut(), out: self.room.of(self.s) }
+    }
+}
+
+/// What a call on links is lent.
+struct Desk<'a, M> {
+    lent: Lent<'a, M>,
+    links: &'a mut Links,
+    out: &'a mut [u8],
+}
+
+impl<M: Memory> Desk<'_, M> {
+    #[inline]
+    fn change(self, link: u8, up: bool) -> Result<LinkChanged, Refusal> {
+        let command = LinkCommand { up, ..link_command(Number::LinkChange, link) };
+        let answer = border::make_link(self.lent, self.links, command, &[], self.out);
+        link_refused(&answer)?;
+        Ok(LinkChanged::given(&answer, self.out))
+    }
+
+    #[inline]
+    fn message(self, link: u8, bytes: &[u8]) -> Result<LinkHeard, Refusal> {
+        let answer = border::make_link(self.lent, self.links, link_command(Number::LinkMessage, link), bytes, self.out);
+        link_refused(&answer)?;
+        Ok(LinkHeard::given(&answer, self.out))
+    }
+
+    #[inline]
+    fn send(self, link: u8, fields: &LinkFields) -> Result<LinkSent, Refusal> {
+        let command = LinkCommand { fields: fields.raw(), ..link_command(Number::LinkSend, link) };
+        let answer = border::make_link(self.lent, self.links, command, &[], self.out);
+        link_refused(&answer)?;
+        Ok(LinkSent::given(&answer, self.out))
     }
 }
 
@@ -406,11 +554,14 @@ where
 
     /// Takes a message from the peer, for the slot whose token it carries.
     ///
+    /// One with F (failover) changes nothing where it carries the last number heard. With any other number a message is missing: the
+    /// connection is aborted, and the answer has [`State::PeerAbortWait`](crate::State::PeerAbortWait) and the abort message.
+    ///
     /// # Errors
     ///
     /// Tested in this order: [`Sizes`](Refusal::Sizes), [`Malformed`](Refusal::Malformed), [`Token`](Refusal::Token),
-    /// [`Incoherent`](Refusal::Incoherent), [`LinkDown`](Refusal::LinkDown), [`Sequence`](Refusal::Sequence),
-    /// [`CursorRule`](Refusal::CursorRule).
+    /// [`Incoherent`](Refusal::Incoherent), [`LinkDown`](Refusal::LinkDown); and, of a message without F, [`Sequence`](Refusal::Sequence)
+    /// and [`CursorRule`](Refusal::CursorRule).
     #[inline]
     pub fn hear(&mut self, bytes: &[u8]) -> Result<Heard, Refusal> {
         let lent = Lent { s: self.s, n: self.n, memory: &mut self.memory, table: self.table.as_mut() };
@@ -460,7 +611,19 @@ fn command(number: Number, slot: u32) -> Command {
 }
 
 #[inline]
+fn link_command(number: Number, link: u8) -> LinkCommand {
+    LinkCommand { number: number as u32, link, ..LinkCommand::default() }
+}
+
+#[inline]
 fn refused(answer: &Answer) -> Result<(), Refusal> {
+    if answer.said == said::REFUSED {
+        return Err(crate::refusal::given(answer.refusal));
+    }
+    Ok(())
+}
+
+fn link_refused(answer: &RawLinkAnswer) -> Result<(), Refusal> {
     if answer.said == said::REFUSED {
         return Err(crate::refusal::given(answer.refusal));
     }

@@ -40,7 +40,8 @@
 //! - [`Group::shutdown`], [`Group::close`] and [`Group::abort`] end it; [`Group::free`] closes a slot after an abort. The marks sent and
 //!   heard name the [`State`].
 //! - [`Group::link_change`] and [`Group::sample`] keep the links and their [`Health`]. [`Group::link_message`] takes the peer's link
-//!   messages and [`Group::link_send`] makes ours: further links and memory keys, in one [`Exchange`] at a time. [`Books`] are a pool's.
+//!   messages and [`Group::link_send`] makes ours: further links and memory keys, in one [`Exchange`] at a time. Where a link goes down its
+//!   connections move to another one, and the answer has a message for each. [`Books`] are a pool's.
 //!
 //! # What is promised
 //!
@@ -77,7 +78,7 @@ pub use answer::{Closed, Health, Heard, Placing, Placings, Read, Sent, State};
 pub use border::{Memory, SharedMemory};
 pub use gather::{Gathered, Piece, Pieces};
 pub use group::Group;
-pub use link::{Fate, LinkFields, LinkHeard, LinkKind, LinkSent, Row, TakenUp};
+pub use link::{Fate, LinkChanged, LinkFields, LinkHeard, LinkKind, LinkSent, Row, TakenUp};
 pub use message::{Flags, Message};
 pub use pool::Books;
 pub use record::{

@@ -1,6 +1,7 @@
-//! Link messages: their kinds and fields, and what link message and link send answer.
+//! Link messages: their kinds and fields, and what link change, link message and link send answer.
 
 use crate::border::{said, RawFields, RawLinkAnswer, RawTakenUp};
+use crate::Message;
 use std::fmt;
 
 /// The named kinds of link messages (RFC 7609, Appendix A.3), by their first byte.
@@ -343,8 +344,16 @@ pub struct TakenUp {
     pub fate: Fate,
 }
 
+/// What link change answers.
+#[derive(Clone, Debug, PartialEq, Eq, Hash)]
+pub struct LinkChanged {
+    /// A message with F for each connection that moved, in slot order, to go out on the lowest active link
+    /// ([`Links::lowest_active`](crate::Links::lowest_active)); [`Group`](crate::Group) says when.
+    pub moved: Vec<Message>,
+}
+
 /// What link message answers.
-#[derive(Clone, Copy, Debug, PartialEq, Eq, Hash)]
+#[derive(Clone, Debug, PartialEq, Eq, Hash)]
 #[must_use]
 pub struct LinkHeard {
     /// The message's fields; `None` for an optional message, which is dropped.
@@ -355,35 +364,57 @@ pub struct LinkHeard {
     pub reply: Option<[u8; 44]>,
     /// The message taken up, if one was.
     pub taken_up: Option<TakenUp>,
+    /// As [`LinkChanged::moved`].
+    pub moved: Vec<Message>,
 }
 
 /// What link send answers.
-#[derive(Clone, Copy, Debug, PartialEq, Eq, Hash)]
+#[derive(Clone, Debug, PartialEq, Eq, Hash)]
 #[must_use]
 pub struct LinkSent {
     /// The bytes, to go out on the link.
     pub message: [u8; 44],
     /// The message taken up, if one was.
     pub taken_up: Option<TakenUp>,
+    /// Always empty: a message that we send takes no link down, or all of them.
+    pub moved: Vec<Message>,
+}
+
+impl LinkChanged {
+    pub(crate) fn given(answer: &RawLinkAnswer, out: &[u8]) -> LinkChanged {
+        debug_assert_eq!(answer.said, said::LINK_CHANGED);
+        LinkChanged { moved: moved(answer, out) }
+    }
 }
 
 impl LinkHeard {
-    pub(crate) fn given(answer: &RawLinkAnswer) -> LinkHeard {
+    pub(crate) fn given(answer: &RawLinkAnswer, out: &[u8]) -> LinkHeard {
         debug_assert_eq!(answer.said, said::LINK_HEARD);
         LinkHeard {
             fields: LinkFields::given(&answer.fields),
             fate: Fate::given(answer.fate),
             reply: answer.made.then_some(answer.message),
             taken_up: taken_up(&answer.up),
+            moved: moved(answer, out),
         }
     }
 }
 
 impl LinkSent {
-    pub(crate) fn given(answer: &RawLinkAnswer) -> LinkSent {
+    pub(crate) fn given(answer: &RawLinkAnswer, out: &[u8]) -> LinkSent {
         debug_assert!(answer.said == said::LINK_SENT && answer.made);
-        LinkSent { message: answer.message, taken_up: taken_up(&answer.up) }
+        LinkSent { message: answer.message, taken_up: taken_up(&answer.up), moved: moved(answer, out) }
     }
+}
+
+/// The messages with F at the front of the buffer that the call was lent.
+#[inline]
+fn moved(answer: &RawLinkAnswer, out: &[u8]) -> Vec<Message> {
+    if answer.count == 0 {
+        return Vec::new();
+    }
+    let messages = out.chunks_exact(Message::SIZE).take(answer.count as usize);
+    messages.map(|bytes| Message::made(bytes.try_into().expect("so many bytes"))).collect()
 }
 
 fn taken_up(up: &RawTakenUp) -> Option<TakenUp> {

@@ -36,7 +36,7 @@ pub struct Flags {
     pub urgent: bool,
     /// R, a cursor update is requested.
     pub request: bool,
-    /// F, failover.
+    /// F, failover: the connection has moved to the link that carries this, and the sequence number is that of the last message.
     pub failover: bool,
     /// D, done writing.
     pub done: bool,

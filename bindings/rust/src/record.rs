@@ -22,7 +22,7 @@ pub struct Identity {
     pub own: u32,
     /// The peer's alert token, which every message carries.
     pub peer: u32,
-    /// The connection's link, 1 to 4.
+    /// The connection's link, 1 to 4: open names it, and it changes where the connection moves.
     pub link: u8,
 }
 
@@ -295,4 +295,19 @@ pub struct Links {
     pub exchange: Exchange,
     /// What waits until it ends.
     pub queue: Queue,
+}
+
+impl Links {
+    /// The lowest-numbered active link; `None` where all are down. Connections whose link goes down move to it, and their messages with F
+    /// go out on it.
+    ///
+    /// ```
+    /// use fordlinnet::Links;
+    ///
+    /// let links = Links { active: [false, false, true, true], ..Links::default() };
+    /// assert_eq!((links.lowest_active(), Links::default().lowest_active()), (Some(3), None));
+    /// ```
+    pub fn lowest_active(&self) -> Option<u8> {
+        (1..=4).zip(self.active).find_map(|(link, active)| active.then_some(link))
+    }
 }

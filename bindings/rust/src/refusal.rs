@@ -18,7 +18,7 @@ use std::fmt;
 #[non_exhaustive]
 #[repr(u8)]
 pub enum Refusal {
-    /// S, N, the memory's length or the table's is wrong.
+    /// S, N, the memory's length or the table's is wrong; the calls on links: or the buffer has less than 44 x S bytes.
     Sizes = 1,
     /// The slot is outside 1 to S, or closed (for open: outside only).
     Slot = 2,
@@ -48,7 +48,7 @@ pub enum Refusal {
     CarriedLink = 14,
     /// A fifth link message to queue; or a link send that the exchange bars, or a reply unasked.
     Barred = 15,
-    /// The message heard does not carry the next sequence number.
+    /// The message heard, without F, does not carry the next sequence number.
     Sequence = 16,
     /// The answer time is no sample: above 60,000 milliseconds.
     Sample = 17,
@@ -98,7 +98,7 @@ impl Refusal {
     /// The list's words.
     pub const fn words(self) -> &'static str {
         match self {
-            Refusal::Sizes => "S, N, the memory's length or the table's is wrong",
+            Refusal::Sizes => "S, N, the memory's length or the table's is wrong, or a call on links is lent a short buffer",
             Refusal::Slot => "the slot is outside 1 to S, or closed",
             Refusal::Incoherent => "the open record is not coherent",
             Refusal::Malformed => "not 44 bytes, or their first or second byte is wrong",

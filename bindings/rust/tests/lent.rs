@@ -72,10 +72,18 @@ fn wrong_parts_are_refused() {
     let mut table = [Record::default(); 3];
     let mut group = Group::lend(2, N, [0; 2 * N as usize], &mut table[..], Links::default());
     assert_eq!(group.open(1, &opening(5, 6)), Err(Refusal::Sizes));
+    assert_eq!(group.link_change(3, true), Err(Refusal::Sizes));
+    assert_eq!(group.link_message(0, &[]), Err(Refusal::Sizes));
+    assert_eq!(group.link_send(0, &LinkFields::new(LinkKind::TestLink)), Err(Refusal::Sizes));
+    assert_eq!(group.sample(3, 1), Err(Refusal::LinkDown));
+    for s in [0, 256, u32::MAX] {
+        let mut group = Group::lend(s, N, [0; 2 * N as usize], vec![Record::default(); 2], Links::default());
+        assert_eq!(group.link_change(1, true), Err(Refusal::Sizes));
+    }
     assert_eq!(Group::fresh(256, N).err(), Some(Refusal::Sizes));
     assert_eq!(Group::fresh(1, 65_541).err(), Some(Refusal::Sizes));
     let text = Refusal::Sizes.to_string();
-    assert_eq!(text, "refusal 1: S, N, the memory's length or the table's is wrong");
+    assert_eq!(text, "refusal 1: S, N, the memory's length or the table's is wrong, or a call on links is lent a short buffer");
 }
 
 fn bytes_of(parts: &[(usize, &[u8])]) -> [u8; 44] {
@@ -86,11 +94,12 @@ fn bytes_of(parts: &[(usize, &[u8])]) -> [u8; 44] {
     bytes
 }
 
-/// The example of request 2026-01's page: a server adds link 2, and a DELETE LINK waits. Neither call looks at memory or table.
+/// The example of request 2026-01's page: a server adds link 2, and a DELETE LINK waits. The calls change neither memory nor table.
 #[test]
 fn link_messages_on_lent_links() -> Result<(), Refusal> {
     let mut links = Links { role: Role::Server, active: [true, false, false, false], ..Links::default() };
-    let mut desk = Group::lend(0, 0, (), (), &mut links);
+    let mut table = [Record::default()];
+    let mut desk = Group::lend(1, 8, [7; 8], &mut table[..], &mut links);
 
     let gid = 0xFE80 << 48;
     let add = LinkFields::of(LinkKind::AddLink, &[0, 0, 0, 2_199_023_255_553, gid, 1, 9, 2, 5, 77]);
@@ -113,7 +122,83 @@ fn link_messages_on_lent_links() -> Result<(), Refusal> {
     let last = desk.link_message(2, &bytes_of(&[(0, &[0x01, 0x2C, 0, 0x80]), (29, &[2, 0, 0, 0, 0, 4])]))?;
     assert_eq!(last.taken_up, Some(TakenUp { link: 1, fields: Some(delete), fate: Fate::Taken }));
 
+    assert_eq!(*desk.memory(), [7; 8]);
     assert_eq!((links.active, links.exchange), ([true, true, false, false], Exchange::default()));
     assert!(links.queue.waiting().is_empty());
+    assert_eq!(table, [Record::default()]);
+    Ok(())
+}
+
+/// The first 26 bytes of a CDC message with no wrap numbers.
+fn told(sequence: u16, token: u32, producer: u8, consumer: u8, flags: [u8; 2]) -> [u8; 44] {
+    let (sequence, token) = (sequence.to_be_bytes(), token.to_be_bytes());
+    bytes_of(&[(0, &[0xFE, 0x2C]), (2, &sequence), (4, &token), (15, &[producer]), (23, &[consumer]), (24, &flags)])
+}
+
+/// The example of request 2026-13's page: three connections on link 1, one of them aborted, move to link 2.
+#[test]
+fn connections_move() -> Result<(), Refusal> {
+    let mut group = Group::fresh(3, 10_000)?;
+    assert_eq!(group.link_change(1, true)?.moved, []);
+    assert_eq!(group.link_change(2, true)?.moved, []);
+    for (slot, own, peer) in [(1, 5, 16_909_060), (2, 6, 7), (3, 8, 9)] {
+        let rtokens = [(11, 0), (22, 4096), (0, 0), (0, 0)].map(|(key, base)| RToken { key, base });
+        group.open(slot, &Opening { own, peer, link: 1, remote: Remote { size: 10_000, index: slot, rtokens } })?;
+    }
+    let sent = group.send(1, &[0xAB])?;
+    assert_eq!((sent.placings[0].key, sent.placings[0].address), (11, 4));
+    let _ = group.abort(3)?;
+
+    // one byte short: nothing is done, and nothing is written
+    let (before, mut short) = (group.clone(), [0xA5; 131]);
+    assert_eq!(group.link_change_into(1, false, &mut short), Err(Refusal::Sizes));
+    assert!(group == before && short == [0xA5; 131]);
+
+    let (mut lent, mut out) = (group.clone(), [0xA5; 140]);
+    let changed = group.link_change(1, false)?;
+    assert_eq!(lent.link_change_into(1, false, &mut out)?, changed);
+    let wanted = [told(1, 16_909_060, 5, 4, [0x08, 0]), told(0, 7, 4, 4, [0x08, 0])];
+    assert_eq!(changed.moved.iter().map(|message| *message.as_bytes()).collect::<Vec<_>>(), wanted);
+    assert_eq!((&out[..88], &out[88..]), (wanted.as_flattened(), &[0xA5; 52][..]));
+    assert_eq!(group.links().lowest_active(), Some(2));
+    for (record, before) in group.table().iter().zip(before.table()) {
+        let mut moved = *before;
+        moved.id.link = 2;
+        assert_eq!(*record, moved);
+    }
+    assert!(group == lent && group.memory() == before.memory());
+
+    assert_eq!(*group.shutdown(1)?.as_bytes(), told(2, 16_909_060, 5, 4, [0, 0x80]));
+    let sent = group.send(2, &[0xCD])?;
+    assert_eq!((sent.placings[0].key, sent.placings[0].address), (22, 14_100));
+
+    // with F: the last number heard, and another
+    let heard = group.hear(&told(0, 6, 0, 0, [0xB8, 0xC0]))?;
+    assert_eq!((heard.moved, heard.state, heard.message), (0, State::Active, None));
+    let heard = group.hear(&told(1, 6, 0, 0, [0x08, 0]))?;
+    assert_eq!((heard.state, heard.message.map(Into::into)), (State::PeerAbortWait, Some(told(2, 7, 5, 4, [0, 0x20]))));
+
+    // all links go down, and nothing moves
+    let delete = LinkFields::new(LinkKind::DeleteLink).with(Row::A, 1);
+    let sent = group.link_send(2, &delete)?;
+    assert_eq!((sent.message[..4].to_vec(), sent.moved), (vec![0x04, 0x2C, 0, 0x40], vec![]));
+    assert_eq!(group.link_change(1, true)?.moved, []);
+    assert_eq!(group.links().active, [true, false, false, false]);
+    assert_eq!(group.shutdown(2), Err(Refusal::LinkDown));
+    Ok(())
+}
+
+/// DELETE LINK from the server takes link 1 down: the answer has the reply, and the message of the connection that moved.
+#[test]
+fn a_link_message_moves() -> Result<(), Refusal> {
+    let mut client = Group::fresh(1, N)?;
+    for link in 1..=3 {
+        client.link_change(link, true)?;
+    }
+    client.open(1, &opening(5, 6))?;
+    let heard = client.link_message(1, &bytes_of(&[(0, &[0x04, 0x2C, 0, 0, 3])]))?;
+    assert_eq!((heard.fate, heard.reply.map(|reply| reply[3])), (Fate::Taken, Some(0x80)));
+    assert_eq!(heard.moved.iter().map(|message| *message.as_bytes()).collect::<Vec<_>>(), [told(0, 6, 4, 4, [0x08, 0])]);
+    assert_eq!((client.links().active, client.table()[0].id.link), ([true, true, false, false], 1));
     Ok(())
 }

@@ -178,7 +178,6 @@ fn management_accepted(o: &mut [u8; 65536], at: usize, call: Management) -> usiz
     match call {
         Management::Open(_, _) => output::text(o, at, b"open\n"),
         Management::Free(_) => output::text(o, at, b"free\n"),
-        Management::LinkChange(_, _) => output::text(o, at, b"link\n"),
         Management::Sample(_, _) => output::text(o, at, b"sample\n"),
     }
 }

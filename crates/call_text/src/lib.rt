@@ -11,7 +11,6 @@ use stream::input::Scan;
 pub enum CallVerb {
     Open,
     Free,
-    Link,
     Sample,
     Send,
     Urgent,
@@ -63,15 +62,6 @@ fn open_line(buf: &mut [u8; 65536], c: Scan) -> CallLine
     };
     let command = Command::Manage(Management::Open(slot.value, given));
     line_of(to.scan, command, 0, 0)
-}
-
-fn link_line(buf: &mut [u8; 65536], c: Scan) -> CallLine
-    ensures { λ r. ⌜ r .scan .left ≤ c .left ⌝ }
-{
-    let link = input::number(buf, c, 255);
-    let up = input::number(buf, link.scan, 1);
-    let command = Command::Manage(Management::LinkChange(link.value as u8, up.value == 1));
-    line_of(up.scan, command, 0, 0)
 }
 
 fn sample_line(buf: &mut [u8; 65536], c: Scan) -> CallLine
@@ -143,7 +133,6 @@ pub fn parse(buf: &mut [u8; 65536], given: &mut [u8], c: Scan, verb: CallVerb) -
 {
     match verb {
         CallVerb::Open => open_line(buf, c),
-        CallVerb::Link => link_line(buf, c),
         CallVerb::Sample => sample_line(buf, c),
         CallVerb::Send => send_line(buf, given, c, Request::Send),
         CallVerb::Urgent => send_line(buf, given, c, Request::Urgent),

@@ -1,5 +1,5 @@
 -- The claims of specs/Changes. Assumes nothing.
-use mathlib.Core.Path.{_≡_, refl, sym, ap, _∙_}
+use mathlib.Core.Path.{_≡_, refl, sym, ap, subst, _∙_}
 use mathlib.Core.Logic.{_⊎_, inl, inr, _≢_}
 use mathlib.Core.Bool.{true, false≢true, cond, Bool, false, not, _&&_, _||_}
 use Prim.Native.Nat.{ℕ, zero, suc}
@@ -10,12 +10,17 @@ use Rattle.table.specs.Table.{recordAt, withRecord}
 use Rattle.linktheorems.specs.Statements.{Call as LinkCall}
 use Rattle.linktheorems.proofs.Theorems.{links-touched}
 use Rattle.safety.specs.Links.{callOf}
-use Rattle.rules.specs.Rules.{linksOf, Group, Call, Turn, Done, does, answer, refuses, putTurn, recordOf, sizesOk, on, requestTurn, next, elementIn, linkOf, close, hearTurn, turnOf, saysOf, refusal, heard, Answer, holderOf, sent, gathered, Request, hear}
+use Rattle.safety.proofs.Failing.{OnlyLinks, only-the-link}
+use Rattle.failover.specs.declared.Plan.{Plan}
+use Rattle.failover.specs.Failover.{planOf, movedOf}
+use Rattle.failover.proofs.Keeps.{moved-keeps}
+use Rattle.failover.proofs.Still.{same-moved}
+use Rattle.rules.specs.Rules.{linksOf, Group, Call, Turn, Done, does, answer, refuses, putTurn, recordOf, sizesOk, on, requestTurn, next, elementIn, linkOf, close, hearTurn, turnOf, saysOf, refusal, heard, Answer, holderOf, sent, gathered, Request, hear, linkChange, linkMessage, linkSend, openSlot, freeSlot, sample, manage}
 use Rattle.order.proofs.Slots.{slot-in, record-other, table-long, memory-long, open-in, open-is, open-there, record-same}
-use Rattle.changes.specs.Changes.{OneTurned, OneRecord, Touches, LinksByLinkCalls, HeardFor, Closes, ClosedBy, Forward, NeverBack, by-close, by-hear, by-abort, by-free, AbortAnswer, AbortHeard, slotOf, Closing}
+use Rattle.changes.specs.Changes.{asideOf, OneTurned, OneRecord, Touches, LinksByLinkCalls, HeardFor, Closes, ClosedBy, Forward, NeverBack, by-close, by-hear, by-abort, by-free, AbortAnswer, AbortHeard, slotOf, Closing}
 use Rattle.safety.proofs.Effects.{Acts, Effect, refuses-it, links-it, samples-it, puts-turn, effect, opens, open-facts, free-facts, asks, hears, frees}
 use Rattle.changes.proofs.Acted.{acts-slot, acts-in, is-sizes, acts-high, acts-long}
-use Rattle.changes.proofs.Course.{Course, goes, ends, stays, EndsSlot, request-course, hear-course, ClosesSlot}
+use Rattle.changes.proofs.Course.{Course, goes, ends, ahead, stays, EndsSlot, request-course, hear-course, ClosesSlot}
 use Rattle.safety.specs.Statement.{OpenAt}
 use Rattle.connection.specs.declared.Record.{Record}
 use Rattle.connection.specs.Connection.{zeroRecord, refusalOf, marksTo}
@@ -35,6 +40,13 @@ use mathlib.Core.List.{List}
 use Rattle.cdc.specs.declared.Decoded.the-variants.{Good}
 use Rattle.order.specs.Statement.{hearer}
 
+-- a call that acts on a slot moves nothing
+pub acts-aside : (g : Group) (c : Call) (k : ℕ) (t : Turn) (r : Record) → Acts g c k t → asideOf g c r ≡ r
+acts-aside g c k t r (asks q p o e) = ap (λ (z : Call). asideOf g z r) p
+acts-aside g c k t r (hears b m p d h o v e) = ap (λ (z : Call). asideOf g z r) p
+acts-aside g c k t r (opens given p n e) = ap (λ (z : Call). asideOf g z r) p
+acts-aside g c k t r (frees p n e) = ap (λ (z : Call). asideOf g z r) p
+
 -- 1. One record
 turn-one : (g : Group) (c : Call) (k : ℕ) (t : Turn) → sizesOk g ≡ true → Acts g c k t → OneTurned g c (putTurn g k t .group)
 unfolding putTurn recordAt
@@ -46,7 +58,7 @@ turn-one g c (suc i) t ok a =
       as-many = table-long (g .table) (suc i) (t .after);
       as-long =
           memory-long (g .N) (g .S) (g .memory) (is-sizes g c (suc i) t ok .whole) i (acts-high g c i t ok a) (t .element) (acts-long g c i t ok a);
-      others = λ j d. other j (λ p. d (p ∙ sym (acts-slot g c (suc i) t ok a)));
+      others = λ j d. other j (λ p. d (p ∙ sym (acts-slot g c (suc i) t ok a))) ∙ sym (acts-aside g c (suc i) t (recordOf g j) a);
     }
   where
     other : (j : ℕ) → j ≢ suc i → recordAt (withRecord (g .table) (suc i) (t .after)) j ≡ recordAt (g .table) j
@@ -54,32 +66,57 @@ turn-one g c (suc i) t ok a =
     other (suc j) d = record-other (g .table) i j (t .after) (λ p. d (ap suc p))
 
 -- a call on the links acts on no slot
-no-slot : (g : Group) (k : LinkCall) → slotOf g (callOf k) ≡ 0
-no-slot g (LinkCall.change l up) = refl
-no-slot g (LinkCall.message l b) = refl
-no-slot g (LinkCall.send l i vs) = refl
+no-slot : (g : Group) (k : LinkCall) (b : List ℕ) → slotOf g (callOf k b) ≡ 0
+no-slot g (LinkCall.change l up) b = refl
+no-slot g (LinkCall.message l bytes) b = refl
+no-slot g (LinkCall.send l i vs) b = refl
+
+-- and leaves each record as failover does
+linked : (g : Group) (k : LinkCall) (b : List ℕ) → OneTurned g (callOf k b) (next g (callOf k b))
+linked g k b = go k (only-the-link g k b)
+  where
+    go : (k : LinkCall) → OnlyLinks g (next g (callOf k b)) → OneTurned g (callOf k b) (next g (callOf k b))
+    go (LinkCall.change l up) o = record { same-S = o .same-S; same-N = o .same-N; as-many = o .as-many; as-long = ap (λ (m : List ℕ). length m) (o .same-memory); others = λ j d. o .each j }
+    go (LinkCall.message l bytes) o =
+        record { same-S = o .same-S; same-N = o .same-N; as-many = o .as-many; as-long = ap (λ (m : List ℕ). length m) (o .same-memory); others = λ j d. o .each j }
+    go (LinkCall.send l i vs) o =
+        record { same-S = o .same-S; same-N = o .same-N; as-many = o .as-many; as-long = ap (λ (m : List ℕ). length m) (o .same-memory); others = λ j d. o .each j }
+
+-- nor does a call that leaves the links
+kept-aside : (g : Group) (c : Call) (r : Record) → next g c .links ≡ g .links → asideOf g c r ≡ r
+kept-aside g (on k q) r e = refl
+kept-aside g (hear b) r e = refl
+kept-aside g (manage (openSlot k given)) r e = refl
+kept-aside g (manage (freeSlot k)) r e = refl
+kept-aside g (manage (linkChange l up b)) r e = ap (λ (x : List Bool). movedOf (g .N) (planOf (g .links) x) r) e ∙ same-moved (g .N) (g .links) r
+kept-aside g (manage (linkMessage l bytes b)) r e = ap (λ (x : List Bool). movedOf (g .N) (planOf (g .links) x) r) e ∙ same-moved (g .N) (g .links) r
+kept-aside g (manage (linkSend l k vs b)) r e = ap (λ (x : List Bool). movedOf (g .N) (planOf (g .links) x) r) e ∙ same-moved (g .N) (g .links) r
+kept-aside g (manage (sample l ms)) r e = refl
 
 pub one-record : OneRecord
 unfolding refuses
-one-record g c = go (does g c) (effect g c)
+one-record g c = go (does g c) refl (effect g c)
   where
-    as-was : (h : Group) → h ≡ g → OneTurned g c h
-    as-was h e =
+    as-was : (h : Group) → h ≡ g → ((r : Record) → asideOf g c r ≡ r) → OneTurned g c h
+    as-was h e s =
         record {
           same-S = ap (λ (x : Group). x .S) e;
           same-N = ap (λ (x : Group). x .N) e;
           as-many = ap (λ (x : Group). length (x .table)) e;
           as-long = ap (λ (x : Group). length (x .memory)) e;
-          others = λ k d. ap (λ (x : Group). recordOf x k) e;
+          others = λ k d. ap (λ (x : Group). recordOf x k) e ∙ sym (s (recordOf g k));
         }
 
-    go : (x : Done) → Effect g c x → OneTurned g c (x .group)
-    go x (refuses-it n h e) = as-was (x .group) (ap (λ (d : Done). d .group) e)
-    go x (links-it k p a e) =
-        rw e (record { same-S = refl; same-N = refl; as-many = refl; as-long = refl; others = λ k d. refl })
-    go x (samples-it l ms p z e) =
-        rw e (record { same-S = refl; same-N = refl; as-many = refl; as-long = refl; others = λ k d. refl })
-    go x (puts-turn k t s a e) = rw e (turn-one g c k t s a)
+    go : (x : Done) → does g c ≡ x → Effect g c x → OneTurned g c (x .group)
+    go x q (refuses-it n h e) =
+        as-was (x .group) (ap (λ (d : Done). d .group) e)
+        (λ r. kept-aside g c r (ap (λ (d : Done). d .group .links) (q ∙ e)))
+    go x q (links-it k b p a e) =
+        subst (λ (z : Done). OneTurned g c (z .group)) q (subst (λ (z : Call). OneTurned g z (next g z)) (sym p) (linked g k b))
+    go x q (samples-it l ms p z e) =
+        rw e (record { same-S = refl; same-N = refl; as-many = refl; as-long = refl; others = λ k d. sym (ap (λ (z : Call). asideOf g z (recordOf g k)) p) })
+    go x q (puts-turn k t s a e) =
+        rw e (turn-one g c k t s a)
 
 -- 2. Links
 pub links-by-link-calls : LinksByLinkCalls
@@ -88,9 +125,10 @@ links-by-link-calls g c = go (does g c) refl (effect g c)
   where
     go : (x : Done) → does g c ≡ x → Effect g c x → (x .group .links ≡ g .links) ⊎ Touches g c
     go x q (refuses-it n h e) = inl (ap (λ (d : Done). d .group .links) e)
-    go x q (links-it k p a e) =
+    go x q (links-it k b p a e) =
         inr (record {
           call = k;
+          lent = b;
           is = p;
           touches =
               ap (λ (d : Done). d .group .links) q ∙ ap (λ (h : Group). h .links) e ∙ links-touched (linksOf g) k .0;
@@ -115,16 +153,25 @@ module _ (g : Group) (c : Call) (i : ℕ) (o : OpenAt g (suc i)) where
       (stays (g .N) was d (ap (λ (x : Record). x .id) e) (ap (λ (x : Record). x .inbound .producer) e)
       (ap (λ (x : Record). x .outbound .consumer) e))
 
+  -- a connection that moved, or stays
+  moved : (Closes g c (suc i) → ⊥) → (p : Plan) (d : Record) → d ≡ movedOf (g .N) p was → After d
+  moved w p d e =
+      let k = moved-keeps (g .N) p was in
+      goes w
+      (ahead (g .N) was d (ap (λ (x : Record). x .id .opened) e ∙ k .opened)
+      (ap (λ (x : Record). x .inbound .producer) e ∙ ap (λ x. x .producer) (k .inbound))
+      (ap (λ (x : Record). x .outbound .consumer) e ∙ ap (λ x. x .consumer) (k .outbound)))
+
   -- a refusal closes nothing, and what closes a slot acts on it
   not-refused : (n : ℕ) → answer g c .says ≡ refusal n → Closes g c (suc i) → ⊥
   not-refused n e (by-close p a h) = clash (cc)
-  not-refused n e (by-hear m for w s) = for .took n e
+  not-refused n e (by-hear m for w s v) = for .took n e
   not-refused n e (by-abort m for w) = for .took n e
   not-refused n e (by-free p a h) = clash (cc)
 
   closes-slot : Closes g c (suc i) → slotOf g c ≡ suc i
   closes-slot (by-close p a h) = ap (slotOf g) p
-  closes-slot (by-hear m for w s) = ap (slotOf g) (for .is) ∙ ap (hearer g) (for .reads) ∙ for .holder
+  closes-slot (by-hear m for w s v) = ap (slotOf g) (for .is) ∙ ap (hearer g) (for .reads) ∙ for .holder
   closes-slot (by-abort m for w) = ap (slotOf g) (for .is) ∙ ap (hearer g) (for .reads) ∙ for .holder
   closes-slot (by-free p a h) = ap (slotOf g) p
 
@@ -149,7 +196,7 @@ module _ (g : Group) (c : Call) (i : ℕ) (o : OpenAt g (suc i)) where
       where
         back : Closes g c (suc i) → ClosesSlot was q (t .answer .says)
         back (by-close e a h) = (let x : q ≡ close = cc in x, sym said ∙ a, h)
-        back (by-hear m for w s) = let e = for .is in clash (cc)
+        back (by-hear m for w s v) = let e = for .is in clash (cc)
         back (by-abort m for w) = let e = for .is in clash (cc)
         back (by-free e a h) = clash (cc)
 
@@ -166,10 +213,10 @@ module _ (g : Group) (c : Call) (i : ℕ) (o : OpenAt g (suc i)) where
         why w = go (w .1)
           where
             go : (m .flags .abort ≡ true)
-                ⊎ (((was .marks .heard .closed || m .flags .closed) && was .marks .sent .closed ≡ true) × (was .marks .abort ≡ false))
+                ⊎ (((was .marks .heard .closed || m .flags .closed) && was .marks .sent .closed ≡ true) × (was .marks .abort ≡ false) × (m .flags .failover ≡ false))
                 → Closes g c (suc i)
             go (inl a) = by-abort m (for (w .0)) a
-            go (inr a) = by-hear m (for (w .0)) (a .0) (a .1)
+            go (inr a) = by-hear m (for (w .0)) (a .0) (a .1) (a .2)
 
         -- the message heard is the one that the call's bytes are
         one : (n : Message) → HeardFor g c (suc i) n → n ≡ m
@@ -180,7 +227,7 @@ module _ (g : Group) (c : Call) (i : ℕ) (o : OpenAt g (suc i)) where
 
         back : Closes g c (suc i) → EndsSlot was m (t .answer .says)
         back (by-close e a h) = clash (cc)
-        back (by-hear n f w s) = (taken n f, inr (rw (one n f) at w, s))
+        back (by-hear n f w s v) = (taken n f, inr (rw (one n f) at w, s, rw (one n f) at v))
         back (by-abort n f w) = (taken n f, inl (rw (one n f) at w))
         back (by-free e a h) = clash (cc)
 
@@ -206,14 +253,14 @@ module _ (g : Group) (c : Call) (i : ℕ) (o : OpenAt g (suc i)) where
           rw q (by-acts t (rw (← e) at did) (rw (← e) at a))
       turned k t did ok a (no d) =
           let s = acts-slot g c k t ok a in
-          as-it-was (elsewhere (λ p. d (sym p ∙ s))) _ (one-record g c .others (suc i) (λ p. d (p ∙ s)))
+          as-it-was (elsewhere (λ p. d (sym p ∙ s))) _ (one-record g c .others (suc i) (λ p. d (p ∙ s)) ∙ acts-aside g c k t was a)
 
       go : (x : Done) → does g c ≡ x → Effect g c x → After (recordOf (next g c) (suc i))
       go x q (refuses-it n h e) =
           as-it-was (not-refused n (ap (λ (d : Done). d .answer .says) (q ∙ e))) _ (ap (λ (d : Done). recordOf (d .group) (suc i)) (q ∙ e))
-      go x q (links-it k p a e) =
-          as-it-was (elsewhere (λ z. omega (arith, sym (ap (slotOf g) p ∙ no-slot g k) ∙ z))) _
-          (ap (λ (d : Done). recordOf (d .group) (suc i)) q ∙ ap (λ (h : Group). recordOf h (suc i)) e)
+      go x q (links-it k b p a e) =
+          moved (elsewhere (λ z. omega (arith, sym (ap (slotOf g) p ∙ no-slot g k b) ∙ z))) _ _
+          (ap (λ (z : Call). recordOf (next g z) (suc i)) p ∙ only-the-link g k b .each (suc i))
       go x q (samples-it l ms p y e) =
           as-it-was (elsewhere (λ z. omega (arith, sym (ap (slotOf g) p) ∙ z))) _ (ap (λ (d : Done). recordOf (d .group) (suc i)) (q ∙ e))
       go x q (puts-turn k t s a e) = turned k t (q ∙ e) s a (ℕ-discrete (suc i) k)
@@ -229,7 +276,7 @@ closed-by g c (suc i) o = go (slot-course g c i o)
         record {
           only-by =
               inl (open-is (next g c .S) (next g c .table) (suc i) (rw (one-record g c .same-S) (v .slot))
-              (ap (λ x. x .opened) (a .same-id) ∙ v .is-open));
+              (a .same-opened ∙ v .is-open));
           zeroed = λ x. absurd (w x);
         }
     go (ends w z) = record { only-by = inr w; zeroed = λ x. z }
@@ -322,6 +369,6 @@ abort-heard g c k m for a = go (does g c) refl (effect g c)
 
     go : (x : Done) → does g c ≡ x → Effect g c x → AbortAnswer g c k
     go x q (refuses-it n h e) = absurd (for .took n (ap (λ (d : Done). d .answer .says) (q ∙ e)))
-    go x q (links-it k p a e) = let w = for .is in clash (cc)
+    go x q (links-it k b p a e) = let w = for .is in clash (cc)
     go x q (samples-it l ms p z e) = let w = for .is in clash (cc)
     go x q (puts-turn j t s a e) = by j t (q ∙ e) a

@@ -24,7 +24,7 @@ use Rattle.outcome.proofs.Laws.{outcome-reply}
 use Rattle.transmit.specs.Transmit.{sendOf, sentOf, urgentOf, urgentSendOf}
 use Rattle.produced.specs.Produced.{producedOf, producedOut, urgedOut, urgedOf}
 use Rattle.receive.specs.Receive.{unreadOf, placeOf, readOf, takeOf, tornOf, consumedOf, consumedIn, clearedIn}
-use Rattle.hear.specs.Hear.{ruledOf, hearOf, abortedOf, followedOf, acceptedOf}
+use Rattle.hear.specs.Hear.{ruledOf, hearOf, abortedOf, followedOf, validatedOf, acceptedOf}
 use Rattle.heard.specs.Heard.{nextB, producerB, consumerB, heardRecord, heardIn, heardOut}
 use Rattle.heard.proofs.Laws.{Produces, Consumes, producer-rules, consumer-rules}
 use Rattle.finish.specs.Finish.{resetOf, closingOf, shutdownOf, closeForbids, closeOf, abortOf}
@@ -34,7 +34,7 @@ use Rattle.closing.specs.declared.State.{State}
 
 -- the record d is still that of the connection of c, and P and R did not go back
 pub record Ahead (n : ℕ) (c d : Record) : Type 0 where
-  pub same-id : d .id ≡ c .id
+  pub same-opened : d .id .opened ≡ c .id .opened
   pub P-ahead : goodB (n - 4) (c .inbound .producer) (d .inbound .producer) ≡ true
   pub R-ahead : goodB (c .remote .size - 4) (c .outbound .consumer) (d .outbound .consumer) ≡ true
   pub P-still : marked (c .marks .heard) ≡ true → d .inbound .producer ≡ c .inbound .producer
@@ -48,11 +48,23 @@ pub data Course (n : ℕ) (c : Record) (Why : Type 0) (d : Record) : Type 0 wher
 record Leaves (n : ℕ) (c : Record) (Why : Reply → Type 0) (o : Outcome) : Type 0 where
   course : Course n c (Why (o .reply)) (o .after)
 
+pub ahead : (n : ℕ) (c d : Record) → d .id .opened ≡ c .id .opened → d .inbound .producer ≡ c .inbound .producer
+    → d .outbound .consumer ≡ c .outbound .consumer → Ahead n c d
+ahead n c d i p r =
+    record {
+      same-opened = i;
+      P-ahead = ap (λ (x : Cursor). goodB (n - 4) (c .inbound .producer) x) p ∙ gap-self (n - 4) (c .inbound .producer) .0;
+      R-ahead =
+          ap (λ (x : Cursor). goodB (c .remote .size - 4) (c .outbound .consumer) x) r
+          ∙ gap-self (c .remote .size - 4) (c .outbound .consumer) .0;
+      P-still = λ m. p;
+    }
+
 pub stays : (n : ℕ) (c d : Record) → d .id ≡ c .id → d .inbound .producer ≡ c .inbound .producer → d .outbound .consumer ≡ c .outbound .consumer
     → Ahead n c d
 stays n c d i p r =
     record {
-      same-id = i;
+      same-opened = ap (λ x. x .opened) i;
       P-ahead = ap (λ (x : Cursor). goodB (n - 4) (c .inbound .producer) x) p ∙ gap-self (n - 4) (c .inbound .producer) .0;
       R-ahead =
           ap (λ (x : Cursor). goodB (c .remote .size - 4) (c .outbound .consumer) x) r
@@ -73,7 +85,7 @@ module _ (n : ℕ) (c : Record) (Why : Reply → Type 0) (not-refused : (k : ℕ
   told : (r : Reply) (t : Bool) (d : Record) → (Why r → ⊥) → Ahead n c d → Leaves n c Why (outcomeOf r t d)
   unfolding outcomeOf toldOf toldIn usedIn
   told r true d w h =
-      record { course = goes w (record { same-id = h .same-id; P-ahead = h .P-ahead; R-ahead = h .R-ahead; P-still = h .P-still }) }
+      record { course = goes w (record { same-opened = h .same-opened; P-ahead = h .P-ahead; R-ahead = h .R-ahead; P-still = h .P-still }) }
   told r false d w h = record { course = goes w h }
 
   short : (r : Reply) (m : Message) (d : Record) → (Why r → ⊥) → d .id ≡ c .id → d .inbound .producer ≡ c .inbound .producer
@@ -163,7 +175,7 @@ abbrev pub EndsSlot : Record → Message → Says → Type 0
 EndsSlot c m says =
     ((k : ℕ) → says ≡ refusal k → ⊥)
     × ((m .flags .abort ≡ true)
-    ⊎ (((c .marks .heard .closed || m .flags .closed) && c .marks .sent .closed ≡ true) × (c .marks .abort ≡ false)))
+    ⊎ (((c .marks .heard .closed || m .flags .closed) && c .marks .sent .closed ≡ true) × (c .marks .abort ≡ false) × (m .flags .failover ≡ false)))
 
 same-cursor : (a b : Cursor) → sameB a b ≡ true → b ≡ a
 unfolding sameB
@@ -178,7 +190,7 @@ module _ (n : ℕ) (a : Bool) (c : Record) (m : Message) where
   unfolding heardRecord heardIn heardOut marksTo
   heard-ahead f p r =
       record {
-        same-id = refl;
+        same-opened = refl;
         P-ahead =
             gap-rest n (c .inbound .told) (c .inbound .producer) (m .producer) (f .t-range) (f .p-range) (p .range) (tp-good n c f .0)
             (p .tp-good) (p .no-less) .0;
@@ -203,20 +215,20 @@ module _ (n : ℕ) (a : Bool) (c : Record) (m : Message) where
   unheard k w = w .0 k refl
 
   neither : (says : Says) → m .flags .abort ≡ false
-      → ((c .marks .heard .closed || m .flags .closed) && c .marks .sent .closed ≡ true → c .marks .abort ≡ false → ⊥) → EndsSlot c m says → ⊥
+      → ((c .marks .heard .closed || m .flags .closed) && c .marks .sent .closed ≡ true → c .marks .abort ≡ false → m .flags .failover ≡ false → ⊥) → EndsSlot c m says → ⊥
   neither says h no-C w = go (w .1)
     where
       go : (m .flags .abort ≡ true)
-          ⊎ (((c .marks .heard .closed || m .flags .closed) && c .marks .sent .closed ≡ true) × (c .marks .abort ≡ false)) → ⊥
+          ⊎ (((c .marks .heard .closed || m .flags .closed) && c .marks .sent .closed ≡ true) × (c .marks .abort ≡ false) × (m .flags .failover ≡ false)) → ⊥
       go (inl a) = false≢true (sym h ∙ a)
-      go (inr b) = no-C (b .0) (b .1)
+      go (inr b) = no-C (b .0) (b .1) (b .2)
 
   -- a call that is heard is not refused
   was-heard : (r : Reply) (moved : ℕ) (s : State) → r ≡ Heard moved s → (k : ℕ) → saysOf r ≡ refusal k → ⊥
   was-heard r moved s e k p = let q : heard moved s ≡ refusal k = sym (ap saysOf e) ∙ p in clash (cc)
 
   hear-leaves : Leaves n c Ends (hearOf n a c m)
-  unfolding hearOf abortedOf followedOf ruledOf acceptedOf heardRecord marksHeard marksTo
+  unfolding hearOf abortedOf followedOf validatedOf ruledOf acceptedOf heardRecord marksHeard marksTo
   hear-leaves =
       by-test n c Ends unheard (eqb (refusalOf n a c false) 0) _ _
       (λ e.
@@ -225,18 +237,24 @@ module _ (n : ℕ) (a : Bool) (c : Record) (m : Message) where
       (λ h. shut n c Ends unheard true _ (λ t. (was-heard _ _ _ (outcome-reply _ _ _), inl h)) (λ t. absurd (false≢true (sym t))))
       (λ h.
       by-test n c Ends unheard (c .marks .abort) _ _
-      (λ s. outcome n c Ends unheard _ _ _ (neither _ h (λ x y. false≢true (sym y ∙ s))) refl refl refl)
+      (λ s. outcome n c Ends unheard _ _ _ (neither _ h (λ x y f. false≢true (sym y ∙ s))) refl refl refl)
       (λ s.
+      by-test n c Ends unheard (m .flags .failover) _ _
+      (λ v.
+      by-test n c Ends unheard (eqb (m .sequence) (c .inbound .last)) _ _
+      (λ z. outcome n c Ends unheard _ _ _ (neither _ h (λ x y f. false≢true (sym f ∙ v))) refl refl refl)
+      (λ z. outcome n c Ends unheard _ _ _ (neither _ h (λ x y f. false≢true (sym f ∙ v))) refl refl refl))
+      (λ v.
       by-test n c Ends unheard (nextB c m) _ _
       (λ z.
       by-test n c Ends unheard (producerB n c (m .producer) && consumerB c (m .consumer)) _ _
       (λ r.
       let p = producer-rules n c (m .producer) (and-left (producerB n c (m .producer)) _ r) in
       let q = consumer-rules c (m .consumer) (and-right (producerB n c (m .producer)) _ r) in
-      shut n c Ends unheard _ _ (λ w. (was-heard _ _ _ (outcome-reply _ _ _), inr (w, s)))
-      (λ w. told n c Ends unheard _ _ _ (neither _ h (λ x y. false≢true (sym w ∙ x))) (heard-ahead ok p q)))
+      shut n c Ends unheard _ _ (λ w. (was-heard _ _ _ (outcome-reply _ _ _), inr (w, s, v)))
+      (λ w. told n c Ends unheard _ _ _ (neither _ h (λ x y f. false≢true (sym w ∙ x))) (heard-ahead ok p q)))
       (λ r. refused n c Ends unheard 8))
-      (λ z. refused n c Ends unheard 16))))
+      (λ z. refused n c Ends unheard 16)))))
       (λ e. refused n c Ends unheard _)
 
   pub hear-course : (e : List ℕ) → Course n c (EndsSlot c m (hearTurn n a c e m .answer .says)) (hearTurn n a c e m .after)

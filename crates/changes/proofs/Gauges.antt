@@ -43,10 +43,11 @@ use Rattle.linktheorems.proofs.Theorems.{links-touched}
 use Rattle.table.specs.declared.Links.{Links}
 use Rattle.table.specs.Table.{openB, linkIn, activeB, gaugeAt, withLink, withGauge, gaugeSet, linkSet}
 use Rattle.table.proofs.Laws.{gauge-set-same, gauge-set-other, gauge-cleared, with-gauge-length}
-use Rattle.rules.specs.Rules.{Group, openSlot, freeSlot, linkChange, linkMessage, linkSend, sample, Call, on, hear, manage, refusal, linkHeard, linkSent, Answer, plain, healthy, Turn, Done, does, answer, next, refuses, putTurn, outOf, sizesOk, onDoes, hearAt, hearMessage, hearDoes, openRefusal, openDoes, freeRefusal, freeDoes, linkDoes, linkMessageDoes, linkSendDoes, sampleRefusal, sampleDoes, linksOf, withLinks, Fresh}
+use Rattle.rules.specs.Rules.{Group, openSlot, freeSlot, linkChange, linkMessage, linkSend, sample, Call, on, hear, manage, refusal, linkHeard, linkSent, Answer, plain, healthy, Turn, Done, does, answer, next, refuses, putTurn, outOf, sizesOk, onDoes, hearAt, hearMessage, hearDoes, openRefusal, openDoes, freeRefusal, freeDoes, linkDoes, linkMessageDoes, linkSendDoes, sampleRefusal, sampleDoes, linksOf, withLinks, Fresh, Says, lentOk, linkRefusal, failsOver}
 use Rattle.order.specs.Statement.{leaves}
 use Rattle.changes.specs.Numbers.{refusedB}
-use Rattle.safety.specs.Links.{callOf}
+use Rattle.safety.specs.Links.{callOf, relinked}
+use Rattle.failover.specs.Failover.{planOf, movedAll, messagesOf, countOf, bufferLeft}
 use Rattle.changes.specs.Gauges.{Regauges, by-sample, by-link-down, GaugesBySampleAndLinkDown, Document01, SameButGauges, GaugesUnread, downB, unlessDown, heardAfter, heardFrom, samples, GaugeHolds, MeanExact, LateExact}
 use Rattle.safety.proofs.Effects.{Effect, refuses-it, links-it, samples-it, puts-turn, effect, sample-facts, gaugeAfter}
 use Rattle.safety.proofs.Links.{link-calls-leave}
@@ -67,8 +68,8 @@ gauges-by-sample-and-link-down g c = go (does g c) refl (effect g c)
   where
     go : (x : Done) → does g c ≡ x → Effect g c x → (x .group .gauges ≡ g .gauges) ⊎ Regauges g c
     go x q (refuses-it n h e) = inl (ap (λ (d : Done). d .group .gauges) e)
-    go x q (links-it k p a e) =
-        inr (by-link-down k p (ap (λ (d : Done). d .group .gauges) q ∙ ap (λ (h : Group). h .gauges) e ∙ links-touched (linksOf g) k .1))
+    go x q (links-it k b p a e) =
+        inr (by-link-down k b p (ap (λ (d : Done). d .group .gauges) q ∙ ap (λ (h : Group). h .gauges) e ∙ links-touched (linksOf g) k .1))
     go x q (samples-it l ms p z e) =
         inr (by-sample l ms p (ap (λ (d : Done). d .answer .says) (q ∙ e)) (ap (λ (d : Done). d .group .gauges) (q ∙ e)))
     go x q (puts-turn k t s a e) = inl (ap (λ (d : Done). d .group .gauges) e)
@@ -282,16 +283,24 @@ module _ (g : Group) (q : List Gauge) where
   heard (Good m) = search (by-test, refused, turned)
   heard Malformed = refused 4 []
 
-  -- what is done to the links
-  linked : (a : Answer) (x y : Links) → SameLinks x y → Alike (record { answer = a; group = withLinks g x }) (record { answer = a; group = withLinks other y })
-  linked a x y h =
+  -- what is done to the links, and what moves then
+  linked : (b : List ℕ) (s : ℕ → Says) (m : Bool) (w : List ℕ) (x y : Links) → SameLinks x y → Alike (failsOver g x b s m w) (failsOver other y b s m w)
+  unfolding failsOver
+  linked b s m w x y h =
       record {
-        said = refl;
+        said =
+            λ i.
+            record {
+              says = s (countOf (g .N) (planOf (g .links) (h .same-active i)) (g .table));
+              made = m;
+              message = w;
+              out = bufferLeft (messagesOf (g .N) (planOf (g .links) (h .same-active i)) (g .table)) b;
+            };
         left =
             record {
               same-S = refl;
               same-N = refl;
-              same-table = refl;
+              same-table = λ i. movedAll (g .N) (planOf (g .links) (h .same-active i)) (g .table);
               same-links = h .same-active;
               same-role = h .same-role;
               same-exchange = h .same-exchange;
@@ -300,51 +309,46 @@ module _ (g : Group) (q : List Gauge) where
             };
       }
 
-  message : (l : ℕ) (b : List ℕ) → Alike (linkMessageDoes g l b) (linkMessageDoes other l b)
-  unfolding linkMessageDoes
-  message l b =
-      let h = heardOf (linksOf g) l b in
-      let e = heard-alike (linksOf g) q l b in
+  message : (l : ℕ) (bytes b : List ℕ) → Alike (linkMessageDoes g l bytes b) (linkMessageDoes other l bytes b)
+  unfolding linkMessageDoes linkRefusal
+  message l bytes b =
+      let h = heardOf (linksOf g) l bytes in
+      let e = heard-alike (linksOf g) q l bytes in
       subst
       (λ (x : ℕ × Fields × Fate × TakenUp × Bool × List ℕ).
-      Alike (linkMessageDoes g l b)
-      (cond (eqb (x .0) 0)
-      (record {
-        answer = record { says = linkHeard (x .1) (x .2) (x .3); made = x .4; message = x .5; out = [] };
-        group = withLinks other (heardOf (linksOf other) l b .settled .after);
-      })
-      (refuses other (x .0) [])))
+      Alike (linkMessageDoes g l bytes b)
+      (cond (eqb (cond (lentOk g b) (x .0) 1) 0)
+      (failsOver other (heardOf (linksOf other) l bytes .settled .after) b (linkHeard (x .1) (x .2) (x .3)) (x .4) (x .5))
+      (refuses other (cond (lentOk g b) (x .0) 1) b)))
       (e .same-answer)
-      (by-test (eqb (h .refusal) 0) _ _ _ _ (linked _ _ _ (e .same-after)) (refused (h .refusal) []))
+      (by-test (eqb (cond (lentOk g b) (h .refusal) 1) 0) _ _ _ _ (linked b _ _ _ _ _ (e .same-after)) (refused (cond (lentOk g b) (h .refusal) 1) b))
 
-  sending : (l : ℕ) (k : Kind) (vs : List ℕ) → Alike (linkSendDoes g l k vs) (linkSendDoes other l k vs)
-  unfolding linkSendDoes
-  sending l k vs =
+  sending : (l : ℕ) (k : Kind) (vs b : List ℕ) → Alike (linkSendDoes g l k vs b) (linkSendDoes other l k vs b)
+  unfolding linkSendDoes linkRefusal
+  sending l k vs b =
       let h = sentOf (linksOf g) l k vs in
       let e = sent-alike (linksOf g) q l k vs in
       subst
       (λ (x : ℕ × TakenUp × List ℕ).
-      Alike (linkSendDoes g l k vs)
-      (cond (eqb (x .0) 0)
-      (record {
-        answer = record { says = linkSent (x .1); made = true; message = x .2; out = [] };
-        group = withLinks other (sentOf (linksOf other) l k vs .settled .after);
-      })
-      (refuses other (x .0) [])))
+      Alike (linkSendDoes g l k vs b)
+      (cond (eqb (cond (lentOk g b) (x .0) 1) 0)
+      (failsOver other (sentOf (linksOf other) l k vs .settled .after) b (linkSent (x .1)) true (x .2))
+      (refuses other (cond (lentOk g b) (x .0) 1) b)))
       (e .same-answer)
-      (by-test (eqb (h .refusal) 0) _ _ _ _ (linked _ _ _ (e .same-after)) (refused (h .refusal) []))
+      (by-test (eqb (cond (lentOk g b) (h .refusal) 1) 0) _ _ _ _ (linked b _ _ _ _ _ (e .same-after)) (refused (cond (lentOk g b) (h .refusal) 1) b))
 
   alike : (c : Call) → Document01 c → Alike (does g c) (does other c)
-  unfolding onDoes hearDoes openRefusal openDoes freeRefusal freeDoes linkDoes
+  unfolding onDoes hearDoes openRefusal openDoes freeRefusal freeDoes linkDoes linkRefusal
   alike (on k r) d =
       by-test (sizesOk g) _ _ _ _ (by-test (openB (g .S) (g .table) k) _ _ _ _ (turned k _) (refused 2 (outOf r))) (refused 1 (outOf r))
   alike (hear b) d = by-test (sizesOk g) _ _ _ _ (heard (decodeOf b)) (refused 1 [])
   alike (manage (openSlot k o)) d = by-test (eqb (openRefusal g k o) 0) _ _ _ _ (turned k _) (refused (openRefusal g k o) [])
   alike (manage (freeSlot k)) d = by-test (eqb (freeRefusal g k) 0) _ _ _ _ (turned k _) (refused (freeRefusal g k) [])
-  alike (manage (linkChange l up)) d =
-      by-test (linkIn l) _ _ _ _ (linked plain _ _ (change-alike (linksOf g) q l up .same-after)) (refused 13 [])
-  alike (manage (linkMessage l b)) d = message l b
-  alike (manage (linkSend l k vs)) d = sending l k vs
+  alike (manage (linkChange l up b)) d =
+      let j : ℕ = cond (lentOk g b) (cond (linkIn l) 0 13) 1 in
+      by-test (eqb j 0) _ _ _ _ (linked b _ _ _ _ _ (change-alike (linksOf g) q l up .same-after)) (refused j b)
+  alike (manage (linkMessage l bytes b)) d = message l bytes b
+  alike (manage (linkSend l k vs b)) d = sending l k vs b
   alike (manage (sample l ms)) d = absurd d
 
 pub gauges-unread : GaugesUnread
@@ -375,15 +379,15 @@ after-one q [] ms = refl
 after-one q (n ∷ ns) ms = after-one (sampledOf q n) ns ms
 
 -- open and free are no calls on the links
-no-open : (i : LinkCall) (k : ℕ) (o : Opening) → manage (openSlot k o) ≡ callOf i → ⊥
-no-open (LinkCall.change l up) k o e = clash (cc)
-no-open (LinkCall.message l b) k o e = clash (cc)
-no-open (LinkCall.send l h vs) k o e = clash (cc)
+no-open : (i : LinkCall) (b : List ℕ) (k : ℕ) (o : Opening) → manage (openSlot k o) ≡ callOf i b → ⊥
+no-open (LinkCall.change l up) b k o e = clash (cc)
+no-open (LinkCall.message l bytes) b k o e = clash (cc)
+no-open (LinkCall.send l h vs) b k o e = clash (cc)
 
-no-free : (i : LinkCall) (k : ℕ) → manage (freeSlot k) ≡ callOf i → ⊥
-no-free (LinkCall.change l up) k e = clash (cc)
-no-free (LinkCall.message l b) k e = clash (cc)
-no-free (LinkCall.send l h vs) k e = clash (cc)
+no-free : (i : LinkCall) (b : List ℕ) (k : ℕ) → manage (freeSlot k) ≡ callOf i b → ⊥
+no-free (LinkCall.change l up) b k e = clash (cc)
+no-free (LinkCall.message l bytes) b k e = clash (cc)
+no-free (LinkCall.send l h vs) b k e = clash (cc)
 
 -- what a gauge holds, and that there are four
 record Holds (g : Group) (l : ℕ) (ns : List ℕ) : Type 0 where
@@ -470,10 +474,12 @@ module _ (g : Group) (l : ℕ) (ns : List ℕ) (w : Holds g l ns) where
           ∙ ap (λ (q : List Gauge). withGauge (withGauge (withGauge q 2 clearedOf) 3 clearedOf) 4 clearedOf) (lost-down (linksOf g) 1)
 
   -- a call on the links
-  links-hold : (k : LinkCall) → Holds (next g (callOf k)) l (unlessDown g l ns k)
-  links-hold k =
-      touched-holds (next g (callOf k)) (Link.does (linksOf g) k .touch)
-      (ap (λ (h : Group). h .gauges) (link-calls-leave g k) ∙ links-touched (linksOf g) k .1)
+  links-hold : (k : LinkCall) (b : List ℕ) → Holds (next g (callOf k b)) l (cond (lentOk g b) (unlessDown g l ns k) ns)
+  links-hold k b = go (lentOk g b) (ap (λ (h : Group). h .gauges) (link-calls-leave g k b))
+    where
+      go : (ok : Bool) → next g (callOf k b) .gauges ≡ cond ok (relinked g k) g .gauges → Holds (next g (callOf k b)) l (cond ok (unlessDown g l ns k) ns)
+      go true e = touched-holds (next g (callOf k b)) (Link.does (linksOf g) k .touch) (e ∙ links-touched (linksOf g) k .1)
+      go false e = as-it-was (next g (callOf k b)) ns e refl
 
   -- link k has one sample more
   sampled-one : (h : Group) (k ms : ℕ) → linkIn k ≡ true → leb ms mostMs ≡ true
@@ -532,22 +538,22 @@ module _ (g : Group) (l : ℕ) (ns : List ℕ) (w : Holds g l ns) where
       go false e = as-it-was g _ refl (ap (λ t. cond t (ns ++ ms ∷ []) ns) (and-false (eqb k l)))
 
   -- a call that is neither
-  other-holds : (c : Call) → ((k : LinkCall) → c ≡ callOf k → ⊥) → ((k ms : ℕ) → c ≡ manage (sample k ms) → ⊥) → Holds (next g c) l ns
+  other-holds : (c : Call) → ((k : LinkCall) (b : List ℕ) → c ≡ callOf k b → ⊥) → ((k ms : ℕ) → c ≡ manage (sample k ms) → ⊥) → Holds (next g c) l ns
   other-holds c a b = go (gauges-by-sample-and-link-down g c)
     where
       go : (next g c .gauges ≡ g .gauges) ⊎ Regauges g c → Holds (next g c) l ns
       go (inl e) = as-it-was (next g c) ns e refl
       go (inr (by-sample k ms p q e)) = absurd (b k ms p)
-      go (inr (by-link-down k p e)) = absurd (a k p)
+      go (inr (by-link-down k b p e)) = absurd (a k b p)
 
   call-holds : (c : Call) → Holds (next g c) l (heardAfter g l ns c)
-  call-holds (on k q) = other-holds (on k q) (λ i e. clash (cc)) (λ i ms e. clash (cc))
-  call-holds (hear b) = other-holds (hear b) (λ i e. clash (cc)) (λ i ms e. clash (cc))
-  call-holds (manage (openSlot k o)) = other-holds (manage (openSlot k o)) (λ i e. no-open i k o e) (λ i ms e. clash (cc))
-  call-holds (manage (freeSlot k)) = other-holds (manage (freeSlot k)) (λ i e. no-free i k e) (λ i ms e. clash (cc))
-  call-holds (manage (linkChange k up)) = links-hold (LinkCall.change k up)
-  call-holds (manage (linkMessage k b)) = links-hold (LinkCall.message k b)
-  call-holds (manage (linkSend k i vs)) = links-hold (LinkCall.send k i vs)
+  call-holds (on k q) = other-holds (on k q) (λ i b e. clash (cc)) (λ i ms e. clash (cc))
+  call-holds (hear b) = other-holds (hear b) (λ i b e. clash (cc)) (λ i ms e. clash (cc))
+  call-holds (manage (openSlot k o)) = other-holds (manage (openSlot k o)) (λ i b e. no-open i b k o e) (λ i ms e. clash (cc))
+  call-holds (manage (freeSlot k)) = other-holds (manage (freeSlot k)) (λ i b e. no-free i b k e) (λ i ms e. clash (cc))
+  call-holds (manage (linkChange k up b)) = links-hold (LinkCall.change k up) b
+  call-holds (manage (linkMessage k bytes b)) = links-hold (LinkCall.message k bytes) b
+  call-holds (manage (linkSend k i vs b)) = links-hold (LinkCall.send k i vs) b
   call-holds (manage (sample k ms)) = sample-holds k ms
 
 list-holds : (cs : List Call) (g : Group) (l : ℕ) (ns : List ℕ) → Holds g l ns → Holds (leaves g cs) l (heardFrom g l ns cs)

@@ -179,6 +179,6 @@ bytes-by-place-and-open g c x = go (does g c) refl (effect g c)
 
     go : (d : Done) → does g c ≡ d → Effect g c d → (getElem? (d .group .memory) x ≡ getElem? (g .memory) x) ⊎ MayChange g c x
     go d q (refuses-it n h e) = inl (ap (λ (d : Done). getElem? (d .group .memory) x) e)
-    go d q (links-it k p a e) = inl (ap (λ (h : Group). getElem? (h .memory) x) e)
+    go d q (links-it k b p a e) = inl (ap (λ (h : Group). getElem? (h .memory) x) e)
     go d q (samples-it l ms p z e) = inl (ap (λ (d : Done). getElem? (d .group .memory) x) e)
     go d q (puts-turn k t s a e) = rw e (turned k t s a (q ∙ e))

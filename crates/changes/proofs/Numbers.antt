@@ -24,24 +24,29 @@ use Rattle.outcome.specs.Outcome.{refusedOf, outcomeOf, urgentOutcome, toldOf, 
 use Rattle.transmit.specs.Transmit.{sendOf, sentOf, urgentOf, urgentSendOf}
 use Rattle.produced.specs.Produced.{producedOf, urgedOf}
 use Rattle.receive.specs.Receive.{placeOf, readOf, takeOf, tornOf, consumedOf, consumedIn, clearedIn}
-use Rattle.closing.specs.Closing.{doneSent, closedSent, abortSent, marksHeard}
-use Rattle.hear.specs.Hear.{abortedOf, acceptedOf, ruledOf, followedOf, hearOf}
+use Rattle.closing.specs.Closing.{stateOf, doneSent, closedSent, abortSent, marksHeard}
+use Rattle.hear.specs.Hear.{abortedOf, acceptedOf, ruledOf, followedOf, validatedOf, hearOf}
 use Rattle.heard.specs.Heard.{nextB, producerB, consumerB, heardIn, heardRecord}
 use Rattle.hear.proofs.Laws.{aborted-shut, accepted-is, accepted-reply, shutBy, repliedTo}
 use Rattle.finish.specs.Finish.{resetOf, closingOf, shutdownOf, closeOf, abortOf}
 use Rattle.pieces.specs.Pieces.{piecesOf}
-use Rattle.rules.specs.Rules.{Group, Request, send, gather, urgent, place, read, shutdown, close, abort, openSlot, freeSlot, linkChange, linkMessage, linkSend, sample, Call, on, hear, manage, Says, refusal, saysOf, Turn, turnOf, requestTurn, hearTurn, Done, does, answer, next, refuses, putTurn, recordOf, elementIn, linkOf, sizesOk, holderOf}
+use Rattle.rules.specs.Rules.{Group, Request, send, gather, urgent, place, read, shutdown, close, abort, openSlot, freeSlot, linkChange, linkMessage, linkSend, sample, Call, on, hear, manage, Says, refusal, heard, saysOf, Turn, turnOf, requestTurn, hearTurn, Done, does, answer, next, refuses, putTurn, recordOf, elementIn, linkOf, sizesOk, holderOf}
 use Rattle.table.specs.Table.{recordAt}
 use Rattle.order.specs.Statement.{leaves}
 use Rattle.order.proofs.Near.{enough}
 use Rattle.order.proofs.Slots.{slot-in, open-in, open-is, record-same}
 use Rattle.safety.specs.Statement.{OpenAt, acceptedB}
-use Rattle.changes.specs.Numbers.{Taken, nothingYet, refusedB, brokenB, sendsA, asked, countsB, withNumber, withMessage, takenAfter, takenFrom, firstNumber, countedFrom, InOrder, NumbersInOrder}
+use Rattle.changes.specs.Numbers.{Taken, nothingYet, refusedB, brokenB, sendsA, asked, countsB, breaksB, heardBy, withNumber, withMessage, takenAfter, takenFrom, firstNumber, countedFrom, InOrder, NumbersInOrder}
 use Rattle.safety.proofs.Effects.{Acts, asks, hears, opens, frees, Effect, refuses-it, links-it, samples-it, puts-turn, effect}
 use Rattle.linktheorems.specs.Statements.{Call as LinkCall}
 use Rattle.safety.specs.Links.{callOf}
 use Rattle.changes.proofs.Acted.{acts-slot, acts-in, acts-high}
-use Rattle.changes.proofs.Changes.{one-record}
+use Rattle.changes.proofs.Changes.{one-record, acts-aside}
+use Rattle.refusals.proofs.Exactly.{aborting-is}
+use Rattle.safety.proofs.Failing.{only-the-link}
+use Rattle.failover.specs.declared.Plan.{Plan}
+use Rattle.failover.specs.Failover.{movedOf}
+use Rattle.failover.proofs.Keeps.{ButLink, moved-keeps}
 use Rattle.safety.proofs.Invariant.{Sound}
 use Rattle.safety.proofs.Sound.{sound-fresh, sound-next}
 use Rattle.refusals.proofs.Gathered.{carried}
@@ -152,14 +157,23 @@ module _ (n : ℕ) (a : Bool) (c : Record) where
   request-last e close = close-leaves .last
   request-last e abort = abort-leaves .last
 
--- HEAR. A message that counts has the next number, which is then the last one heard; any other leaves it; the abort mark stays
+-- HEAR. A message that counts has the next number, which is then the last one heard; any other leaves it; the abort mark stays, but where
+-- one with F differs
 abbrev counts : Bool → Message → Says → Bool
 counts was m says = countsB (record { numbers = []; aborted = was }) m says
 
 data Numbered (c : Record) (m : Message) (says : Says) (d : Record) : Type 0 where
-  passes : counts (c .marks .abort) m says ≡ false → Last (c .inbound .last) (c .marks .abort) d → Numbered c m says d
+  passes : counts (c .marks .abort) m says ≡ false → Last (c .inbound .last) (breaksB m says || c .marks .abort) d → Numbered c m says d
   takes : counts (c .marks .abort) m says ≡ true → m .sequence ≡ sequenceAfter (c .inbound .last)
       → Last (m .sequence) (c .marks .abort) d → Numbered c m says d
+
+-- a refusal breaks nothing
+no-break : (m : Message) (k : ℕ) → breaksB m (refusal k) ≡ false
+no-break m k = ap (λ z. m .flags .failover && z) (and-false (not (m .flags .abort))) ∙ and-false (m .flags .failover)
+
+or-true : (b : Bool) → b || true ≡ true
+or-true true = refl
+or-true false = refl
 
 record Hears (c : Record) (m : Message) (o : Outcome) : Type 0 where
   numbered : Numbered c m (saysOf (o .reply)) (o .after)
@@ -171,14 +185,41 @@ module _ (n : ℕ) (a : Bool) (c : Record) (m : Message) where
 
   not-taken : (k : ℕ) → Hears c m (refusedOf k c)
   unfolding refusedOf
-  not-taken k = record { numbered = passes refl (inr (refl, refl)) }
+  not-taken k = record { numbered = passes refl (inr (refl, ap (λ z. z || c .marks .abort) (sym (no-break m k)))) }
 
   with-A : m .flags .abort ≡ true → Hears c m (abortedOf c)
   with-A h = record { numbered = passes (simp (h, and-false)) (inl (aborted-shut c)) }
 
   after-A : m .flags .abort ≡ false → c .marks .abort ≡ true → Hears c m (outcomeOf (Heard 0 PeerAbortWait) false c)
   unfolding outcomeOf
-  after-A h s = record { numbered = passes (λ i. not (h i) && not (s i)) (inr (refl, refl)) }
+  after-A h s =
+      record {
+        numbered =
+            passes (λ i. not (h i) && ((λ i. not (m .flags .failover) && not (s i)) ∙ and-false (not (m .flags .failover))) i)
+            (inr (refl, s ∙ sym ((λ i. breaksB m (heard 0 PeerAbortWait) || s i) ∙ or-true (breaksB m (heard 0 PeerAbortWait)))));
+      }
+
+  -- with F: the same number, and another
+  agrees : m .flags .abort ≡ false → c .marks .abort ≡ false → m .flags .failover ≡ true → Hears c m (outcomeOf (Heard 0 (stateOf (c .marks))) false c)
+  unfolding outcomeOf
+  agrees h s v =
+      record {
+        numbered =
+            passes (λ i. not (h i) && (not (v i) && not (c .marks .abort)))
+            (inr (refl, ap (λ z. z || c .marks .abort) (sym (kept ∙ and-false (m .flags .failover)))));
+      }
+    where
+      kept : breaksB m (heard 0 (stateOf (c .marks))) ≡ m .flags .failover && false
+      kept = ap (λ z. m .flags .failover && z) ((λ i. not (m .flags .abort) && (aborting-is (c .marks) ∙ s) i) ∙ and-false (not (m .flags .abort)))
+
+  differs : m .flags .abort ≡ false → m .flags .failover ≡ true → Hears c m (outcomeOf (Heard 0 PeerAbortWait) true (marksTo c (abortSent (c .marks))))
+  unfolding outcomeOf toldOf toldIn marksTo abortSent
+  differs h v =
+      record {
+        numbered =
+            passes (λ i. not (h i) && (not (v i) && not (c .marks .abort)))
+            (inr (refl, λ i. (sym v i && (not (sym h i) && true)) || c .marks .abort));
+      }
 
   heard-last : (t s : Bool) (r : Reply)
       → Last (m .sequence) (c .marks .abort) (closedIf s (outcomeOf r t (heardRecord n c m)) .after)
@@ -191,17 +232,17 @@ module _ (n : ℕ) (a : Bool) (c : Record) (m : Message) where
   unfolding nextB
   is-next z = eqb-true (m .sequence) (sequenceAfter (c .inbound .last)) z
 
-  accepts : m .flags .abort ≡ false → c .marks .abort ≡ false → nextB c m ≡ true → Hears c m (acceptedOf n c m)
-  accepts h s z =
+  accepts : m .flags .abort ≡ false → c .marks .abort ≡ false → m .flags .failover ≡ false → nextB c m ≡ true → Hears c m (acceptedOf n c m)
+  accepts h s v z =
       record {
         numbered =
-            takes (λ i. not (refusedB (saysOf (accepted-reply n c m i))) && (not (h i) && not (s i)))
+            takes (λ i. not (refusedB (saysOf (accepted-reply n c m i))) && (not (h i) && (not (v i) && not (s i))))
             (is-next z)
             (rw (accepted-is n c m) (heard-last _ (shutBy n c m) (repliedTo n c m)));
       }
 
   hear-hears : Hears c m (hearOf n a c m)
-  unfolding hearOf followedOf ruledOf
+  unfolding hearOf followedOf validatedOf ruledOf
   hear-hears =
       either (eqb (refusalOf n a c false) 0) _ _
       (λ e.
@@ -209,9 +250,12 @@ module _ (n : ℕ) (a : Bool) (c : Record) (m : Message) where
       (λ h.
       either (c .marks .abort) _ _ (after-A h)
       (λ s.
+      either (m .flags .failover) _ _
+      (λ v. either (eqb (m .sequence) (c .inbound .last)) _ _ (λ z. agrees h s v) (λ z. differs h v))
+      (λ v.
       either (nextB c m) _ _
-      (λ z. either (producerB n c (m .producer) && consumerB c (m .consumer)) _ _ (λ r. accepts h s z) (λ r. not-taken 8))
-      (λ z. not-taken 16))))
+      (λ z. either (producerB n c (m .producer) && consumerB c (m .consumer)) _ _ (λ r. accepts h s v z) (λ r. not-taken 8))
+      (λ z. not-taken 16)))))
       (λ e. not-taken _)
 
   hear-numbered : (e : List ℕ) → Numbered c m (hearTurn n a c e m .answer .says) (hearTurn n a c e m .after)
@@ -246,6 +290,25 @@ module _ (g : Group) (c : Call) (k : ℕ) (j : Taken) (w : InOrder g k j) where
         mark-is = λ o. ap (λ (x : Record). x .marks .abort) r ∙ w .mark-is (was-open r o);
       })
 
+  -- a connection that moved, or stays
+  as-moved : (p : Plan) → now ≡ j → recordOf (next g c) k ≡ movedOf (g .N) p (recordOf g k) → After now
+  as-moved p e r =
+      settled j e
+      (record {
+        counted = w .counted;
+        last-heard = λ o. ap (λ (x : Record). x .inbound .last) r ∙ ap (λ x. x .last) (keeps .inbound) ∙ w .last-heard (was o);
+        mark-is = λ o. ap (λ (x : Record). x .marks .abort) r ∙ ap (λ x. x .abort) (keeps .marks) ∙ w .mark-is (was o);
+      })
+    where
+      keeps : ButLink (recordOf g k) (movedOf (g .N) p (recordOf g k))
+      keeps = moved-keeps (g .N) p (recordOf g k)
+
+      was : OpenAt (next g c) k → OpenAt g k
+      was o =
+          let v = open-in (next g c .S) (next g c .table) k o in
+          open-is (g .S) (g .table) k (rw (one-record g c .same-S) at (v .slot))
+          (sym (ap (λ (x : Record). x .id .opened) r ∙ keeps .opened) ∙ v .is-open)
+
   -- what is said after it, by what it is
   after : (z : Call) → c ≡ z → now ≡ takenAfter g k j z says
   after z p = ap (λ z. takenAfter g k j z says) p
@@ -270,14 +333,19 @@ module _ (g : Group) (c : Call) (k : ℕ) (j : Taken) (w : InOrder g k j) where
         record { counted = e; last-heard = λ o. left s a v o .0 ∙ f; mark-is = λ o. left s a v o .1 ∙ h }
 
     by : (m : Message) → holderOf g (m .token) ≡ k → OpenAt g k → (z : Bool) → counts (recordOf g k .marks .abort) m (t .answer .says) ≡ z
-        → withMessage g k j (Good m) says ≡ cond z (withNumber j (m .sequence)) j
+        → withMessage g k j (Good m) says ≡ cond z (withNumber j (m .sequence)) (record { numbers = j .numbers; aborted = breaksB m (t .answer .says) || j .aborted })
     by m h o z x =
         let e : countsB j m says ≡ z = (λ i. counts (sym (w .mark-is o) i) m (said i)) ∙ x in
-        λ i. cond (eq-eqb (holderOf g (m .token)) k h i && e i) (withNumber j (m .sequence)) j
+        λ i.
+        cond (eq-eqb (holderOf g (m .token)) k h i)
+        (cond (e i) (withNumber j (m .sequence)) (record { numbers = j .numbers; aborted = breaksB m (said i) || j .aborted })) j
 
     heard-it : (m : Message) → OpenAt g k → holderOf g (m .token) ≡ k → Numbered (recordOf g k) m (t .answer .says) (t .after)
         → After (withMessage g k j (Good m) says)
-    heard-it m o h (passes x l) = subst After (sym (by m h o false x)) (leaves-it j _ _ (w .counted) (w .last-heard o) (w .mark-is o) l)
+    heard-it m o h (passes x l) =
+        subst After (sym (by m h o false x))
+        (leaves-it (record { numbers = j .numbers; aborted = breaksB m (t .answer .says) || j .aborted }) _ _ (w .counted) (w .last-heard o)
+        (ap (λ z. breaksB m (t .answer .says) || z) (w .mark-is o)) l)
     heard-it m o h (takes x q l) =
         subst After (sym (by m h o true x))
         (leaves-it (withNumber j (m .sequence)) _ _ (number-more (j .numbers) (m .sequence) (w .counted) number) (number ∙ many)
@@ -315,17 +383,17 @@ module _ (g : Group) (c : Call) (k : ℕ) (j : Taken) (w : InOrder g k j) where
     none-said (asks q p o r) = after (on l q) p ∙ ap (λ z. cond z (asked j q says) j) (ne-eqb l k d)
     none-said (hears b m p e h o v r) =
         after-hear b m p e
-        ∙ ap (λ z. cond (z && countsB j m says) (withNumber j (m .sequence)) j) (ne-eqb (holderOf g (m .token)) k (λ x. d (sym h ∙ x)))
+        ∙ ap (λ z. cond z (heardBy j m says) j) (ne-eqb (holderOf g (m .token)) k (λ x. d (sym h ∙ x)))
     none-said (opens given p n r) =
         after (manage (openSlot l given)) p ∙ ap (λ z. cond (z && acceptedB says) nothingYet j) (ne-eqb l k d)
     none-said (frees p n r) = after (manage (freeSlot l)) p
 
   -- nor does a call on the links
-  none-linked : (i : LinkCall) → takenAfter g k j (callOf i) says ≡ j
+  none-linked : (i : LinkCall) (b : List ℕ) → takenAfter g k j (callOf i b) says ≡ j
   unfolding takenAfter
-  none-linked (LinkCall.change l up) = refl
-  none-linked (LinkCall.message l b) = refl
-  none-linked (LinkCall.send l h vs) = refl
+  none-linked (LinkCall.change l up) b = refl
+  none-linked (LinkCall.message l bytes) b = refl
+  none-linked (LinkCall.send l h vs) b = refl
 
   -- nor does a refusal
   none-refused : (n : ℕ) (z : Call) → takenAfter g k j z (refusal n) ≡ j
@@ -337,14 +405,18 @@ module _ (g : Group) (c : Call) (k : ℕ) (j : Taken) (w : InOrder g k j) where
       never false y e = refl
   none-refused n (hear b) = message (decodeOf b)
     where
+      broken : (x y : Bool) → y ≡ false → cond x (record { numbers = j .numbers; aborted = y || j .aborted }) j ≡ j
+      broken true y e = ap (λ y. record { numbers = j .numbers; aborted = y || j .aborted }) e
+      broken false y e = refl
+
       message : (x : Decoded) → withMessage g k j x (refusal n) ≡ j
-      message (Good m) = ap (λ z. cond z (withNumber j (m .sequence)) j) (and-false (eqb (holderOf g (m .token)) k))
+      message (Good m) = broken (eqb (holderOf g (m .token)) k) (breaksB m (refusal n)) (no-break m n)
       message Malformed = refl
   none-refused n (manage (openSlot i given)) = ap (λ z. cond z nothingYet j) (and-false (eqb i k))
   none-refused n (manage (freeSlot i)) = refl
-  none-refused n (manage (linkChange l up)) = refl
-  none-refused n (manage (linkMessage l b)) = refl
-  none-refused n (manage (linkSend l i vs)) = refl
+  none-refused n (manage (linkChange l up b)) = refl
+  none-refused n (manage (linkMessage l bytes b)) = refl
+  none-refused n (manage (linkSend l i vs b)) = refl
   none-refused n (manage (sample l ms)) = refl
 
   call-in-order : Sound g → After now
@@ -361,15 +433,15 @@ module _ (g : Group) (c : Call) (k : ℕ) (j : Taken) (w : InOrder g k j) where
           put : recordOf (putTurn g (suc i) t .group) (suc i) ≡ t .after
           put = record-same (g .table) i (t .after) (omega (arith, enough g (s .good), acts-high g c i t ok a))
       turned (suc i) t did ok a (no d) =
-          as-it-was (none-said (suc i) t d a) (one-record g c .others k (λ p. d (sym (p ∙ acts-slot g c (suc i) t ok a))))
+          as-it-was (none-said (suc i) t d a) (one-record g c .others k (λ p. d (sym (p ∙ acts-slot g c (suc i) t ok a))) ∙ acts-aside g c (suc i) t (recordOf g k) a)
 
       go : (x : Done) → does g c ≡ x → Effect g c x → After now
       go x q (refuses-it n h e) =
           as-it-was (ap (λ (d : Done). takenAfter g k j c (d .answer .says)) (q ∙ e) ∙ none-refused n c)
           (ap (λ (d : Done). recordOf (d .group) k) (q ∙ e))
-      go x q (links-it i p a e) =
-          as-it-was (after (callOf i) p ∙ none-linked i)
-          (ap (λ (d : Done). recordOf (d .group) k) q ∙ ap (λ (h : Group). recordOf h k) e)
+      go x q (links-it i b p a e) =
+          as-moved _ (after (callOf i b) p ∙ none-linked i b)
+          (ap (λ (z : Call). recordOf (next g z) k) p ∙ only-the-link g i b .each k)
       go x q (samples-it l ms p z e) =
           as-it-was (after (manage (sample l ms)) p) (ap (λ (d : Done). recordOf (d .group) k) (q ∙ e))
       go x q (puts-turn l t ok a e) = turned l t (q ∙ e) ok a (ℕ-discrete l k)

@@ -15,7 +15,9 @@ use Rattle.closing.specs.declared.Marks.{Marks}
 use Rattle.closing.specs.declared.State.the-variants.{Closed}
 use Rattle.closing.specs.Closing.{marked}
 use Rattle.element.specs.Element.{baseOf}
+use Rattle.connection.specs.declared.Record.{Record}
 use Rattle.connection.specs.Connection.{zeroRecord}
+use Rattle.failover.specs.Failover.{planOf, movedOf}
 use Rattle.linkcalls.specs.Calls.{touched}
 use Rattle.linktheorems.specs.Statements as Link
 use Rattle.linktheorems.specs.Statements.{Call as LinkCall}
@@ -31,18 +33,30 @@ slotOf g (on k q) = k
 slotOf g (hear b) = hearer g (decodeOf b)
 slotOf g (manage (openSlot k given)) = k
 slotOf g (manage (freeSlot k)) = k
-slotOf g (manage (linkChange l up)) = 0
-slotOf g (manage (linkMessage l b)) = 0
-slotOf g (manage (linkSend l k vs)) = 0
+slotOf g (manage (linkChange l up b)) = 0
+slotOf g (manage (linkMessage l bytes b)) = 0
+slotOf g (manage (linkSend l k vs b)) = 0
 slotOf g (manage (sample l ms)) = 0
 
--- 1. ONE RECORD. Every record but that of the slot acted on stays, in every field. S, N, the table's length and the memory's stay.
+-- what a call leaves of a record that it does not act on: a call on the links may put it on another link (request 2026-13), and every
+-- other call leaves it as it was
+abbrev pub asideOf : Group → Call → Record → Record
+asideOf g (on k q) r = r
+asideOf g (hear b) r = r
+asideOf g (manage (openSlot k given)) r = r
+asideOf g (manage (freeSlot k)) r = r
+asideOf g (manage (linkChange l up b)) r = movedOf (g .N) (planOf (g .links) (next g (manage (linkChange l up b)) .links)) r
+asideOf g (manage (linkMessage l bytes b)) r = movedOf (g .N) (planOf (g .links) (next g (manage (linkMessage l bytes b)) .links)) r
+asideOf g (manage (linkSend l k vs b)) r = movedOf (g .N) (planOf (g .links) (next g (manage (linkSend l k vs b)) .links)) r
+asideOf g (manage (sample l ms)) r = r
+
+-- 1. ONE RECORD. Every record but that of the slot acted on stays, in every field, its link aside where connections move. S, N, the table's length and the memory's stay.
 pub record OneTurned (g : Group) (c : Call) (h : Group) : Type 0 where
   pub same-S : h .S ≡ g .S
   pub same-N : h .N ≡ g .N
   pub as-many : length (h .table) ≡ length (g .table)
   pub as-long : length (h .memory) ≡ length (g .memory)
-  pub others : (k : ℕ) → k ≢ slotOf g c → recordOf h k ≡ recordOf g k
+  pub others : (k : ℕ) → k ≢ slotOf g c → recordOf h k ≡ asideOf g c (recordOf g k)
 
 abbrev pub OneRecord : Type 0
 OneRecord = (g : Group) (c : Call) → OneTurned g c (next g c)
@@ -51,7 +65,8 @@ OneRecord = (g : Group) (c : Call) → OneTurned g c (next g c)
 -- all four do. The crate linktheorems has the causes (`BecomesActive`, `GoesDown`, `AllGoDown`)
 pub record Touches (g : Group) (c : Call) : Type 0 where
   pub call : LinkCall
-  pub is : c ≡ callOf call
+  pub lent : List ℕ
+  pub is : c ≡ callOf call lent
   pub touches : next g c .links ≡ touched (linksOf g) (Link.does (linksOf g) call .touch) .active
 
 abbrev pub LinksByLinkCalls : Type 0
@@ -86,9 +101,9 @@ marksOf g k = recordOf g k .marks
 pub data Closes (g : Group) (c : Call) (k : ℕ) : Type 0 where
   -- close sends C, and C was heard
   by-close : c ≡ on k close → answer g c .says ≡ accepted → marksOf g k .heard .closed ≡ true → Closes g c k
-  -- C was heard, or is now, and C was sent (and no A, after which a message without A changes nothing)
+  -- C was heard, or is now, and C was sent (and no A, after which a message without A changes nothing; and no F, which closes nothing)
   by-hear : (m : Message) → HeardFor g c k m → (marksOf g k .heard .closed || m .flags .closed) && marksOf g k .sent .closed ≡ true
-      → marksOf g k .abort ≡ false → Closes g c k
+      → marksOf g k .abort ≡ false → m .flags .failover ≡ false → Closes g c k
   by-abort : (m : Message) → HeardFor g c k m → m .flags .abort ≡ true → Closes g c k
   by-free : c ≡ manage (freeSlot k) → answer g c .says ≡ accepted → marksOf g k .abort ≡ true → Closes g c k
 

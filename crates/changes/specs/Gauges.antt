@@ -10,7 +10,7 @@ use lib.Ieee.Exact.{HasValue}
 use lib.ListN.{length}
 use Rattle.gauge.specs.Gauge.{mostMs, clearedOf, sampledOf, healthOf, after, wholeFrom}
 use Rattle.table.specs.Table.{gaugeAt, withGauge}
-use Rattle.rules.specs.Rules.{Group, openSlot, freeSlot, linkChange, linkMessage, linkSend, sample, Call, on, hear, manage, sampled}
+use Rattle.rules.specs.Rules.{Group, openSlot, freeSlot, linkChange, linkMessage, linkSend, sample, Call, on, hear, manage, sampled, lentOk}
 use Rattle.rules.specs.Rules.{answer, next, linksOf, Fresh}
 use Rattle.exchange.specs.declared.Touch.{Touch}
 use Rattle.exchange.specs.declared.Touch.the-variants.{Nothing, Up, Down, All}
@@ -26,7 +26,7 @@ use Rattle.safety.specs.Links.{callOf}
 pub data Regauges (g : Group) (c : Call) : Type 0 where
   by-sample : (l ms : ℕ) → c ≡ manage (sample l ms) → answer g c .says ≡ sampled (healthOf (sampledOf (gaugeAt (g .gauges) l) ms))
       → next g c .gauges ≡ withGauge (g .gauges) l (sampledOf (gaugeAt (g .gauges) l) ms) → Regauges g c
-  by-link-down : (k : LinkCall) → c ≡ callOf k → next g c .gauges ≡ touched (linksOf g) (Link.does (linksOf g) k .touch) .gauges
+  by-link-down : (k : LinkCall) (b : List ℕ) → c ≡ callOf k b → next g c .gauges ≡ touched (linksOf g) (Link.does (linksOf g) k .touch) .gauges
       → Regauges g c
 
 abbrev pub GaugesBySampleAndLinkDown : Type 0
@@ -38,9 +38,9 @@ Document01 (on k q) = Unit {0}
 Document01 (hear b) = Unit {0}
 Document01 (manage (openSlot k o)) = Unit {0}
 Document01 (manage (freeSlot k)) = Unit {0}
-Document01 (manage (linkChange l up)) = Unit {0}
-Document01 (manage (linkMessage l b)) = Unit {0}
-Document01 (manage (linkSend l k vs)) = Unit {0}
+Document01 (manage (linkChange l up b)) = Unit {0}
+Document01 (manage (linkMessage l bytes b)) = Unit {0}
+Document01 (manage (linkSend l k vs b)) = Unit {0}
 Document01 (manage (sample l ms)) = ⊥
 
 -- two groups that differ in gauges alone
@@ -76,9 +76,9 @@ heardAfter g l ns (on k q) = ns
 heardAfter g l ns (hear b) = ns
 heardAfter g l ns (manage (openSlot k o)) = ns
 heardAfter g l ns (manage (freeSlot k)) = ns
-heardAfter g l ns (manage (linkChange k up)) = unlessDown g l ns (LinkCall.change k up)
-heardAfter g l ns (manage (linkMessage k b)) = unlessDown g l ns (LinkCall.message k b)
-heardAfter g l ns (manage (linkSend k kind vs)) = unlessDown g l ns (LinkCall.send k kind vs)
+heardAfter g l ns (manage (linkChange k up b)) = cond (lentOk g b) (unlessDown g l ns (LinkCall.change k up)) ns
+heardAfter g l ns (manage (linkMessage k bytes b)) = cond (lentOk g b) (unlessDown g l ns (LinkCall.message k bytes)) ns
+heardAfter g l ns (manage (linkSend k kind vs b)) = cond (lentOk g b) (unlessDown g l ns (LinkCall.send k kind vs)) ns
 heardAfter g l ns (manage (sample k ms)) = cond (eqb k l && not (refusedB (answer g (manage (sample k ms)) .says))) (ns ++ ms ∷ []) ns
 
 unfoldable pub heardFrom : Group → ℕ → List ℕ → List Call → List ℕ

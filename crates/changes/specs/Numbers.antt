@@ -11,7 +11,8 @@ use Rattle.cdc.specs.declared.Message.{Message}
 use Rattle.cdc.specs.declared.Decoded.{Decoded}
 use Rattle.cdc.specs.declared.Decoded.the-variants.{Good, Malformed}
 use Rattle.cdc.specs.Cdc.{decodeOf}
-use Rattle.rules.specs.Rules.{Group, Request, send, gather, urgent, place, read, shutdown, close, abort, openSlot, freeSlot, linkChange, linkMessage, linkSend, sample, Call, on, hear, manage, Says, refusal, accepted, sent, gathered, wasRead, torn, reset, heard, sampled, linkHeard, linkSent, answer, next, recordOf, holderOf, Fresh}
+use Rattle.refusals.specs.Refusals.{aborting}
+use Rattle.rules.specs.Rules.{Group, Request, send, gather, urgent, place, read, shutdown, close, abort, openSlot, freeSlot, linkChange, linkMessage, linkSend, sample, Call, on, hear, manage, Says, refusal, accepted, sent, gathered, wasRead, torn, reset, heard, sampled, linkChanged, linkHeard, linkSent, answer, next, recordOf, holderOf, Fresh}
 use Rattle.order.specs.Statement.{leaves}
 use Rattle.safety.specs.Statement.{OpenAt, acceptedB}
 
@@ -35,8 +36,9 @@ refusedB torn = false
 refusedB (heard moved state) = false
 refusedB reset = false
 refusedB (sampled q) = false
-refusedB (linkHeard f t u) = false
-refusedB (linkSent u) = false
+refusedB (linkChanged n) = false
+refusedB (linkHeard f t u n) = false
+refusedB (linkSent u n) = false
 
 -- we send A where abort is accepted, and where a call answers "torn" or "reset" (a hear of A sends one too, and closes the slot)
 abbrev pub brokenB : Says → Bool
@@ -49,8 +51,9 @@ brokenB torn = true
 brokenB (heard moved state) = false
 brokenB reset = true
 brokenB (sampled q) = false
-brokenB (linkHeard f t u) = false
-brokenB (linkSent u) = false
+brokenB (linkChanged n) = false
+brokenB (linkHeard f t u n) = false
+brokenB (linkSent u n) = false
 
 abbrev pub sendsA : Request → Says → Bool
 sendsA (send b) says = brokenB says
@@ -65,16 +68,37 @@ sendsA abort says = acceptedB says
 abbrev pub asked : Taken → Request → Says → Taken
 asked j q says = record { numbers = j .numbers; aborted = sendsA q says || j .aborted }
 
--- a message counts that is not refused, has no A, and is heard before we sent A
+-- a message counts that is not refused, has no A and no F, and is heard before we sent A
 abbrev pub countsB : Taken → Message → Says → Bool
-countsB j m says = not (refusedB says) && (not (m .flags .abort) && not (j .aborted))
+countsB j m says = not (refusedB says) && (not (m .flags .abort) && (not (m .flags .failover) && not (j .aborted)))
+
+-- one with F, and no A, that answers PeerAbortWait has us send A, if we had not (request 2026-13)
+abbrev pub waitsB : Says → Bool
+waitsB (refusal k) = false
+waitsB accepted = false
+waitsB (sent n p) = false
+waitsB (gathered n p) = false
+waitsB (wasRead n) = false
+waitsB torn = false
+waitsB (heard moved state) = aborting state
+waitsB reset = false
+waitsB (sampled q) = false
+waitsB (linkChanged n) = false
+waitsB (linkHeard f t u n) = false
+waitsB (linkSent u n) = false
+
+abbrev pub breaksB : Message → Says → Bool
+breaksB m says = m .flags .failover && (not (m .flags .abort) && waitsB says)
 
 abbrev pub withNumber : Taken → ℕ → Taken
 withNumber j s = record { numbers = j .numbers ++ (s ∷ []); aborted = j .aborted }
 
+abbrev pub heardBy : Taken → Message → Says → Taken
+heardBy j m says = cond (countsB j m says) (withNumber j (m .sequence)) (record { numbers = j .numbers; aborted = breaksB m says || j .aborted })
+
 -- it is slot k's if that slot has its token when it is heard
 abbrev pub withMessage : Group → ℕ → Taken → Decoded → Says → Taken
-withMessage g k j (Good m) says = cond (eqb (holderOf g (m .token)) k && countsB j m says) (withNumber j (m .sequence)) j
+withMessage g k j (Good m) says = cond (eqb (holderOf g (m .token)) k) (heardBy j m says) j
 withMessage g k j Malformed says = j
 
 -- one call on, made of g and answered so; an accepted open of the slot begins anew
@@ -83,9 +107,9 @@ takenAfter g k j (on i q) says = cond (eqb i k) (asked j q says) j
 takenAfter g k j (hear b) says = withMessage g k j (decodeOf b) says
 takenAfter g k j (manage (openSlot i given)) says = cond (eqb i k && acceptedB says) nothingYet j
 takenAfter g k j (manage (freeSlot i)) says = j
-takenAfter g k j (manage (linkChange l up)) says = j
-takenAfter g k j (manage (linkMessage l b)) says = j
-takenAfter g k j (manage (linkSend l i vs)) says = j
+takenAfter g k j (manage (linkChange l up b)) says = j
+takenAfter g k j (manage (linkMessage l bytes b)) says = j
+takenAfter g k j (manage (linkSend l i vs b)) says = j
 takenAfter g k j (manage (sample l ms)) says = j
 
 unfoldable pub takenFrom : Group → ℕ → Taken → List Call → Taken

@@ -12,23 +12,23 @@ use Rattle.closing.specs.declared.State.the-variants.{PeerAbortWait, Closed}
 use Rattle.closing.specs.Closing.{numberOf, stateAt, stateOf, abortSent, marksHeard}
 use Rattle.closing.proofs.Laws.{state-back}
 use Rattle.connection.specs.declared.Record.{Record}
-use Rattle.connection.specs.Connection.{zeroRecord, noPlace, placeAt, reachedB, passedBy, refusalOf}
+use Rattle.connection.specs.Connection.{noPlace, placeAt, reachedB, passedBy, refusalOf}
 use Rattle.connection.specs.Connection.{pTo, lastTo, flagsTo, urgentInTo, rTo, urgentOutTo, inboundTo, outboundTo, marksTo}
 use Rattle.outcome.specs.declared.Reply.the-variants.{Heard}
 use Rattle.outcome.specs.declared.Outcome.{Outcome}
 use Rattle.outcome.specs.Outcome.{noMessage, toldIn, usedIn, toldOf, messageOf, outcomeOf, refusedOf, closedIf}
 use Rattle.heard.specs.Heard.{producerB, consumerB, movedBy, urgesB, urgentIn, heardIn, heardOut, heardRecord, answersB, nextB}
-use Rattle.hear.specs.Hear.{abortedOf, acceptedOf, ruledOf, followedOf, hearOf}
+use Rattle.hear.specs.Hear.{abortedOf, acceptedOf, ruledOf, validatedOf, followedOf, hearOf}
 use Rattle.rules.specs.Rules.{heard, saysOf}
 use Rattle.hearing.specs.declared.Hearing.{Hearing}
-use Rattle.hearing.specs.Hearing.{refusedHearing, abortHearing, waitHearing, acceptedHearing, ruledHearing, hearingOf}
-use Rattle.hearing.specs.Hearing.{inboundLeft, outboundLeft, recordLeft, toldBy}
+use Rattle.hearing.specs.Hearing.{refusedHearing, abortHearing, keptHearing, breakHearing, validatedHearing, acceptedHearing, ruledHearing}
+use Rattle.hearing.specs.Hearing.{hearingOf, inboundLeft, outboundLeft, recordLeft, abortLeft, endedOf, toldBy}
 use Rattle.direct.proofs.Laws.{marks-kept, marks-aborted}
 use Rattle.direct_hear.specs.DirectHear.{saysIn}
 
 -- the record that a hearing leaves
 abbrev pub leftOf : Record → Message → Hearing → Record
-leftOf rec m t = cond (t .closes) zeroRecord (cond (t .takes) (recordLeft rec m t) rec)
+leftOf rec m t = cond (t .closes || t .aborts) (endedOf rec t) (cond (t .takes) (recordLeft rec m t) rec)
 
 -- what a hearing t of the record rec shares with the outcome of the rules
 pub record Agrees (rec : Record) (m : Message) (t : Hearing) (o : Outcome) : Type 0 where
@@ -36,7 +36,7 @@ pub record Agrees (rec : Record) (m : Message) (t : Hearing) (o : Outcome) : Typ
   pub made : o .made ≡ t .said .made
   pub message : o .message ≡ cond (t .said .made) (encodeOf (messageOf (toldBy rec t))) noMessage
   pub after : o .after ≡ leftOf rec m t
-  pub apart : t .takes && t .closes ≡ false
+  pub apart : t .takes && (t .closes || t .aborts) ≡ false
 
 module _ (rec : Record) (m : Message) where
   by-test : {x y : Hearing} {o p : Outcome} (b : Bool) → (b ≡ true → Agrees rec m x o) → (b ≡ false → Agrees rec m y p)
@@ -51,7 +51,7 @@ module _ (rec : Record) (m : Message) where
   -- with A
   aborted-by : (sent : Bool)
       → Agrees rec m (abortHearing sent) (closedIf true (outcomeOf (Heard 0 Closed) (not sent) (marksTo rec (abortSent (rec .marks)))))
-  unfolding closedIf outcomeOf saysIn stateAt toldBy marksTo
+  unfolding closedIf outcomeOf saysIn stateAt toldBy endedOf marksTo
   aborted-by true = record { says = refl; made = refl; message = refl; after = refl; apart = refl }
   aborted-by false =
       record {
@@ -66,10 +66,26 @@ module _ (rec : Record) (m : Message) where
   unfolding abortedOf
   aborted-agrees = aborted-by (rec .marks .abort)
 
-  -- once we have sent A
-  wait-agrees : Agrees rec m waitHearing (outcomeOf (Heard 0 PeerAbortWait) false rec)
-  unfolding outcomeOf saysIn stateAt
-  wait-agrees = record { says = refl; made = refl; message = refl; after = refl; apart = refl }
+  -- no change
+  kept-agrees : (state : State) → Agrees rec m (keptHearing (numberOf state)) (outcomeOf (Heard 0 state) false rec)
+  unfolding outcomeOf saysIn
+  kept-agrees state = record { says = ap (heard 0) (sym (state-back state)); made = refl; message = refl; after = refl; apart = refl }
+
+  -- with F
+  break-agrees : Agrees rec m breakHearing (outcomeOf (Heard 0 PeerAbortWait) true (marksTo rec (abortSent (rec .marks))))
+  unfolding outcomeOf saysIn stateAt toldBy endedOf abortLeft marksTo
+  break-agrees =
+      record {
+        says = refl;
+        made = refl;
+        message = ap (λ (w : Marks). encodeOf (messageOf (marksTo rec w))) (sym (marks-aborted (rec .marks)));
+        after = refl;
+        apart = refl;
+      }
+
+  validated-agrees : Agrees rec m (validatedHearing rec m) (validatedOf rec m)
+  unfolding validatedHearing validatedOf
+  validated-agrees = by-test (eqb (m .sequence) (rec .inbound .last)) (λ e. kept-agrees (stateOf (rec .marks))) (λ e. break-agrees)
 
   -- accepted: by how far P moves, the state, whether a message is made, whether the slot is closed, and what becomes of the urgent places
   module _ (moved : ℕ) (state : State) (urged passed : Bool) where
@@ -106,7 +122,7 @@ module _ (rec : Record) (m : Message) where
     message-is shut = ap (λ (w : Marks). encodeOf (messageOf (marksTo tells w))) (sym (marks-kept (rec .marks)))
 
     accepted-by : (made shut : Bool) → Agrees rec m (small made shut) (closedIf shut (outcomeOf (Heard moved state) made next))
-    unfolding closedIf outcomeOf toldOf toldIn usedIn recordLeft inboundLeft outboundLeft marksTo
+    unfolding closedIf outcomeOf toldOf toldIn usedIn recordLeft inboundLeft outboundLeft endedOf marksTo
     accepted-by true true =
         record { says = says-is true true; made = refl; message = message-is true; after = refl; apart = refl }
     accepted-by true false =
@@ -139,6 +155,8 @@ module _ (rec : Record) (m : Message) where
         (λ e.
         by-test (m .flags .abort) (λ e. aborted-agrees)
         (λ e.
-        by-test (rec .marks .abort) (λ e. wait-agrees)
-        (λ e. by-test (nextB rec m) (λ e. ruled-agrees) (λ e. refused-agrees 16 refl))))
+        by-test (rec .marks .abort) (λ e. kept-agrees PeerAbortWait)
+        (λ e.
+        by-test (m .flags .failover) (λ e. validated-agrees)
+        (λ e. by-test (nextB rec m) (λ e. ruled-agrees) (λ e. refused-agrees 16 refl)))))
         (λ e. refused-agrees no e)

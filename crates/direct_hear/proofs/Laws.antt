@@ -1,7 +1,7 @@
--- What the walks of `hearing_at`, `take_at`, `put`, `tell_at` and `fordlinnet_make_hear` give. Assumes nothing.
+-- What the walks of `hearing_at`, `take_at`, `end_at`, `put`, `tell_at` and `fordlinnet_make_hear` give. Assumes nothing.
 use Prim.Native.Nat.{ℕ, _≤_, _<_}
 use mathlib.Core.Path.{_≡_, refl, sym, ap, _∙_, subst}
-use mathlib.Core.Bool.{Bool, true, false, _&&_, not, cond, false≢true}
+use mathlib.Core.Bool.{Bool, true, false, _&&_, _||_, not, cond, false≢true}
 use mathlib.Core.List.{List, []}
 use native.Mathlib.Omega.{arith}
 use lib.Dec.{T as Holds, ltb, eqb, ltb→lt, nltb→le}
@@ -33,7 +33,7 @@ use Rattle.hearing.specs.declared.HearAnswer.{HearAnswer}
 use Rattle.hearing.specs.declared.Parsed.{Parsed}
 use Rattle.hearing.specs.declared.Hearing.{Hearing}
 use Rattle.hearing.specs.Hearing.{parsedOf, parsedIn, refusedBefore, refusedHearing, hearingOf, noneHearing}
-use Rattle.hearing.specs.Hearing.{recordLeft, toldBy, messageLeft}
+use Rattle.hearing.specs.Hearing.{recordLeft, endedOf, toldBy, messageLeft}
 use Rattle.direct_hear.specs.TableLeft.{slotIf, tableLeft, HeardBy}
 use Rattle.direct_hear.specs.DirectHear.{answerIn, refusedAnswer, HearMade}
 use Rattle.direct_hear.proofs.Agree.{leftOf, Agrees, refused-agrees, agree}
@@ -84,32 +84,45 @@ pub take-at-returns-2 : (t : List Record) (k : ℕ) (m : Message) (q : Hearing)
     → t ≡ withRecord t k (recordLeft (recordAt t k) m q)
 take-at-returns-2 t k m q r e h = put-record-returns-2 t k (recordLeft (recordAt t k) m q) r e h
 
+pub end-at-returns : (t : List Record) (k : ℕ) (q : Hearing)
+    → (r : ℕ) → r ≡ indexOf k (length t) → Holds (ltb r (length t)) → (c : Record) → c ≡ endedOf (getD t r zeroRecord) q
+    → set t r c ≡ withRecord t k (endedOf (recordAt t k) q)
+end-at-returns t k q r e h c ec =
+    put-record-returns t k c r e h
+    ∙ ap (withRecord t k) (ec ∙ ap (λ (x : Record). endedOf x q) (record-at-returns t k r e h))
+
+pub end-at-returns-2 : (t : List Record) (k : ℕ) (q : Hearing)
+    → (r : ℕ) → r ≡ indexOf k (length t) → Holds (not (ltb r (length t)))
+    → t ≡ withRecord t k (endedOf (recordAt t k) q)
+end-at-returns-2 t k q r e h = put-record-returns-2 t k (endedOf (recordAt t k) q) r e h
+
 pub put-returns : (t : List Record) (k : ℕ) (m : Message) (q : Hearing)
     → (i : ℕ) → i ≡ slotIf (q .takes) k
     → (v : Unit {0}) (u : List Record) → u ≡ withRecord t i (recordLeft (recordAt t i) m q)
-    → (g : ℕ) → g ≡ slotIf (q .closes) k → (z : Record) → z ≡ zeroRecord
-    → (w : Unit {0}) (l : List Record) → l ≡ withRecord u g z
+    → (g : ℕ) → g ≡ slotIf (q .closes || q .aborts) k
+    → (w : Unit {0}) (l : List Record) → l ≡ withRecord u g (endedOf (recordAt u g) q)
     → l ≡ tableLeft t k m q
 unfolding tableLeft
-put-returns t k m q i ei v u eu g eg z ez w l el =
-    el
-    ∙ (λ x. withRecord (eu x) (eg x) (ez x))
-    ∙ ap (λ (y : ℕ). withRecord (withRecord t y (recordLeft (recordAt t y) m q)) (slotIf (q .closes) k) zeroRecord) ei
+put-returns t k m q i ei v u eu g eg w l el =
+    let taken : ℕ → List Record = λ y. withRecord t y (recordLeft (recordAt t y) m q) in
+    let given : u ≡ taken (slotIf (q .takes) k) = eu ∙ ap taken ei in
+    el ∙ (λ x. withRecord (given x) (eg x) (endedOf (recordAt (given x) (eg x)) q))
 
 -- THE TABLE that is left: one slot has another record, or none has
-left-by : (t : List Record) (k : ℕ) (m : Message) (q : Hearing) (takes closes : Bool) → takes && closes ≡ false
-    → withRecord (withRecord t (cond takes k 0) (recordLeft (recordAt t (cond takes k 0)) m q)) (cond closes k 0) zeroRecord
-    ≡ withRecord t k (cond closes zeroRecord (cond takes (recordLeft (recordAt t k) m q) (recordAt t k)))
+left-by : (t : List Record) (k : ℕ) (m : Message) (q : Hearing) (takes ends : Bool) → takes && ends ≡ false
+    → (let u = withRecord t (cond takes k 0) (recordLeft (recordAt t (cond takes k 0)) m q) in
+    withRecord u (cond ends k 0) (endedOf (recordAt u (cond ends k 0)) q))
+    ≡ withRecord t k (cond ends (endedOf (recordAt t k) q) (cond takes (recordLeft (recordAt t k) m q) (recordAt t k)))
 unfolding withRecord
 left-by t k m q true true e = absurd (false≢true (sym e))
 left-by t k m q true false e = refl
 left-by t k m q false true e = refl
 left-by t k m q false false e = sym (record-kept t k)
 
-left-is : (t : List Record) (k : ℕ) (m : Message) (q : Hearing) → q .takes && q .closes ≡ false
+left-is : (t : List Record) (k : ℕ) (m : Message) (q : Hearing) → q .takes && (q .closes || q .aborts) ≡ false
     → tableLeft t k m q ≡ withRecord t k (leftOf (recordAt t k) m q)
 unfolding tableLeft slotIf
-left-is t k m q e = left-by t k m q (q .takes) (q .closes) e
+left-is t k m q e = left-by t k m q (q .takes) (q .closes || q .aborts) e
 
 -- WHAT IS TESTED FIRST
 module _ (s n len count buffer : ℕ) (good : Bool) (k : ℕ) where

@@ -1,25 +1,26 @@
 -- The table that a hear leaves, and what a hear leaves in all. Assumes nothing.
 use Prim.Native.Nat.{ℕ}
 use mathlib.Core.Path.{_≡_}
-use mathlib.Core.Bool.{Bool, cond}
+use mathlib.Core.Bool.{Bool, _||_, cond}
 use mathlib.Core.List.{List}
 use Rattle.cdc.specs.declared.Message.{Message}
 use Rattle.connection.specs.declared.Record.{Record}
-use Rattle.connection.specs.Connection.{zeroRecord}
 use Rattle.table.specs.Table.{recordAt, withRecord, activeB}
 use Rattle.hearing.specs.declared.HearAnswer.{HearAnswer}
 use Rattle.hearing.specs.declared.Hearing.{Hearing}
-use Rattle.hearing.specs.Hearing.{hearingOf, recordLeft, messageLeft}
+use Rattle.hearing.specs.Hearing.{hearingOf, recordLeft, endedOf, messageLeft}
 
 -- the slot, where b; else none
 unfoldable pub slotIf : Bool → ℕ → ℕ
 slotIf b k = cond b k 0
 
--- what the message says, put into slot k; or zeros, where it is closed
+-- what the message says, put into slot k; or zeros, where it is closed; or A, where it breaks
 unfoldable pub tableLeft : List Record → ℕ → Message → Hearing → List Record
 tableLeft t k m h =
     let i = slotIf (h .takes) k in
-    withRecord (withRecord t i (recordLeft (recordAt t i) m h)) (slotIf (h .closes) k) zeroRecord
+    let j = slotIf (h .closes || h .aborts) k in
+    let u = withRecord t i (recordLeft (recordAt t i) m h) in
+    withRecord u j (endedOf (recordAt u j) h)
 
 -- where j is what was refused before: of the table t and the message's buffer b it leaves u and c
 abbrev pub HeardBy : ℕ → ℕ → List Record → List Bool → ℕ → Message → List ℕ → HearAnswer → List Record → List ℕ → Type 0

@@ -3,8 +3,9 @@
 //
 // The record is read where it is needed and its changed fields alone are put back, as in crate `direct_read`.
 ghost use mathlib.Core.Path.{_≡_};
+ghost use mathlib.Core.Bool.{_||_};
 ghost use Rattle.table.specs.Table.{activeB, recordAt, withRecord};
-ghost use Rattle.hearing.specs.Hearing.{hearingOf, recordLeft, messageLeft};
+ghost use Rattle.hearing.specs.Hearing.{hearingOf, recordLeft, endedOf, messageLeft};
 ghost use Rattle.direct_hear.specs.DirectHear.{HearMade};
 ghost use Rattle.direct_hear.specs.TableLeft.{HeardBy, slotIf, tableLeft};
 use cdc::Message;
@@ -42,11 +43,11 @@ fn taking(t: Hearing, slot: usize) -> usize
     if t.takes { slot } else { 0 }
 }
 
-// The slot that is closed; 0 for none.
-fn shutting(t: Hearing, slot: usize) -> usize
-    ensures { λ r. ⌜ r ≡ slotIf (t .closes) slot ⌝ }
+// The slot that is closed, or breaks; 0 for none.
+fn ending(t: Hearing, slot: usize) -> usize
+    ensures { λ r. ⌜ r ≡ slotIf (t .closes || t .aborts) slot ⌝ }
 {
-    if t.closes { slot } else { 0 }
+    if t.closes | t.aborts { slot } else { 0 }
 }
 
 fn take_at(table: &mut [Record], slot: usize, m: Message, t: Hearing)
@@ -63,14 +64,27 @@ fn take_at(table: &mut [Record], slot: usize, m: Message, t: Hearing)
     }
 }
 
+fn end_at(table: &mut [Record], slot: usize, t: Hearing)
+    ensures { λ _. ⌜ now (table .exit) ≡ withRecord (now (table .entry)) slot (endedOf (recordAt (now (table .entry)) slot) t) ⌝ }
+{
+    let i = slots::index(slot, table.len());
+    if i < table.len() {
+        let rec = table[i];
+        let next = hearing::ended(rec, t);
+        table[i] = next;
+        return;
+    } else {
+        return;
+    }
+}
+
 fn put(table: &mut [Record], slot: usize, m: Message, t: Hearing)
     ensures { λ _. ⌜ now (table .exit) ≡ tableLeft (now (table .entry)) slot m t ⌝ }
 {
     let at = taking(t, slot);
     take_at(table, at, m, t);
-    let gone = shutting(t, slot);
-    let none = connection::zero_record();
-    slots::put_record(table, gone, none);
+    let gone = ending(t, slot);
+    end_at(table, gone, t);
 }
 
 fn tell_at(table: &[Record], slot: usize, t: Hearing, to: &mut [u8])

@@ -4,17 +4,17 @@ ghost use mathlib.Core.Path.{_≡_};
 ghost use Rattle.gauge.specs.Gauge.{healthOf, viewOf};
 ghost use Rattle.connection.specs.Connection.{zeroRecord};
 ghost use Rattle.table.specs.Table.{gaugeAt};
-ghost use Rattle.rules.specs.Rules.{Call, Management, groupOf};
+ghost use Rattle.rules.specs.Rules.{groupOf};
 ghost use Rattle.fresh.specs.Fresh.{downLinks};
 ghost use Rattle.pool.specs.Pool.{freePool, take, giveBack};
 ghost use Rattle.flat.specs.Flat.{roleOf, linksIn, flatLinks, CallMade};
 ghost use Rattle.flat.specs.View.{flatView};
 ghost use Rattle.flat_gather.specs.FlatGather.{GatherMade, pieceAt};
-ghost use Rattle.flat_link.specs.FlatLink.{LinkMade, SendMade};
+ghost use Rattle.flat_link.specs.FlatLink.{LinkMade};
 ghost use Rattle.flat_pool.specs.FlatPool.{PoolMade};
 ghost use Rattle.flat_setup.specs.FlatSetup.{flatSetup};
-ghost use Rattle.shapes.specs.Shapes.{shapeRecord, shapeLinks, shapeCommand, shapeAnswer, shapeLinkAnswer, shapePiece, shapeView};
-ghost use Rattle.shapes.specs.Shapes.{shapePoolAnswer, shapeSettings, shapeSetupAnswer};
+ghost use Rattle.shapes.specs.Shapes.{shapeRecord, shapeLinks, shapeCommand, shapeLinkCommand, shapeAnswer, shapeLinkAnswer};
+ghost use Rattle.shapes.specs.Shapes.{shapePiece, shapeView, shapePoolAnswer, shapeSettings, shapeSetupAnswer};
 use connection::Record;
 use flat::FlatAnswer;
 use flat::FlatCommand;
@@ -22,8 +22,8 @@ use flat::FlatLinks;
 use flat::FlatView;
 use flat_gather::FlatGathered;
 use flat_gather::FlatPiece;
-use flat_link::FlatFields;
 use flat_link::FlatLinkAnswer;
+use flat_link::FlatLinkCommand;
 use flat_pool::Books;
 use flat_pool::PoolAnswer;
 use flat_setup::SetupAnswer;
@@ -86,27 +86,27 @@ pub extern "C" fn fordlinnet_next_piece<'a>(
     flat_gather::piece(head, body, found, n, k)
 }
 
-// Link message and link send.
+// Makes the call on the links that a number names: link change, link message or link send. Where links go down, connections move.
 #[no_mangle]
-pub extern "C" fn fordlinnet_make_link_message(
+pub extern "C" fn fordlinnet_make_link(
+    s: u32,
+    n: u32,
+    mem: &[u8],
+    table: &mut [Record],
     links: FlatLinks,
-    link: u8,
+    command: FlatLinkCommand,
     bytes: &[u8],
+    out: &mut [u8],
 ) -> FlatLinkAnswer
-    ensures { λ r. ⌜ LinkMade links (Call.manage (Management.linkMessage link (now (bytes .entry)))) r ⌝ }
+    ensures { λ r.
+        ⌜ LinkMade (groupOf s n (now (table .entry)) (linksIn links) (now (mem .entry))) command (now (bytes .entry)) (now (out .entry)) r
+        (groupOf s n (now (table .exit)) (linksIn (r .links)) (now (mem .entry))) (now (out .exit)) ⌝ }
 {
-    flat_link::link_message(links, link, bytes)
-}
-
-#[no_mangle]
-pub extern "C" fn fordlinnet_make_link_send(
-    links: FlatLinks,
-    link: u8,
-    fields: FlatFields,
-) -> FlatLinkAnswer
-    ensures { λ r. ⌜ SendMade links link fields r ⌝ }
-{
-    flat_link::link_send(links, link, fields)
+    let own = flat::links_of(links);
+    let named = flat_link::command_of(command);
+    let given = flat_link::values_of(command);
+    let d = linkdesk::make(s, n, mem, table, own, named, bytes, given, out);
+    flat_link::told(command, links, d)
 }
 
 // What a console shows of a link.
@@ -187,10 +187,17 @@ pub extern "C" fn fordlinnet_shape_links(one: u32) -> FlatLinks
 }
 
 #[no_mangle]
-pub extern "C" fn fordlinnet_shape_command(one: u32) -> FlatCommand
-    ensures { λ r. ⌜ r ≡ shapeCommand one ⌝ }
+pub extern "C" fn fordlinnet_shape_command() -> FlatCommand
+    ensures { λ r. ⌜ r ≡ shapeCommand ⌝ }
 {
-    shapes::command(one)
+    shapes::command()
+}
+
+#[no_mangle]
+pub extern "C" fn fordlinnet_shape_link_command(one: u32) -> FlatLinkCommand
+    ensures { λ r. ⌜ r ≡ shapeLinkCommand one ⌝ }
+{
+    shapes::link_command(one)
 }
 
 #[no_mangle]

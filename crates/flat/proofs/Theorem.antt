@@ -28,10 +28,10 @@ none =
     }
 
 abbrev on-slot : ℕ → ℕ → ℕ → FlatCommand
-on-slot number slot offset = record { number = number; slot = slot; offset = offset; ms = 0; link = 0; up = false; opening = none }
+on-slot number slot offset = record { number = number; slot = slot; offset = offset; ms = 0; link = 0; opening = none }
 
-abbrev on-link : ℕ → ℕ → Bool → ℕ → FlatCommand
-on-link number link up ms = record { number = number; slot = 0; offset = 0; ms = ms; link = link; up = up; opening = none }
+abbrev on-link : ℕ → ℕ → ℕ → FlatCommand
+on-link number link ms = record { number = number; slot = 0; offset = 0; ms = ms; link = link; opening = none }
 
 pub every-call-numbered : EveryCallNumbered
 unfolding knownB namedOf
@@ -45,13 +45,12 @@ every-call-numbered (On k Ons.Abort) = record { by = on-slot 11 k 0; known = ref
 every-call-numbered Hear = record { by = on-slot 12 0 0; known = refl; names = refl }
 every-call-numbered (Manage (Desk.Open k given)) =
     record {
-      by = record { number = 1; slot = k; offset = 0; ms = 0; link = 0; up = false; opening = given };
+      by = record { number = 1; slot = k; offset = 0; ms = 0; link = 0; opening = given };
       known = refl;
       names = refl;
     }
 every-call-numbered (Manage (Desk.Free k)) = record { by = on-slot 2 k 0; known = refl; names = refl }
-every-call-numbered (Manage (Desk.LinkChange l up)) = record { by = on-link 3 l up 0; known = refl; names = refl }
-every-call-numbered (Manage (Desk.Sample l ms)) = record { by = on-link 4 l false ms; known = refl; names = refl }
+every-call-numbered (Manage (Desk.Sample l ms)) = record { by = on-link 4 l ms; known = refl; names = refl }
 
 role-back : (r : Role) → roleOf (not (clientB r)) ≡ r
 unfolding roleOf

@@ -24,7 +24,8 @@ use Rattle.table.specs.declared.Answered.{Answered}
 use Rattle.group.specs.declared.Command.{Command}
 use Rattle.group.specs.declared.Command.the-variants.{On, Hear, Manage}
 use Rattle.group.specs.Group.{callOf}
-use Rattle.rules.specs.Rules.{Says, refusal, accepted, sent, gathered, wasRead, torn, heard, reset, sampled, linkHeard, linkSent}
+use Rattle.rules.specs.Rules.{Says, refusal, accepted, sent, gathered, wasRead, torn, heard, reset, sampled}
+use Rattle.rules.specs.Rules.{linkChanged, linkHeard, linkSent}
 use Rattle.rules.specs.Rules.{Group, Call, Answer, answer, next, linksOf, answerOf}
 use Rattle.flat.specs.declared.FlatCommand.{FlatCommand}
 use Rattle.flat.specs.declared.FlatAnswer.{FlatAnswer}
@@ -42,16 +43,15 @@ abbrev pub flatLinks : Links → FlatLinks
 flatLinks l =
     record { active = l .active; gauges = l .gauges; server = not (clientB (l .role)); exchange = l .exchange; queue = l .queue }
 
--- THE CALLS' NUMBERS
+-- THE CALLS' NUMBERS; 3 is link change, which is lent a buffer (`flat_link`)
 unfoldable pub knownB : FlatCommand → Bool
-knownB q = leb 1 (q .number) && leb (q .number) 12
+knownB q = leb 1 (q .number) && (leb (q .number) 12 && not (eqb (q .number) 3))
 
 -- 12, hear, is the one that is left
 unfoldable pub namedOf : FlatCommand → Command
 namedOf q =
     cond (eqb (q .number) 1) (Manage (Desk.Open (q .slot) (q .opening)))
     (cond (eqb (q .number) 2) (Manage (Desk.Free (q .slot)))
-    (cond (eqb (q .number) 3) (Manage (Desk.LinkChange (q .link) (q .up)))
     (cond (eqb (q .number) 4) (Manage (Desk.Sample (q .link) (q .ms)))
     (cond (eqb (q .number) 5) (On (q .slot) On.Send)
     (cond (eqb (q .number) 6) (On (q .slot) On.Urgent)
@@ -60,7 +60,7 @@ namedOf q =
     (cond (eqb (q .number) 9) (On (q .slot) On.Shutdown)
     (cond (eqb (q .number) 10) (On (q .slot) On.Close)
     (cond (eqb (q .number) 11) (On (q .slot) On.Abort)
-    Hear))))))))))
+    Hear)))))))))
 
 -- the rules' call, with what is lent
 abbrev pub asked : FlatCommand → List ℕ → List ℕ → Call
@@ -160,7 +160,7 @@ withHealth (Steady m) f = healthy 2 m (f .worst) f
 withHealth (Late m w) f = healthy 3 m w f
 
 -- 1 refused, with the refusal's number; 2 accepted; 3 sent; 4 gathered, whose pieces are handed out apart; 5 read; 6 torn; 7 heard;
--- 8 reset; 9 sampled; 13 link heard, 14 link sent, whose own answers name more (`flat_link`)
+-- 8 reset; 9 sampled; 13 link heard, 14 link sent, 15 link changed, whose own answers name more (`flat_link`)
 abbrev pub flatSays : Says → Bool → List ℕ → FlatLinks → FlatAnswer
 flatSays (refusal k) made message links = bare 1 k 0 made message links
 flatSays accepted made message links = bare 2 0 0 made message links
@@ -171,8 +171,9 @@ flatSays torn made message links = bare 6 0 0 made message links
 flatSays (heard moved state) made message links = withHeard moved state (bare 7 0 0 made message links)
 flatSays reset made message links = bare 8 0 0 made message links
 flatSays (sampled health) made message links = withHealth health (bare 9 0 0 made message links)
-flatSays (linkHeard fields fate up) made message links = bare 13 0 0 made message links
-flatSays (linkSent up) made message links = bare 14 0 0 made message links
+flatSays (linkHeard fields fate up n) made message links = bare 13 0 0 made message links
+flatSays (linkSent up n) made message links = bare 14 0 0 made message links
+flatSays (linkChanged n) made message links = bare 15 0 0 made message links
 
 abbrev pub flatOf : Answer → Links → FlatAnswer
 flatOf a links = flatSays (a .says) (a .made) (a .message) (flatLinks links)
@@ -199,7 +200,7 @@ pub record CallMade (g : Group) (q : FlatCommand) (b out : List ℕ) (r : FlatAn
 
 -- WHAT THE CODE DOES. For an unknown number it makes a call that changes nothing
 unfoldable pub commandOf : FlatCommand → Command
-commandOf q = cond (knownB q) (namedOf q) (Manage (Desk.LinkChange 0 false))
+commandOf q = cond (knownB q) (namedOf q) (Manage (Desk.Sample 0 0))
 
 unfoldable pub toldOf : FlatCommand → FlatLinks → Answered → FlatAnswer
 toldOf q links a = cond (knownB q) (flatOf (answerOf a []) (a .links)) (unknownBy links)

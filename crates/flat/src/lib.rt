@@ -26,8 +26,10 @@ use outcome::Reply;
 use table::Answered;
 use table::Links;
 
-// The calls are numbered from 1 to this.
+// The calls are numbered from 1 to this, but for one number, which names a call of crate `flat_link`.
 const MOST_CALL: u32 = 12;
+
+const LINK_CHANGE: u32 = 3;
 
 // What an answer says.
 const UNKNOWN: u32 = 0;
@@ -63,7 +65,6 @@ pub struct FlatCommand {
     pub offset: u32,
     pub ms: u32,
     pub link: u8,
-    pub up: bool,
     pub opening: Opening,
 }
 
@@ -142,7 +143,7 @@ pub fn flat_links(links: Links) -> FlatLinks
 pub fn known(q: FlatCommand) -> bool
     ensures { λ r. ⌜ r ≡ knownB q ⌝ }
 {
-    (1 <= q.number) & (q.number <= MOST_CALL)
+    (1 <= q.number) & ((q.number <= MOST_CALL) & (q.number != LINK_CHANGE))
 }
 
 // The call of a number that is one of the calls'.
@@ -156,7 +157,6 @@ fn named(q: FlatCommand) -> Command
     match number {
         1 => Command::Manage(Management::Open(slot, given)),
         2 => Command::Manage(Management::Free(slot)),
-        3 => Command::Manage(Management::LinkChange(link, q.up)),
         4 => Command::Manage(Management::Sample(link, q.ms)),
         5 => Command::On(slot, Request::Send),
         6 => Command::On(slot, Request::Urgent),
@@ -176,7 +176,7 @@ pub fn command_of(q: FlatCommand) -> Command
     if known(q) {
         return named(q);
     }
-    Command::Manage(Management::LinkChange(0, false))
+    Command::Manage(Management::Sample(0, 0))
 }
 
 fn state_number(state: State) -> u32

@@ -1,64 +1,147 @@
--- Why link message's and link send's contracts follow from those of `linkdesk`. Assumes nothing.
-use Prim.Native.Nat.{ℕ}
+-- Why the answer that is told is the rules' answer in numbers, and what an unknown number leaves. Assumes nothing.
+use Prim.Native.Nat.{ℕ, _+_, _*_, _%_, _≤_}
 use mathlib.Core.Path.{_≡_, refl, sym, ap, _∙_, subst}
-use mathlib.Core.Bool.{Bool, true, false, false≢true}
-use mathlib.Core.List.{List, []}
-use Rattle.llcfields.specs.declared.Kind.{Kind}
-use Rattle.llcfields.specs.Layouts.{kindOf, namedB}
+use mathlib.Core.Bool.{Bool, true, false, cond}
+use mathlib.Core.List.{List, [], _∷_}
+use native.Mathlib.Omega.{arith}
+use lib.Dec.{eqb, leb}
+use lib.ListN.{length}
 use Rattle.exchange.specs.declared.Fate.{Fate}
 use Rattle.gauge.specs.declared.Health.{Health}
 use Rattle.gauge.specs.declared.Health.the-variants.{Unheard, Steady, Late}
-use Rattle.outcome.specs.Outcome.{noMessage}
+use Rattle.connection.specs.declared.Record.{Record}
+use Rattle.connection.proofs.Laws.{and-left}
 use Rattle.outcome.specs.declared.Placings.{Placings}
 use Rattle.outcome.specs.declared.Placings.the-variants.{Nowhere, One, Two}
 use Rattle.outcome.specs.declared.Reply.{Reply}
 use Rattle.outcome.specs.declared.Reply.the-variants.{Refused, Accepted, Sent, Read, Torn, Reset, Heard, Sampled}
+use Rattle.outcome.specs.Outcome.{noMessage}
 use Rattle.table.specs.declared.Links.{Links}
-use Rattle.table.specs.declared.Answered.{Answered}
+use Rattle.table.proofs.Laws.{sizes-facts}
+use Rattle.failover.specs.declared.Plan.{Plan}
+use Rattle.failover.specs.Failover.{planOf, tellsB, countOf, one}
 use Rattle.linkcalls.specs.declared.Fields.{Fields}
 use Rattle.linkcalls.specs.declared.TakenUp.{TakenUp}
+use Rattle.linkcalls.specs.Calls.{changedOf}
 use Rattle.rules.specs.Rules as Rules
-use Rattle.rules.specs.Rules.{Group, Call, Management, Says, Answer, Did, answer, next, linksOf, withLinks, answerOf, linkHeard, linkSent}
-use Rattle.linkdesk.specs.declared.LinkHeard.{LinkHeard}
-use Rattle.linkdesk.specs.declared.LinkSent.{LinkSent}
-use Rattle.linkdesk.specs.LinkDesk.{answerAs, DidMessage, DidSend}
+use Rattle.rules.specs.Rules.{Group, Says, Done, answer, linksOf, sizesOk, lentOk, linkRefusal, failsOver, refuses}
+use Rattle.rules.specs.Rules.{linkDoes, linkMessageDoes, linkSendDoes}
+use Rattle.linkdesk.specs.declared.LinkCommand.{LinkCommand}
+use Rattle.linkdesk.specs.declared.LinkCommand.the-variants.{Change, Message, Send}
+use Rattle.linkdesk.specs.declared.LinkDone.{LinkDone}
+use Rattle.linkdesk.specs.LinkDesk.{callOf, answerIn}
 use Rattle.flat.specs.declared.FlatLinks.{FlatLinks}
-use Rattle.flat.specs.Flat.{bare, linksIn, flatLinks}
-use Rattle.flat.proofs.Theorem.{links-back}
-use Rattle.flat_link.specs.declared.FlatFields.{FlatFields}
-use Rattle.flat_link.specs.declared.FlatLinkAnswer.{FlatLinkAnswer}
-use Rattle.flat_link.specs.FlatLink.{fateNumber, flatFields, noFlatFields, linkBare, linkNamed, linkSays, linkOf, linkTold, LinkMade, SendMade}
+use Rattle.flat.specs.Flat.{bare, flatLinks}
+use Rattle.flat_link.specs.FlatLink.{fateNumber, flatFields, noFlatFields, linkBare, linkNamed, linkSays, linkOf, linkTold}
 
--- What the call names stands in the place of "accepted", whichever reply there is
-abbrev answered : Reply → Bool → List ℕ → Links → Answered
-answered reply made message links = record { reply = reply; made = made; message = message; links = links }
+-- HOW MANY. A count is at most the table's length, and so at most 255
+abbrev pub counted : Says → ℕ
+counted (Rules.refusal k) = 0
+counted Rules.accepted = 0
+counted (Rules.sent n ps) = 0
+counted (Rules.gathered n ps) = 0
+counted (Rules.wasRead n) = 0
+counted Rules.torn = 0
+counted (Rules.heard moved state) = 0
+counted Rules.reset = 0
+counted (Rules.sampled health) = 0
+counted (Rules.linkChanged n) = n
+counted (Rules.linkHeard f fate up n) = n
+counted (Rules.linkSent up n) = n
 
--- s says what is named under its number
-abbrev Named : Says → ℕ → ℕ → FlatFields → TakenUp → Type 0
-Named s said fate fields up =
-    (made : Bool) (message : List ℕ) (links : FlatLinks) → linkNamed said fate fields up made message links ≡ linkSays s made message links
+one-most : (b : Bool) → one b ≤ 1
+one-most true = omega arith
+one-most false = omega arith
 
-told : (s : Says) (said fate : ℕ) (fields : FlatFields) (up : TakenUp) → Named s said fate fields up
-    → (reply : Reply) (made : Bool) (message : List ℕ) (links : Links)
-    → linkTold said fate fields up (answered reply made message links) ≡ linkOf (answerAs s (answered reply made message links)) links
-unfolding linkTold bare
-told s said fate fields up h (Refused k) made message links = refl
-told s said fate fields up h Accepted made message links = h made message (flatLinks links)
-told s said fate fields up h (Sent n Nowhere) made message links = refl
-told s said fate fields up h (Sent n (One p)) made message links = refl
-told s said fate fields up h (Sent n (Two p q)) made message links = refl
-told s said fate fields up h (Read n) made message links = refl
-told s said fate fields up h Torn made message links = refl
-told s said fate fields up h Reset made message links = refl
-told s said fate fields up h (Heard moved state) made message links = refl
-told s said fate fields up h (Sampled Unheard) made message links = refl
-told s said fate fields up h (Sampled (Steady m)) made message links = refl
-told s said fate fields up h (Sampled (Late m w)) made message links = refl
+count-short : (N : ℕ) (p : Plan) (t : List Record) → countOf N p t ≤ length t
+unfolding countOf
+count-short N p [] = omega arith
+count-short N p (c ∷ t) = omega (arith, one-most (tellsB N p c), count-short N p t)
 
-said-links : (s : Says) (made : Bool) (message : List ℕ) (links : FlatLinks) → linkSays s made message links .links ≡ links
+module _ (g : Group) (b : List ℕ) (links : Links) (made : Bool) (message : List ℕ) (j : ℕ)
+    (says : ℕ → Says) (counts : (n : ℕ) → counted (says n) ≡ n) where
+  abbrev done : ℕ → Done
+  done k = cond (eqb k 0) (failsOver g links b says made message) (refuses g k b)
+
+  done-few : counted (done (linkRefusal g b j) .answer .says) ≤ 255
+  unfolding linkRefusal failsOver refuses
+  done-few = go (lentOk g b) refl
+    where
+      either : (t : Bool) (k : ℕ) → length (g .table) ≤ 255
+          → counted (cond t (failsOver g links b says made message) (refuses g k b) .answer .says) ≤ 255
+      either true k h =
+          let p : Plan = planOf (g .links) (links .active) in
+          omega (arith, h, counts (countOf (g .N) p (g .table)), count-short (g .N) p (g .table))
+      either false k h = omega arith
+
+      go : (ok : Bool) → lentOk g b ≡ ok → counted (done (cond ok j 1) .answer .says) ≤ 255
+      go true e =
+          let ok = and-left (sizesOk g) (leb (44 * g .S) (length b)) e in
+          let s = sizes-facts (g .S) (g .N) (length (g .memory)) (length (g .table)) ok in
+          either (eqb j 0) j (omega (arith, s .count-is, s .s-most))
+      go false e = omega arith
+
+pub few : (g : Group) (c : LinkCommand) (bytes vs b : List ℕ) → counted (answer g (callOf c bytes vs b) .says) ≤ 255
+unfolding linkDoes linkMessageDoes linkSendDoes
+few g (Change l up) bytes vs b = done-few g b _ _ _ _ Rules.linkChanged (λ n. refl)
+few g (Message l) bytes vs b = done-few g b _ _ _ _ (Rules.linkHeard _ _ _) (λ n. refl)
+few g (Send l k) bytes vs b = done-few g b _ _ _ _ (Rules.linkSent _) (λ n. refl)
+
+-- THE ANSWER. What the call names stands in the place of "accepted", whichever reply there is
+small : (n : ℕ) → n ≤ 255 → n % 4294967296 ≡ n
+small n h = omega (arith, h)
+
+abbrev made-of : Reply → Bool → List ℕ → Links → Fields → Fate → TakenUp → ℕ → LinkDone
+made-of reply made message links fields fate up count =
+    record {
+      answer = record { reply = reply; made = made; message = message; links = links };
+      fields = fields;
+      fate = fate;
+      up = up;
+      count = count;
+    }
+
+module _ (left : List ℕ) (made : Bool) (message : List ℕ) (links : Links) (fields : Fields) (fate : Fate) (up : TakenUp) (count : ℕ) where
+  abbrev by : Reply → LinkDone
+  by reply = made-of reply made message links fields fate up count
+
+  abbrev Tells : LinkCommand → Reply → Type 0
+  Tells c reply =
+      counted (answerIn c (by reply) left .says) ≤ 255 → linkTold c (by reply) ≡ linkOf (answerIn c (by reply) left) links
+
+  told-accepted : (c : LinkCommand) → Tells c Accepted
+  unfolding linkTold bare
+  told-accepted (Change l up′) h = λ i. linkBare 15 0 (small count h i) made message (flatLinks links)
+  told-accepted (Message l) h =
+      λ i. linkNamed 13 (fateNumber fate) (flatFields fields) up (small count h i) made message (flatLinks links)
+  told-accepted (Send l k) h = λ i. linkNamed 14 0 noFlatFields up (small count h i) made message (flatLinks links)
+
+  told-by : (c : LinkCommand) (reply : Reply) → Tells c reply
+  unfolding linkTold bare
+  told-by c (Refused k) h = refl
+  told-by c Accepted h = told-accepted c h
+  told-by c (Sent n Nowhere) h = refl
+  told-by c (Sent n (One p)) h = refl
+  told-by c (Sent n (Two p q)) h = refl
+  told-by c (Read n) h = refl
+  told-by c Torn h = refl
+  told-by c Reset h = refl
+  told-by c (Heard moved state) h = refl
+  told-by c (Sampled Unheard) h = refl
+  told-by c (Sampled (Steady m)) h = refl
+  told-by c (Sampled (Late m w)) h = refl
+
+pub told-is : (c : LinkCommand) (d : LinkDone) (left : List ℕ) → counted (answerIn c d left .says) ≤ 255
+    → linkTold c d ≡ linkOf (answerIn c d left) (d .answer .links)
+told-is c d left h =
+    told-by left (d .answer .made) (d .answer .message) (d .answer .links) (d .fields) (d .fate) (d .up) (d .count) c (d .answer .reply) h
+
+-- it holds the links that the call left
+pub said-links : (s : Says) (made : Bool) (message : List ℕ) (links : FlatLinks) → linkSays s made message links .links ≡ links
 said-links (Rules.refusal k) made message links = refl
-said-links (Rules.linkHeard f fate up) made message links = refl
-said-links (Rules.linkSent up) made message links = refl
+said-links (Rules.linkChanged n) made message links = refl
+said-links (Rules.linkHeard f fate up n) made message links = refl
+said-links (Rules.linkSent up n) made message links = refl
 said-links Rules.accepted made message links = refl
 said-links (Rules.sent n ps) made message links = refl
 said-links (Rules.gathered n ps) made message links = refl
@@ -68,47 +151,18 @@ said-links (Rules.heard moved state) made message links = refl
 said-links Rules.reset made message links = refl
 said-links (Rules.sampled health) made message links = refl
 
--- what was done in every group that has the links is what is told
-made-by : (links : FlatLinks) (c : Call) (s : Says) (a : Answered) (said fate : ℕ) (fields : FlatFields) (up : TakenUp)
-    → Named s said fate fields up
-    → ((g : Group) → linksOf g ≡ linksIn links → Did g c (answerAs s a) (withLinks g (a .links)))
-    → (r : FlatLinkAnswer) → r ≡ linkTold said fate fields up a → LinkMade links c r
-made-by links c s a said fate fields up named did r hr =
-    record {
-      answered = λ g e. flat ∙ (λ i. linkOf (did g e .answered i) (linksOf (did g e .left i)));
-      next-left =
-          λ g e. ap (λ (x : FlatLinks). withLinks g (linksIn x))
-          (ap (λ (w : FlatLinkAnswer). w .links) flat ∙ said-links (answerAs s a .says) (a .made) (a .message) (flatLinks (a .links)))
-          ∙ ap (λ (x : Links). withLinks g x) (links-back (a .links)) ∙ did g e .left;
-    }
+-- AN UNKNOWN NUMBER. Link change of link 0 is refused
+pub record Idle (g : Group) (b : List ℕ) (d : Done) : Type 0 where
+  pub kept : d .group ≡ g
+  pub out-kept : d .answer .out ≡ b
+
+pub idle : (g : Group) (b : List ℕ) → Idle g b (linkDoes g 0 false b)
+unfolding linkDoes linkRefusal refuses
+idle g b = go (lentOk g b)
   where
-    flat : r ≡ linkOf (answerAs s a) (a .links)
-    flat = hr ∙ told s said fate fields up named (a .reply) (a .made) (a .message) (a .links)
+    left : ℕ → Done
+    left j = cond (eqb j 0) (failsOver g (changedOf (linksOf g) 0 false .after) b Rules.linkChanged false noMessage) (refuses g j b)
 
-pub message-is : (links : FlatLinks) (l : ℕ) (b : List ℕ) (own : Links) → own ≡ linksIn links
-    → (h : LinkHeard) → DidMessage own l b h
-    → (number : ℕ) → number ≡ fateNumber (h .fate) → (fields : FlatFields) → fields ≡ flatFields (h .fields)
-    → (r : FlatLinkAnswer) → r ≡ linkTold 13 number fields (h .up) (h .answer)
-    → LinkMade links (Call.manage (Management.linkMessage l b)) r
-message-is links l b own ho h did number hn fields hf r hr =
-    made-by links (Call.manage (Management.linkMessage l b)) (linkHeard (h .fields) (h .fate) (h .up)) (h .answer) 13
-    (fateNumber (h .fate)) (flatFields (h .fields)) (h .up) (λ made message ls. refl) (λ g e. did g (e ∙ sym ho)) r
-    (hr ∙ (λ i. linkTold 13 (hn i) (hf i) (h .up) (h .answer)))
-
-pub send-is : (links : FlatLinks) (l : ℕ) (f : FlatFields) (own : Links) → own ≡ linksIn links
-    → (kind : Kind) → kind ≡ kindOf (f .kind) → (s : LinkSent) → DidSend own l kind (f .values) s
-    → (r : FlatLinkAnswer) → r ≡ linkTold 14 0 noFlatFields (s .up) (s .answer) → namedB (f .kind) ≡ true → SendMade links l f r
-send-is links l f own ho kind hk s did r hr hb =
-    record { known = λ h. made; unknown = λ h. absurd (false≢true (sym h ∙ hb)) }
-  where
-    sent : DidSend own l (kindOf (f .kind)) (f .values) s
-    sent = subst (λ (k : Kind). DidSend own l k (f .values) s) hk did
-
-    made : LinkMade links (Call.manage (Management.linkSend l (kindOf (f .kind)) (f .values))) r
-    made =
-        made-by links (Call.manage (Management.linkSend l (kindOf (f .kind)) (f .values))) (linkSent (s .up)) (s .answer) 14 0
-        noFlatFields (s .up) (λ m message ls. refl) (λ g e. sent g (e ∙ sym ho)) r hr
-
-pub none-sent : (links : FlatLinks) (l : ℕ) (f : FlatFields) (r : FlatLinkAnswer)
-    → r ≡ linkBare 0 0 false noMessage links → namedB (f .kind) ≡ false → SendMade links l f r
-none-sent links l f r hr hb = record { known = λ h. absurd (false≢true (sym hb ∙ h)); unknown = λ h. hr }
+    go : (ok : Bool) → Idle g b (left (cond ok 13 1))
+    go true = record { kept = refl; out-kept = refl }
+    go false = record { kept = refl; out-kept = refl }

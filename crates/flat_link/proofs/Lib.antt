@@ -1,2 +1,3 @@
--- `Laws`: why each call's contract follows from that of `linkdesk`'s.
+-- `Laws`: why the answer that is told is the rules'. `Theorem`: every call has a number.
 pub mod Laws
+pub mod Theorem

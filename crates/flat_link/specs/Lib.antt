@@ -1,1 +1,2 @@
 pub mod FlatLink
+pub mod Statement

@@ -1,13 +1,23 @@
-// Link message and link send with flat structs, for callers in C and Rust (request 2026-01).
+// Link change, link message and link send with flat structs, for callers in C and Rust (requests 2026-01 and 2026-13). A call is named by a
+// number, and what an answer says is a number with the fields that it names; every other field is zero.
 ghost use mathlib.Core.Path.{_≡_};
-ghost use Rattle.rules.specs.Rules.{Call, Management};
-ghost use Rattle.flat.specs.Flat.{linksIn, flatLinks};
-ghost use Rattle.flat_link.specs.FlatLink.{fateNumber, kindNumber, flatFields, upFate, flatUp, linkBare, linkNamed, linkTold, LinkMade, SendMade};
+ghost use Rattle.flat_link.specs.FlatLink.{fateNumber, kindNumber, flatFields, upFate, flatUp, linkBare, linkNamed, saidNumber, refusalNumber, linkTold};
+ghost use Rattle.flat_link.specs.FlatLink.{linkKnownB, linkNamedOf, linkCommandOf, valuesOf, acceptedOf, linkToldOf};
 use exchange::Fate;
 use flat::FlatLinks;
 use linkcalls::Fields;
 use linkcalls::TakenUp;
-use table::Answered;
+use linkdesk::LinkCommand;
+use linkdesk::LinkDone;
+use linkdesk::Values;
+use outcome::Reply;
+
+// The calls' numbers.
+const LINK_CHANGE: u32 = 3;
+
+const LINK_MESSAGE: u32 = 13;
+
+const LINK_SEND: u32 = 14;
 
 // What an answer says.
 const UNKNOWN: u32 = 0;
@@ -17,6 +27,8 @@ const ACCEPTED: u32 = 2;
 const LINK_HEARD: u32 = 13;
 
 const LINK_SENT: u32 = 14;
+
+const LINK_CHANGED: u32 = 15;
 
 // A link message's kind, which is its byte 0, and its values; zeros where none is named.
 #[repr(C)]
@@ -34,7 +46,16 @@ pub struct FlatTakenUp {
     pub fields: FlatFields,
 }
 
-// What link message or link send answers, the message taken up from the queue, and the links that the call leaves.
+// One of the three calls by its number; what the number does not name is not looked at.
+#[repr(C)]
+pub struct FlatLinkCommand {
+    pub number: u32,
+    pub link: u8,
+    pub up: bool,
+    pub fields: FlatFields,
+}
+
+// What a call answers, the message taken up from the queue, how many messages with F stand in the buffer, and the links that it leaves.
 #[repr(C)]
 pub struct FlatLinkAnswer {
     pub said: u32,
@@ -42,6 +63,7 @@ pub struct FlatLinkAnswer {
     pub fate: u32,
     pub fields: FlatFields,
     pub up: FlatTakenUp,
+    pub count: u32,
     pub made: bool,
     pub message: [u8; 44],
     pub links: FlatLinks,
@@ -99,15 +121,16 @@ fn flat_up(up: TakenUp) -> FlatTakenUp
     }
 }
 
-// An answer that names at most a refusal, beside the message.
+// An answer that names at most a refusal and a count, beside the message.
 fn link_bare(
     said: u32,
     refusal: u32,
+    count: u32,
     made: bool,
     message: [u8; 44],
     links: FlatLinks,
 ) -> FlatLinkAnswer
-    ensures { λ r. ⌜ r ≡ linkBare said refusal made message links ⌝ }
+    ensures { λ r. ⌜ r ≡ linkBare said refusal count made message links ⌝ }
 {
     let none = FlatFields {
         kind: 0,
@@ -125,23 +148,25 @@ fn link_bare(
         fate: 0,
         fields: none,
         up: nothing,
+        count: count,
         made: made,
         message: message,
         links: links,
     }
 }
 
-// What a link call names: a fate and fields, and the message taken up.
+// One that names a fate and fields, the message taken up, and a count.
 fn link_named(
     said: u32,
     fate: u32,
     fields: FlatFields,
     up: TakenUp,
+    count: u32,
     made: bool,
     message: [u8; 44],
     links: FlatLinks,
 ) -> FlatLinkAnswer
-    ensures { λ r. ⌜ r ≡ linkNamed said fate fields up made message links ⌝ }
+    ensures { λ r. ⌜ r ≡ linkNamed said fate fields up count made message links ⌝ }
 {
     let taken = flat_up(up);
     FlatLinkAnswer {
@@ -150,56 +175,141 @@ fn link_named(
         fate: fate,
         fields: fields,
         up: taken,
+        count: count,
         made: made,
         message: message,
         links: links,
     }
 }
 
-// The answer, flat: what the call names where it is accepted.
-fn link_told(said: u32, fate: u32, fields: FlatFields, up: TakenUp, a: Answered) -> FlatLinkAnswer
-    ensures { λ r. ⌜ r ≡ linkTold said fate fields up a ⌝ }
+// Whether the number is one of the calls', and a kind to send one of the messages'.
+fn known(q: FlatLinkCommand) -> bool
+    ensures { λ r. ⌜ r ≡ linkKnownB q ⌝ }
 {
-    let f = flat::answer_of(a);
-    let message = f.message;
-    let links = f.links;
-    if f.said == ACCEPTED {
-        link_named(said, fate, fields, up, f.made, message, links)
+    let sendable = llcfields::is_named(q.fields.kind);
+    (q.number == LINK_CHANGE) | ((q.number == LINK_MESSAGE) | ((q.number == LINK_SEND) & sendable))
+}
+
+// The call of a number that is one of the calls'.
+fn named(q: FlatLinkCommand) -> LinkCommand
+    ensures { λ r. ⌜ r ≡ linkNamedOf q ⌝ }
+{
+    let kind = llcfields::kind_of(q.fields.kind);
+    let link = q.link;
+    let number = q.number;
+    match number {
+        3 => LinkCommand::Change(link, q.up),
+        13 => LinkCommand::Message(link),
+        _ => LinkCommand::Send(link, kind),
+    }
+}
+
+// The call that is made: for an unknown number one that changes nothing.
+pub fn command_of(q: FlatLinkCommand) -> LinkCommand
+    ensures { λ r. ⌜ r ≡ linkCommandOf q ⌝ }
+{
+    if known(q) {
+        return named(q);
+    }
+    LinkCommand::Change(0, false)
+}
+
+// The values of a message to send.
+pub fn values_of(q: FlatLinkCommand) -> Values
+    ensures { λ r. ⌜ r ≡ valuesOf q ⌝ }
+{
+    let values = q.fields.values;
+    Values { values: values }
+}
+
+// What a call that is not refused names.
+fn accepted(
+    c: LinkCommand,
+    d: LinkDone,
+    count: u32,
+    made: bool,
+    message: [u8; 44],
+    links: FlatLinks,
+) -> FlatLinkAnswer
+    ensures { λ r. ⌜ r ≡ acceptedOf c d count made message links ⌝ }
+{
+    let up = d.up;
+    match c {
+        LinkCommand::Change(_, _) => link_bare(LINK_CHANGED, 0, count, made, message, links),
+        LinkCommand::Message(_) => {
+            let fate = d.fate;
+            let heard = d.fields;
+            let number = fate_number(fate);
+            let fields = flat_fields(heard);
+            link_named(LINK_HEARD, number, fields, up, count, made, message, links)
+        }
+        LinkCommand::Send(_, _) => {
+            let none = FlatFields {
+                kind: 0,
+                values: [0u64; 12],
+            };
+            link_named(LINK_SENT, 0, none, up, count, made, message, links)
+        }
+    }
+}
+
+// What a reply says in a number, and its refusal's number; 0 for none.
+fn said_number(reply: Reply) -> u32
+    ensures { λ r. ⌜ r ≡ saidNumber reply ⌝ }
+{
+    match reply {
+        Reply::Refused(_) => 1,
+        Reply::Accepted => 2,
+        Reply::Sent(_, _) => 3,
+        Reply::Read(_) => 5,
+        Reply::Torn => 6,
+        Reply::Reset => 8,
+        Reply::Heard(_, _) => 7,
+        Reply::Sampled(_) => 9,
+    }
+}
+
+fn refusal_number(reply: Reply) -> u32
+    ensures { λ r. ⌜ r ≡ refusalNumber reply ⌝ }
+{
+    match reply {
+        Reply::Refused(k) => k as u32,
+        Reply::Accepted => 0,
+        Reply::Sent(_, _) => 0,
+        Reply::Read(_) => 0,
+        Reply::Torn => 0,
+        Reply::Reset => 0,
+        Reply::Heard(_, _) => 0,
+        Reply::Sampled(_) => 0,
+    }
+}
+
+// The answer, flat: what the call names where it is accepted. A count is at most a table's length.
+fn link_told(c: LinkCommand, d: LinkDone) -> FlatLinkAnswer
+    ensures { λ r. ⌜ r ≡ linkTold c d ⌝ }
+{
+    let answer = d.answer;
+    let reply = answer.reply;
+    let message = answer.message;
+    let left = answer.links;
+    let links = flat::flat_links(left);
+    let said = said_number(reply);
+    let refusal = refusal_number(reply);
+    let count = (d.count % 4294967296) as u32;
+    if said == ACCEPTED {
+        accepted(c, d, count, answer.made, message, links)
     } else {
-        link_bare(f.said, f.refusal, f.made, message, links)
+        link_bare(said, refusal, 0, answer.made, message, links)
     }
 }
 
-pub fn link_message(links: FlatLinks, link: u8, bytes: &[u8]) -> FlatLinkAnswer
-    ensures { λ r. ⌜ LinkMade links (Call.manage (Management.linkMessage link (now (bytes .entry)))) r ⌝ }
+// What the caller is told: the answer, or that the number is unknown, with the links as they were handed in.
+pub fn told(q: FlatLinkCommand, links: FlatLinks, d: LinkDone) -> FlatLinkAnswer
+    ensures { λ r. ⌜ r ≡ linkToldOf q links d ⌝ }
 {
-    let own = flat::links_of(links);
-    let h = linkdesk::link_message(own, link, bytes);
-    let fate = h.fate;
-    let heard = h.fields;
-    let up = h.up;
-    let answer = h.answer;
-    let number = fate_number(fate);
-    let fields = flat_fields(heard);
-    link_told(LINK_HEARD, number, fields, up, answer)
-}
-
-// A kind that is none of the messages' changes nothing.
-pub fn link_send(links: FlatLinks, link: u8, fields: FlatFields) -> FlatLinkAnswer
-    ensures { λ r. ⌜ SendMade links link fields r ⌝ }
-{
-    if llcfields::is_named(fields.kind) {
-        let own = flat::links_of(links);
-        let kind = llcfields::kind_of(fields.kind);
-        let values = fields.values;
-        let s = linkdesk::link_send(own, link, kind, values);
-        let up = s.up;
-        let answer = s.answer;
-        let none = FlatFields {
-            kind: 0,
-            values: [0u64; 12],
-        };
-        return link_told(LINK_SENT, 0, none, up, answer);
+    if known(q) {
+        let c = named(q);
+        return link_told(c, d);
     }
-    link_bare(UNKNOWN, 0, false, [0u8; 44], links)
+    link_bare(UNKNOWN, 0, 0, false, [0u8; 44], links)
 }

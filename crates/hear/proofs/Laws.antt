@@ -9,10 +9,10 @@ use lib.Dec.{eqb}
 use Rattle.cursor.specs.Cursor.{gapOf}
 use Rattle.cdc.specs.declared.Message.{Message}
 use Rattle.closing.specs.declared.State.the-variants.{PeerAbortWait}
-use Rattle.closing.specs.Closing.{stateOf}
+use Rattle.closing.specs.Closing.{stateOf, abortSent}
 use Rattle.connection.specs.declared.Record.{Record}
-use Rattle.connection.specs.Connection.{zeroRecord, coherentB, refusalOf}
-use Rattle.connection.proofs.Laws.{and-left, and-right, Coherent, coherent-facts, coherent-from, refusal-0}
+use Rattle.connection.specs.Connection.{zeroRecord, coherentB, refusalOf, marksTo}
+use Rattle.connection.proofs.Laws.{and-left, and-right, Coherent, coherent-facts, coherent-from, refusal-0, marks-coherent}
 use Rattle.outcome.specs.declared.Reply.{Reply}
 use Rattle.outcome.specs.declared.Reply.the-variants.{Heard}
 use Rattle.outcome.specs.declared.Outcome.{Outcome}
@@ -20,7 +20,7 @@ use Rattle.outcome.specs.Outcome.{outcomeOf, refusedOf, closedIf}
 use Rattle.outcome.proofs.Laws.{outcome-reply, outcome-id, outcome-coherent, refused-after, closed-reply, closed-after, closed-not}
 use Rattle.heard.specs.Heard.{producerB, consumerB, heardRecord, answersB, nextB}
 use Rattle.heard.proofs.Laws.{Produces, Consumes, producer-rules, consumer-rules, hear-moved, heard-facts, heard-id}
-use Rattle.hear.specs.Hear.{abortedOf, acceptedOf, ruledOf, followedOf, hearOf}
+use Rattle.hear.specs.Hear.{abortedOf, acceptedOf, ruledOf, validatedOf, followedOf, hearOf}
 
 both-rules : (n : ℕ) (rec : Record) (m : Message) → producerB n rec (m .producer) && consumerB rec (m .consumer) ≡ true
     → Produces n rec (m .producer) × Consumes rec (m .consumer)
@@ -90,15 +90,27 @@ module _ (n : ℕ) (active : Bool) (rec : Record) (m : Message) (P : Outcome →
   pick false x y f g = g
 
   pub hear-cases : ((k : ℕ) → P (refusedOf k rec)) → P (abortedOf rec) → P (outcomeOf (Heard 0 PeerAbortWait) false rec)
+      → P (outcomeOf (Heard 0 (stateOf (rec .marks))) false rec) → P (outcomeOf (Heard 0 PeerAbortWait) true (marksTo rec (abortSent (rec .marks))))
       → (Produces n rec (m .producer) → Consumes rec (m .consumer) → P (acceptedOf n rec m)) → P (hearOf n active rec m)
-  unfolding hearOf followedOf ruledOf
-  hear-cases refused aborted waiting accepted =
+  unfolding hearOf followedOf validatedOf ruledOf
+  hear-cases refused aborted waiting agrees differs accepted =
       let ok = producerB n rec (m .producer) && consumerB rec (m .consumer) in
       let ruled = pick ok _ _ (λ e. let h = both-rules n rec m e in accepted (h .0) (h .1)) (refused 8) in
       let next = pick (nextB rec m) _ _ (λ e. ruled) (refused 16) in
-      let followed = pick (rec .marks .abort) _ _ (λ e. waiting) next in
+      let validated = pick (eqb (m .sequence) (rec .inbound .last)) _ _ (λ e. agrees) differs in
+      let told = pick (m .flags .failover) _ _ (λ e. validated) next in
+      let followed = pick (rec .marks .abort) _ _ (λ e. waiting) told in
       let answered = pick (m .flags .abort) _ _ (λ e. aborted) followed in
       pick (eqb (refusalOf n active rec false) 0) _ _ (λ e. answered) (refused (refusalOf n active rec false))
+
+-- the abort mark changes neither coherence nor who the connection is
+abort-coherent : (n : ℕ) (rec : Record) → coherentB n rec ≡ true → coherentB n (marksTo rec (abortSent (rec .marks))) ≡ true
+unfolding abortSent
+abort-coherent n rec e = marks-coherent n rec (abortSent (rec .marks)) e (coherent-facts n rec e .not-both)
+
+abort-id : (rec : Record) → marksTo rec (abortSent (rec .marks)) .id ≡ rec .id
+unfolding marksTo
+abort-id rec = refl
 
 -- hear leaves the slot closed, or its record coherent
 pub hear-coherent : (n : ℕ) (active : Bool) (rec : Record) (m : Message) → coherentB n rec ≡ true
@@ -108,6 +120,8 @@ hear-coherent n active rec m e =
     (λ k. inr (rw (refused-after k rec) e))
     (inl (aborted-shut rec))
     (inr (outcome-coherent n rec (Heard 0 PeerAbortWait) false e))
+    (inr (outcome-coherent n rec (Heard 0 (stateOf (rec .marks))) false e))
+    (inr (outcome-coherent n (marksTo rec (abortSent (rec .marks))) (Heard 0 PeerAbortWait) true (abort-coherent n rec e)))
     (accepted-coherent n rec m (coherent-facts n rec e))
 
 -- and a slot that it leaves open keeps its identity
@@ -118,15 +132,17 @@ hear-keeps-id n active rec m =
     (λ k. inr (ap (λ (w : Record). w .id) (refused-after k rec)))
     (inl (aborted-shut rec))
     (inr (outcome-id (Heard 0 PeerAbortWait) false rec))
+    (inr (outcome-id (Heard 0 (stateOf (rec .marks))) false rec))
+    (inr (outcome-id (Heard 0 PeerAbortWait) true (marksTo rec (abortSent (rec .marks))) ∙ abort-id rec))
     (λ k r. accepted-id n rec m)
 
 -- hear accepts a message without A whose cursors keep the rules, and the answer names how much further P is from T
 module _ (n : ℕ) (active : Bool) (rec : Record) (m : Message) (k : coherentB n rec ≡ true) (up : active ≡ true)
-    (a : m .flags .abort ≡ false) (b : rec .marks .abort ≡ false) (s : nextB rec m ≡ true) (p : producerB n rec (m .producer) ≡ true)
+    (a : m .flags .abort ≡ false) (b : rec .marks .abort ≡ false) (f : m .flags .failover ≡ false) (s : nextB rec m ≡ true) (p : producerB n rec (m .producer) ≡ true)
     (r : consumerB rec (m .consumer) ≡ true) where
   pub hear-accepts : hearOf n active rec m ≡ acceptedOf n rec m
   unfolding hearOf followedOf ruledOf
-  hear-accepts = simp (refusal-0 n active rec false k up refl, a, b, s, p, r)
+  hear-accepts = simp (refusal-0 n active rec false k up refl, a, b, f, s, p, r)
 
   pub hear-names :
       hearOf n active rec m .reply

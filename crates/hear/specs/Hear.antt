@@ -30,13 +30,23 @@ unfoldable pub ruledOf : ℕ → Record → Message → Outcome
 ruledOf N rec m =
     cond (producerB N rec (m .producer) && consumerB rec (m .consumer)) (acceptedOf N rec m) (refusedOf 8 rec)
 
--- if we had sent A and this has none: accepted, no change, whatever its number; otherwise the number is next, or 16, tested before 8
+-- A message with F is validated (request 2026-13): "its number equal to the last heard is accepted with no change, anything else makes an
+-- abort message and sets the abort mark"
+unfoldable pub validatedOf : Record → Message → Outcome
+validatedOf rec m =
+    cond (eqb (m .sequence) (rec .inbound .last))
+    (outcomeOf (Heard 0 (stateOf (rec .marks))) false rec)
+    (outcomeOf (Heard 0 PeerAbortWait) true (marksTo rec (abortSent (rec .marks))))
+
+-- if we had sent A and this has none: accepted, no change, whatever its number and F; with F: validated; otherwise the number is next, or
+-- 16, tested before 8
 unfoldable pub followedOf : ℕ → Record → Message → Outcome
 followedOf N rec m =
     cond (rec .marks .abort) (outcomeOf (Heard 0 PeerAbortWait) false rec)
-    (cond (nextB rec m) (ruledOf N rec m) (refusedOf 16 rec))
+    (cond (m .flags .failover) (validatedOf rec m)
+    (cond (nextB rec m) (ruledOf N rec m) (refusedOf 16 rec)))
 
--- hear gives no 7; a message with A is exempt from 16 and 8
+-- hear gives no 7; a message with A is exempt from 16 and 8, and so is one with F
 unfoldable pub hearOf : ℕ → Bool → Record → Message → Outcome
 hearOf N active rec m =
     let no = refusalOf N active rec false in

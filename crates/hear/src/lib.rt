@@ -1,6 +1,6 @@
 // Hear, as a step of one record (document 01, "Calls of a connection").
 ghost use mathlib.Core.Path.{_≡_};
-ghost use Rattle.hear.specs.Hear.{abortedOf, acceptedOf, ruledOf, followedOf, hearOf};
+ghost use Rattle.hear.specs.Hear.{abortedOf, acceptedOf, ruledOf, validatedOf, followedOf, hearOf};
 use cdc::Message;
 use closing::State;
 use connection::Record;
@@ -39,10 +39,27 @@ fn followed(n: u32, rec: Record, m: Message) -> Outcome
     if rec.marks.abort {
         return outcome::outcome_of(Reply::Heard(0, State::PeerAbortWait), false, rec);
     }
+    let failover = m.flags.failover;
+    if failover {
+        return validated(rec, m);
+    }
     if heard::is_next(rec, m) {
         return ruled(n, rec, m);
     }
     outcome::refused(16, rec)
+}
+
+// A message with F: it carries the last number heard, or an abort message is made.
+fn validated(rec: Record, m: Message) -> Outcome
+    ensures { λ r. ⌜ r ≡ validatedOf rec m ⌝ }
+{
+    if m.sequence == rec.inbound.last {
+        let state = closing::state_of(rec.marks);
+        return outcome::outcome_of(Reply::Heard(0, state), false, rec);
+    }
+    let marks = closing::abort_sent(rec.marks);
+    let next = connection::marks_to(rec, marks);
+    outcome::outcome_of(Reply::Heard(0, State::PeerAbortWait), true, next)
 }
 
 // A message whose number is next: its cursors keep the rules, or not.

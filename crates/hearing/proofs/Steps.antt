@@ -18,8 +18,8 @@ use Rattle.heard.specs.Heard.{movedBy, nextB}
 use Rattle.table.specs.Table.{sizesB}
 use Rattle.direct.specs.Direct.{writtenIn}
 use Rattle.hearing.specs.declared.Hearing.{Hearing}
-use Rattle.hearing.specs.Hearing.{refusedBefore, refusedHearing, abortHearing, waitHearing, acceptedHearing, ruledHearing, hearingOf}
-use Rattle.hearing.specs.Hearing.{toldBy, messageLeft}
+use Rattle.hearing.specs.Hearing.{refusedBefore, refusedHearing, abortHearing, keptHearing, validatedHearing, acceptedHearing}
+use Rattle.hearing.specs.Hearing.{ruledHearing, hearingOf, toldBy, messageLeft}
 
 -- what is tested before the record
 module _ (s n len count buffer : ℕ) (good : Bool) (k : ℕ) where
@@ -88,18 +88,23 @@ module _ (n : ℕ) (active : Bool) (rec : Record) (m : Message) (j : ℕ) (r : H
       hear-aborted f e = simp (e, eq-eqb j 0 z, no-is, eq-eqb no 0 q, f)
 
       module _ (f : m .flags .abort ≡ false) where
-        pub hear-waits : rec .marks .abort ≡ true → r ≡ waitHearing → r ≡ hearingOf n active rec m j
+        pub hear-waits : rec .marks .abort ≡ true → r ≡ keptHearing 5 → r ≡ hearingOf n active rec m j
         unfolding hearingOf
         hear-waits g e = simp (e, eq-eqb j 0 z, no-is, eq-eqb no 0 q, f, g)
 
-        module _ (g : rec .marks .abort ≡ false) (x : Bool) (ex : x ≡ nextB rec m) where
-          pub hear-ruled : x ≡ true → r ≡ ruledHearing n rec m → r ≡ hearingOf n active rec m j
+        module _ (g : rec .marks .abort ≡ false) where
+          pub hear-validated : m .flags .failover ≡ true → r ≡ validatedHearing rec m → r ≡ hearingOf n active rec m j
           unfolding hearingOf
-          hear-ruled h e = simp (e, eq-eqb j 0 z, no-is, eq-eqb no 0 q, f, g, ← ex, h)
+          hear-validated v e = simp (e, eq-eqb j 0 z, no-is, eq-eqb no 0 q, f, g, v)
 
-          pub hear-other : x ≡ false → r ≡ refusedHearing 16 → r ≡ hearingOf n active rec m j
-          unfolding hearingOf
-          hear-other h e = simp (e, eq-eqb j 0 z, no-is, eq-eqb no 0 q, f, g, ← ex, h)
+          module _ (v : m .flags .failover ≡ false) (x : Bool) (ex : x ≡ nextB rec m) where
+            pub hear-ruled : x ≡ true → r ≡ ruledHearing n rec m → r ≡ hearingOf n active rec m j
+            unfolding hearingOf
+            hear-ruled h e = simp (e, eq-eqb j 0 z, no-is, eq-eqb no 0 q, f, g, v, ← ex, h)
+
+            pub hear-other : x ≡ false → r ≡ refusedHearing 16 → r ≡ hearingOf n active rec m j
+            unfolding hearingOf
+            hear-other h e = simp (e, eq-eqb j 0 z, no-is, eq-eqb no 0 q, f, g, v, ← ex, h)
 
 -- the message in its buffer
 module _ (rec : Record) (t : Hearing) (b : List ℕ) where

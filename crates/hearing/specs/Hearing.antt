@@ -10,13 +10,13 @@ use Rattle.cdc.specs.declared.Decoded.{Decoded}
 use Rattle.cdc.specs.declared.Decoded.the-variants.{Good, Malformed}
 use Rattle.cdc.specs.Cdc.{encodeOf, decodeOf}
 use Rattle.closing.specs.declared.Marks.{Marks}
-use Rattle.closing.specs.Closing.{numberOf, stateOf, marksHeard}
+use Rattle.closing.specs.Closing.{numberOf, stateOf, abortSent, marksHeard}
 use Rattle.connection.specs.declared.Inbound.{Inbound}
 use Rattle.connection.specs.declared.Outbound.{Outbound}
 use Rattle.connection.specs.declared.Record.{Record}
-use Rattle.connection.specs.Connection.{zeroCursor, noPlace, placeAt, reachedB, refusalOf}
+use Rattle.connection.specs.Connection.{zeroCursor, zeroRecord, noPlace, placeAt, reachedB, refusalOf}
 use Rattle.connection.specs.Connection.{pTo, tTo, lastTo, flagsTo, urgentInTo, rTo, nextTo, urgentOutTo, inboundTo, outboundTo, marksTo}
-use Rattle.outcome.specs.Outcome.{sequenceAfter, messageOf}
+use Rattle.outcome.specs.Outcome.{sequenceAfter, toldOf, messageOf}
 use Rattle.heard.specs.Heard.{producerB, consumerB, movedBy, nextB}
 use Rattle.table.specs.Table.{sizesB}
 use Rattle.direct.specs.Direct.{writtenIn, marksLeft}
@@ -79,17 +79,32 @@ abortHearing sent =
       aborts = true;
     }
 
--- without A, where we had sent A
-abbrev pub waitHearing : Hearing
-waitHearing =
+-- without A, where nothing changes: the state's number
+abbrev pub keptHearing : ℕ → Hearing
+keptHearing state =
     record {
-      said = record { refusal = 0; made = false; state = 5; moved = 0 };
+      said = record { refusal = 0; made = false; state = state; moved = 0 };
       takes = false;
       closes = false;
       urged = false;
       passed = false;
       aborts = false;
     }
+
+-- with F and another number than the last heard
+abbrev pub breakHearing : Hearing
+breakHearing =
+    record {
+      said = record { refusal = 0; made = true; state = 5; moved = 0 };
+      takes = false;
+      closes = false;
+      urged = false;
+      passed = false;
+      aborts = true;
+    }
+
+unfoldable pub validatedHearing : Record → Message → Hearing
+validatedHearing rec m = cond (eqb (m .sequence) (rec .inbound .last)) (keptHearing (numberOf (stateOf (rec .marks)))) breakHearing
 
 -- what an accepted message does: how far P moves, the marks after it, whether it clears our urgent place, whether T is C
 abbrev pub acceptedBy : Record → Message → ℕ → Marks → Bool → Bool → Hearing
@@ -115,14 +130,16 @@ unfoldable pub ruledHearing : ℕ → Record → Message → Hearing
 ruledHearing N rec m =
     cond (producerB N rec (m .producer) && consumerB rec (m .consumer)) (acceptedHearing N rec m) (refusedHearing 8)
 
--- `j` is what was refused before, 0 for nothing; then 3, 6, and without A 16, 8
+-- `j` is what was refused before, 0 for nothing; then 3, 6, and without A and F 16, 8
 unfoldable pub hearingOf : ℕ → Bool → Record → Message → ℕ → Hearing
 hearingOf N active rec m j =
     let no = refusalOf N active rec false in
     cond (eqb j 0)
     (cond (eqb no 0)
     (cond (m .flags .abort) (abortHearing (rec .marks .abort))
-    (cond (rec .marks .abort) waitHearing (cond (nextB rec m) (ruledHearing N rec m) (refusedHearing 16))))
+    (cond (rec .marks .abort) (keptHearing 5)
+    (cond (m .flags .failover) (validatedHearing rec m)
+    (cond (nextB rec m) (ruledHearing N rec m) (refusedHearing 16)))))
     (refusedHearing no))
     (refusedHearing j)
 
@@ -148,6 +165,14 @@ unfoldable pub recordLeft : Record → Message → Hearing → Record
 recordLeft rec m t =
     marksTo (outboundTo (inboundTo rec (inboundLeft (rec .inbound) m t)) (outboundLeft (rec .outbound) m t))
     (marksHeard (rec .marks) (m .flags .done) (m .flags .closed))
+
+-- A, once its message is made
+unfoldable pub abortLeft : Record → Record
+abortLeft rec = toldOf (marksTo rec (abortSent (rec .marks)))
+
+-- that, or zeros where the slot is closed
+unfoldable pub endedOf : Record → Hearing → Record
+endedOf rec t = cond (t .closes) zeroRecord (abortLeft rec)
 
 -- what a message tells of the record: our urgent place where it was not cleared, and A
 unfoldable pub toldBy : Record → Hearing → Record

@@ -5,9 +5,9 @@ ghost use mathlib.Core.Bool.{cond};
 ghost use Rattle.closing.specs.Closing.{numberOf};
 ghost use Rattle.connection.specs.Connection.{placeAt};
 ghost use Rattle.table.specs.Table.{activeB};
-ghost use Rattle.hearing.specs.Hearing.{noHeard, parsedIn, refusedBefore, refusedHearing, abortHearing, waitHearing};
-ghost use Rattle.hearing.specs.Hearing.{acceptedHearing, ruledHearing, hearingOf, noneHearing, inboundLeft, outboundLeft};
-ghost use Rattle.hearing.specs.Hearing.{recordLeft, toldBy, messageLeft};
+ghost use Rattle.hearing.specs.Hearing.{noHeard, parsedIn, refusedBefore, refusedHearing, abortHearing, keptHearing, breakHearing};
+ghost use Rattle.hearing.specs.Hearing.{validatedHearing, acceptedHearing, ruledHearing, hearingOf, noneHearing, inboundLeft};
+ghost use Rattle.hearing.specs.Hearing.{outboundLeft, recordLeft, abortLeft, endedOf, toldBy, messageLeft};
 use cdc::Decoded;
 use cdc::Flags;
 use cdc::Message;
@@ -35,7 +35,7 @@ pub struct Parsed {
 }
 
 // What a hear does with its record: the answer; whether what the message says is put into it, or the slot closed; whether the urgent place
-// of our element is a new one, and our own cleared; whether A was heard.
+// of our element is a new one, and our own cleared; whether A is sent: a slot that is not closed then breaks, its record takes A alone.
 pub struct Hearing {
     pub said: HearAnswer,
     pub takes: bool,
@@ -145,14 +145,14 @@ fn aborted(sent: bool) -> Hearing
     }
 }
 
-// A message without A, once we have sent A: no change.
-fn waiting() -> Hearing
-    ensures { λ r. ⌜ r ≡ waitHearing ⌝ }
+// A message that changes nothing: once we have sent A, or with F and the last number heard.
+fn kept(state: u8) -> Hearing
+    ensures { λ r. ⌜ r ≡ keptHearing state ⌝ }
 {
     let said = HearAnswer {
         refusal: 0,
         made: false,
-        state: 5,
+        state: state,
         moved: 0,
     };
     Hearing {
@@ -162,6 +162,26 @@ fn waiting() -> Hearing
         urged: false,
         passed: false,
         aborts: false,
+    }
+}
+
+// A message with F and any other number: an abort message is made, and the slot stays open.
+fn broken() -> Hearing
+    ensures { λ r. ⌜ r ≡ breakHearing ⌝ }
+{
+    let said = HearAnswer {
+        refusal: 0,
+        made: true,
+        state: 5,
+        moved: 0,
+    };
+    Hearing {
+        said: said,
+        takes: false,
+        closes: false,
+        urged: false,
+        passed: false,
+        aborts: true,
     }
 }
 
@@ -177,6 +197,16 @@ fn state_number(state: State) -> u8
         State::PeerAbortWait => 5,
         State::Closed => 6,
     }
+}
+
+// A message with F: it carries the last number heard, or an abort message is made.
+fn validated(rec: Record, m: Message) -> Hearing
+    ensures { λ r. ⌜ r ≡ validatedHearing rec m ⌝ }
+{
+    if m.sequence == rec.inbound.last {
+        return kept(state_number(closing::state_of(rec.marks)));
+    }
+    broken()
 }
 
 // A message whose cursors keep the rules.
@@ -242,7 +272,11 @@ pub fn hear_record(n: u32, links: LinkStates, rec: Record, m: Message, j: u8) ->
         return aborted(rec.marks.abort);
     }
     if rec.marks.abort {
-        return waiting();
+        return kept(5);
+    }
+    let failover = m.flags.failover;
+    if failover {
+        return validated(rec, m);
     }
     if heard::is_next(rec, m) {
         return ruled(n, rec, m);
@@ -310,6 +344,33 @@ pub fn left(rec: Record, m: Message, t: Hearing) -> Record
     next.outbound = o;
     next.marks = marks;
     next
+}
+
+// The record with A, once the abort message is made.
+fn abort_left(rec: Record) -> Record
+    ensures { λ r. ⌜ r ≡ abortLeft rec ⌝ }
+{
+    let mut i = rec.inbound;
+    let c = i.consumer;
+    i.told = c;
+    let mut o = rec.outbound;
+    o.next = direct::next_left(o.next, true);
+    let marks = closing::abort_sent(rec.marks);
+    let mut next = rec;
+    next.inbound = i;
+    next.outbound = o;
+    next.marks = marks;
+    next
+}
+
+// The record of a slot that is closed, or breaks.
+pub fn ended(rec: Record, t: Hearing) -> Record
+    ensures { λ r. ⌜ r ≡ endedOf rec t ⌝ }
+{
+    if t.closes {
+        return connection::zero_record();
+    }
+    abort_left(rec)
 }
 
 // What a message tells of the record.

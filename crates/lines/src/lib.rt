@@ -1,12 +1,15 @@
 // A line of the input: a call with its numbers, a send of a head and a body, one of the seven lines that are no calls, a line of the pool,
-// one on setting up or one on link messages.
+// one on setting up or one on links.
 ghost use Prim.Native.Nat.{_-_, _≤_};
 use call_text::CallVerb;
 use connection::Record;
 use gauge::Gauge;
 use group::Command;
+use link_read::LinkCallVerb;
 use link_read::LinkLine;
 use link_read::LinkVerb;
+use link_read::Room;
+use linkdesk::LinkCommand;
 use pool_text::PoolLine;
 use pool_text::PoolVerb;
 use records::read;
@@ -40,8 +43,10 @@ pub enum Line {
     Pool(PoolLine),
     // a line on setting up
     Setup(SetupLine),
-    // a line on link messages
+    // a line that lays something of the links in
     Link(LinkLine),
+    // a call on links: how many bytes are lent beside it, and how many of buffer
+    LinkCall(LinkCommand, usize, Room),
 }
 
 pub struct Parsed {
@@ -64,6 +69,7 @@ enum Verb {
     Pool(PoolVerb),
     Setup(SetupVerb),
     Link(LinkVerb),
+    LinkCall(LinkCallVerb),
     Unknown,
 }
 
@@ -84,15 +90,21 @@ fn is(letters: &[u8; 8], count: usize, name: &[u8]) -> bool
     true
 }
 
-// The verbs on link messages.
+// The verbs on links.
 fn link_verb(letters: &[u8; 8], count: usize) -> Verb
     requires { ⌜ count ≤ 8 ⌝ }
 {
+    if is(letters, count, b"link") {
+        return Verb::LinkCall(LinkCallVerb::Change);
+    }
     if is(letters, count, b"linkmsg") {
-        return Verb::Link(LinkVerb::Message);
+        return Verb::LinkCall(LinkCallVerb::Message);
     }
     if is(letters, count, b"linksend") {
-        return Verb::Link(LinkVerb::Send);
+        return Verb::LinkCall(LinkCallVerb::Send);
+    }
+    if is(letters, count, b"links") {
+        return Verb::Link(LinkVerb::States);
     }
     if is(letters, count, b"role") {
         return Verb::Link(LinkVerb::Role);
@@ -184,9 +196,6 @@ fn management_verb(letters: &[u8; 8], count: usize) -> Verb
     }
     if is(letters, count, b"free") {
         return Verb::Call(CallVerb::Free);
-    }
-    if is(letters, count, b"link") {
-        return Verb::Call(CallVerb::Link);
     }
     if is(letters, count, b"sample") {
         return Verb::Call(CallVerb::Sample);
@@ -357,6 +366,15 @@ fn link_line(buf: &mut [u8; 65536], given: &mut [u8], c: Scan, verb: LinkVerb) -
     ended(buf, p.scan, Line::Link(line))
 }
 
+fn link_call(buf: &mut [u8; 65536], given: &mut [u8], c: Scan, verb: LinkCallVerb) -> Parsed
+    ensures { λ r. ⌜ r .scan .left ≤ c .left - 1 ⌝ }
+{
+    let p = link_read::call(buf, given, c, verb);
+    let command = p.command;
+    let room = p.room;
+    ended(buf, p.scan, Line::LinkCall(command, p.count, room))
+}
+
 fn line_of(buf: &mut [u8; 65536], given: &mut [u8], body: &mut [u8], c: Scan, verb: Verb) -> Parsed
     ensures { λ r. ⌜ r .scan .left ≤ c .left - 1 ⌝ }
 {
@@ -373,6 +391,7 @@ fn line_of(buf: &mut [u8; 65536], given: &mut [u8], body: &mut [u8], c: Scan, ve
         Verb::Pool(v) => pool_line(buf, given, c, v),
         Verb::Setup(v) => setup_line(buf, given, c, v),
         Verb::Link(v) => link_line(buf, given, c, v),
+        Verb::LinkCall(v) => link_call(buf, given, c, v),
         Verb::Unknown => ended(buf, c, Line::Bad),
     }
 }

@@ -1,30 +1,35 @@
-// The lines of the replay format on link messages (request 2026-01): what follows their first word. A message's fields are `KK:V1,V2,..`:
-// its kind, and all its values in row order. What a line names is read to the front of `given`, numbers high byte first: twelve values of
-// eight bytes; or a queue's count, and a link and 44 bytes for each place.
+// The lines of the replay format on links (requests 2026-01 and 2026-13): what follows their first word. A message's fields are
+// `KK:V1,V2,..`: its kind, and all its values in row order. What a line names is read to the front of `given`, numbers high byte first:
+// twelve values of eight bytes; or a queue's count, and a link and 44 bytes for each place.
 ghost use Prim.Native.Nat.{_≤_, _<_};
 use exchange::Exchange;
 use exchange::Role;
+use linkdesk::LinkCommand;
 use llcfields::Kind;
 use stream::input;
 use stream::input::Run;
 use stream::input::Scan;
 
-// The first word.
+// The first word of a line that lays something in.
 pub enum LinkVerb {
     Role,
-    Message,
-    Send,
+    States,
     Exchange,
     Queue,
+}
+
+// The first word of a call.
+pub enum LinkCallVerb {
+    Change,
+    Message,
+    Send,
 }
 
 pub enum LinkLine {
     // lay a role in
     Role(Role),
-    // a link, and how many bytes are lent
-    Message(u8, usize),
-    // a link, and the kind to send over it; its values were read
-    Send(u8, Kind),
+    // lay the states of links 1 to 4 in
+    States(bool, bool, bool, bool),
     // lay an exchange in
     Exchange(Exchange),
     // lay the queue in that was read
@@ -34,6 +39,32 @@ pub enum LinkLine {
 pub struct LinkParsed {
     pub scan: Scan,
     pub line: LinkLine,
+}
+
+// How many bytes of buffer a call is lent: 44 for each slot, or those that its line names.
+pub enum Room {
+    ForSlots,
+    Named(usize),
+}
+
+// `count` bytes are lent beside the call; the values of a message to send were read.
+pub struct LinkCallLine {
+    pub scan: Scan,
+    pub command: LinkCommand,
+    pub count: usize,
+    pub room: Room,
+}
+
+// Whether a link is active, and whether the next is.
+struct TwoStates {
+    scan: Scan,
+    first: bool,
+    second: bool,
+}
+
+struct RoomRead {
+    scan: Scan,
+    room: Room,
 }
 
 struct KindRead {
@@ -74,13 +105,86 @@ fn role_line(buf: &mut [u8; 65536], c: Scan) -> LinkParsed
     parsed(scan, LinkLine::Role(Role::Server))
 }
 
+// A B
+fn two_states(buf: &mut [u8; 65536], c: Scan) -> TwoStates
+    ensures { λ r. ⌜ r .scan .left ≤ c .left ⌝ }
+{
+    let first = input::number(buf, c, 1);
+    let second = input::number(buf, first.scan, 1);
+    let scan = second.scan;
+    TwoStates {
+        scan: scan,
+        first: first.value == 1,
+        second: second.value == 1,
+    }
+}
+
+// A B C D
+fn states_line(buf: &mut [u8; 65536], c: Scan) -> LinkParsed
+    ensures { λ r. ⌜ r .scan .left ≤ c .left ⌝ }
+{
+    let p = two_states(buf, c);
+    let q = two_states(buf, p.scan);
+    parsed(
+        q.scan,
+        LinkLine::States(p.first, p.second, q.first, q.second),
+    )
+}
+
+// ROOM, where the line has it.
+fn room_of(buf: &mut [u8; 65536], c: Scan) -> RoomRead
+    ensures { λ r. ⌜ r .scan .left ≤ c .left ⌝ }
+{
+    if c.byte == b' ' {
+        let room = input::number(buf, c, 65600);
+        let scan = room.scan;
+        return RoomRead {
+            scan: scan,
+            room: Room::Named(room.value as usize),
+        };
+    }
+    RoomRead {
+        scan: c,
+        room: Room::ForSlots,
+    }
+}
+
+// The end of a call's line.
+fn call_of(buf: &mut [u8; 65536], c: Scan, command: LinkCommand, count: usize) -> LinkCallLine
+    ensures { λ r. ⌜ r .scan .left ≤ c .left ⌝ }
+{
+    let p = room_of(buf, c);
+    let scan = p.scan;
+    let room = p.room;
+    LinkCallLine {
+        scan: scan,
+        command: command,
+        count: count,
+        room: room,
+    }
+}
+
+// LINK UP
+fn change_line(buf: &mut [u8; 65536], c: Scan) -> LinkCallLine
+    ensures { λ r. ⌜ r .scan .left ≤ c .left ⌝ }
+{
+    let link = input::number(buf, c, 255);
+    let up = input::number(buf, link.scan, 1);
+    call_of(
+        buf,
+        up.scan,
+        LinkCommand::Change(link.value as u8, up.value == 1),
+        0,
+    )
+}
+
 // LINK HEX
-fn message_line(buf: &mut [u8; 65536], given: &mut [u8], c: Scan) -> LinkParsed
+fn message_line(buf: &mut [u8; 65536], given: &mut [u8], c: Scan) -> LinkCallLine
     ensures { λ r. ⌜ r .scan .left ≤ c .left ⌝ }
 {
     let link = input::number(buf, c, 255);
     let b = input::bytes(buf, given, link.scan);
-    parsed(b.scan, LinkLine::Message(link.value as u8, b.count))
+    call_of(buf, b.scan, LinkCommand::Message(link.value as u8), b.count)
 }
 
 // The comma that stands before all values but the first.
@@ -182,7 +286,7 @@ fn kind_word(buf: &mut [u8; 65536], c: Scan) -> KindRead
 }
 
 // LINK FIELDS
-fn send_line(buf: &mut [u8; 65536], given: &mut [u8], c: Scan) -> LinkParsed
+fn send_line(buf: &mut [u8; 65536], given: &mut [u8], c: Scan) -> LinkCallLine
     ensures { λ r. ⌜ r .scan .left ≤ c .left ⌝ }
 {
     let d = input::number(buf, c, 255);
@@ -190,7 +294,7 @@ fn send_line(buf: &mut [u8; 65536], given: &mut [u8], c: Scan) -> LinkParsed
     let k = kind_word(buf, d.scan);
     let kind = k.kind;
     let scan = values_of(buf, given, k.scan, kind);
-    parsed(scan, LinkLine::Send(link, kind))
+    call_of(buf, scan, LinkCommand::Send(link, kind), 0)
 }
 
 // STAGE V W
@@ -266,9 +370,19 @@ pub fn parse(buf: &mut [u8; 65536], given: &mut [u8], c: Scan, verb: LinkVerb) -
 {
     match verb {
         LinkVerb::Role => role_line(buf, c),
-        LinkVerb::Message => message_line(buf, given, c),
-        LinkVerb::Send => send_line(buf, given, c),
+        LinkVerb::States => states_line(buf, c),
         LinkVerb::Exchange => exchange_line(buf, c),
         LinkVerb::Queue => queue_line(buf, given, c),
+    }
+}
+
+// The same of a call.
+pub fn call(buf: &mut [u8; 65536], given: &mut [u8], c: Scan, verb: LinkCallVerb) -> LinkCallLine
+    ensures { λ r. ⌜ r .scan .left ≤ c .left ⌝ }
+{
+    match verb {
+        LinkCallVerb::Change => change_line(buf, c),
+        LinkCallVerb::Message => message_line(buf, given, c),
+        LinkCallVerb::Send => send_line(buf, given, c),
     }
 }

@@ -1,16 +1,18 @@
--- The replay format's lines of 2026-01: which links each leaves, of the links l and the bytes read with the line. Assumes nothing.
-use Prim.Native.Nat.{ℕ, _+_, min}
+-- The replay format's lines of 2026-01 and 2026-13 that are no calls: which links each leaves, of the links l and the bytes read with the
+-- line; and what is read for a call. Assumes nothing.
+use Prim.Native.Nat.{ℕ, _+_, _*_, min}
+use mathlib.Core.Bool.{Bool}
 use mathlib.Core.List.{List, [], _∷_}
-use lib.ListN.{length, take}
 use Rattle.layout.specs.Layout.{numberAt, bytesAt}
 use Rattle.exchange.specs.declared.Role as Roles
 use Rattle.exchange.specs.declared.Waiting.{Waiting}
 use Rattle.exchange.specs.declared.Queue as Queues
 use Rattle.table.specs.declared.Links.{Links}
 use Rattle.table.specs.Table.{exchangeSet}
-use Rattle.linkcalls.specs.Calls.{heardOf, sentOf}
 use Rattle.link_read.specs.declared.LinkLine.{LinkLine}
-use Rattle.link_read.specs.declared.LinkLine.the-variants.{Role, Message, Send, Exchange, Queue}
+use Rattle.link_read.specs.declared.LinkLine.the-variants.{Role, States, Exchange, Queue}
+use Rattle.link_read.specs.declared.Room.{Room}
+use Rattle.link_read.specs.declared.Room.the-variants.{ForSlots, Named}
 
 -- twelve values of eight bytes each
 abbrev pub valuesIn : List ℕ → List ℕ
@@ -28,10 +30,19 @@ queueIn b = record { count = numberAt b 0 1; places = waitingIn b 1 ∷ waitingI
 abbrev pub roleSet : Links → Roles.Role → Links
 roleSet l r = record { active = l .active; gauges = l .gauges; role = r; exchange = l .exchange; queue = l .queue }
 
--- `role`, `exchange` and `queue` are no calls and lay in what they name; `linkmsg` and `linksend` leave what their calls do
+-- the states of links 1 to 4
+abbrev pub statesSet : Links → Bool → Bool → Bool → Bool → Links
+statesSet l a b c d =
+    record { active = a ∷ b ∷ c ∷ d ∷ []; gauges = l .gauges; role = l .role; exchange = l .exchange; queue = l .queue }
+
+-- each lays in what it names
 abbrev pub leftOf : Links → List ℕ → LinkLine → Links
 leftOf l given (Role r) = roleSet l r
-leftOf l given (Message link count) = heardOf l link (take (min count (length given)) given) .settled .after
-leftOf l given (Send link kind) = sentOf l link kind (valuesIn given) .settled .after
+leftOf l given (States a b c d) = statesSet l a b c d
 leftOf l given (Exchange x) = exchangeSet l x (l .queue)
 leftOf l given Queue = exchangeSet l (l .exchange) (queueIn given)
+
+-- the buffer of a call: ROOM bytes, or 44 a slot of at most 300
+abbrev pub roomOf : ℕ → Room → ℕ
+roomOf s ForSlots = 44 * min s 300
+roomOf s (Named n) = n

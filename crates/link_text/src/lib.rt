@@ -1,22 +1,23 @@
-// The lines of the replay format on link messages (request 2026-01): the call, what is printed of it, and the last lines of `table`. What
-// follows a line's first word is read by `link_read`.
+// The lines of the replay format on links (requests 2026-01 and 2026-13): what is laid in, what is printed of a call, and the last lines of
+// `table`. What follows a line's first word is read by `link_read`, a call on the rows of a table made by `link_rows`.
 ghost use mathlib.Core.Path.{_≡_};
 ghost use Prim.Native.Nat.{_≤_, min};
 ghost use Rattle.layout.specs.Layout.{numberAt};
+ghost use lib.ListN.{length};
 ghost use Rattle.table.specs.Table.{exchangeSet};
-ghost use Rattle.linkcalls.specs.Calls.{heardOf, sentOf};
-ghost use Rattle.link_text.specs.LinkText.{valuesIn, waitingIn, queueIn, roleSet, leftOf};
+ghost use Rattle.link_text.specs.LinkText.{valuesIn, waitingIn, queueIn, roleSet, statesSet, leftOf, roomOf};
 use exchange::Exchange;
 use exchange::Fate;
 use exchange::Queue;
 use exchange::Role;
 use exchange::Waiting;
 use link_read::LinkLine;
+use link_read::Room;
 use linkcalls::Fields;
 use linkcalls::TakenUp;
-use linkdesk::LinkHeard;
-use linkdesk::LinkSent;
-use llcfields::Kind;
+use linkdesk::LinkCommand;
+use linkdesk::LinkDone;
+use linkdesk::Values;
 use outcome::Reply;
 use stream::output;
 use table::Answered;
@@ -26,12 +27,6 @@ use table::Links;
 pub struct LinkAnswered {
     pub links: Links,
     pub at: usize,
-}
-
-fn least(a: usize, b: usize) -> usize
-    ensures { λ r. ⌜ (r ≡ min a b) × (r ≤ b) ⌝ }
-{
-    if a < b { a } else { b }
 }
 
 // The value after the first, where a kind has n.
@@ -90,12 +85,12 @@ fn fate(o: &mut [u8; 65536], at: usize, f: Fate) -> usize
     }
 }
 
-// The message taken up, if one was, and the line's end.
+// The message taken up, if one was.
 fn then(o: &mut [u8; 65536], at: usize, up: TakenUp) -> usize
     ensures { λ r. ⌜ r ≤ 65536 ⌝ }
 {
     if !up.some {
-        return output::byte(o, at, b'\n');
+        return output::text(o, at, b"");
     }
     let f = up.fields;
     let t = up.fate;
@@ -103,8 +98,7 @@ fn then(o: &mut [u8; 65536], at: usize, up: TakenUp) -> usize
     let b = output::field(o, a, up.link as u64);
     let c = output::byte(o, b, b' ');
     let d = fields(o, c, f);
-    let e = fate(o, d, t);
-    output::byte(o, e, b'\n')
+    fate(o, d, t)
 }
 
 // The message's bytes, or `-`.
@@ -119,56 +113,123 @@ fn message(o: &mut [u8; 65536], at: usize, said: Answered) -> usize
     }
 }
 
-fn refused(o: &mut [u8; 65536], at: usize, k: u8) -> usize
+// How many bytes are left of a buffer without the A5 bytes at its end.
+fn shown(out: &[u8]) -> usize
+    ensures { λ r. ⌜ r ≤ length (now (out .entry)) ⌝ }
+{
+    let mut k = out.len();
+    while 0 < k {
+        if out[k - 1] != 165 {
+            return k;
+        }
+        k -= 1;
+    }
+    k
+}
+
+// The buffer, and the line's end.
+fn with_out(o: &mut [u8; 65536], at: usize, out: &[u8]) -> usize
+    ensures { λ r. ⌜ r ≤ 65536 ⌝ }
+{
+    let k = shown(out);
+    let a = output::text(o, at, b" out ");
+    let b = output::hex(o, a, &out[0..k]);
+    output::byte(o, b, b'\n')
+}
+
+fn refused(o: &mut [u8; 65536], at: usize, k: u8, out: &[u8]) -> usize
     ensures { λ r. ⌜ r ≤ 65536 ⌝ }
 {
     let a = output::text(o, at, b"refused");
     let b = output::field(o, a, k as u64);
-    output::byte(o, b, b'\n')
+    with_out(o, b, out)
 }
 
-fn heard(o: &mut [u8; 65536], at: usize, h: LinkHeard) -> usize
+fn heard(o: &mut [u8; 65536], at: usize, d: LinkDone) -> usize
     ensures { λ r. ⌜ r ≤ 65536 ⌝ }
 {
-    let said = h.answer;
-    let reply = said.reply;
-    let f = h.fields;
-    let t = h.fate;
-    let up = h.up;
-    match reply {
-        Reply::Refused(k) => refused(o, at, k),
-        _ => {
-            let a = output::text(o, at, b"linkmsg ");
-            let b = fields(o, a, f);
-            let c = fate(o, b, t);
-            let d = output::text(o, c, b" reply ");
-            let e = message(o, d, said);
-            then(o, e, up)
-        }
+    let said = d.answer;
+    let f = d.fields;
+    let t = d.fate;
+    let up = d.up;
+    let a = output::text(o, at, b"linkmsg ");
+    let b = fields(o, a, f);
+    let c = fate(o, b, t);
+    let e = output::text(o, c, b" reply ");
+    let g = message(o, e, said);
+    then(o, g, up)
+}
+
+fn sent(o: &mut [u8; 65536], at: usize, d: LinkDone) -> usize
+    ensures { λ r. ⌜ r ≤ 65536 ⌝ }
+{
+    let said = d.answer;
+    let up = d.up;
+    let a = output::text(o, at, b"linksend ");
+    let b = message(o, a, said);
+    then(o, b, up)
+}
+
+// What a call's line names before the count.
+fn named(o: &mut [u8; 65536], at: usize, command: LinkCommand, d: LinkDone) -> usize
+    ensures { λ r. ⌜ r ≤ 65536 ⌝ }
+{
+    match command {
+        LinkCommand::Change(_, _) => output::text(o, at, b"link"),
+        LinkCommand::Message(_) => heard(o, at, d),
+        LinkCommand::Send(_, _) => sent(o, at, d),
     }
 }
 
-fn sent(o: &mut [u8; 65536], at: usize, s: LinkSent) -> usize
+fn accepted(o: &mut [u8; 65536], at: usize, command: LinkCommand, d: LinkDone, out: &[u8]) -> usize
     ensures { λ r. ⌜ r ≤ 65536 ⌝ }
 {
-    let said = s.answer;
+    let a = named(o, at, command, d);
+    let b = output::text(o, a, b" count");
+    let c = output::field(o, b, d.count as u64);
+    with_out(o, c, out)
+}
+
+// What is printed of a call, with the buffer as it left it.
+pub fn answer(
+    o: &mut [u8; 65536],
+    at: usize,
+    command: LinkCommand,
+    d: LinkDone,
+    out: &[u8],
+) -> usize
+    ensures { λ r. ⌜ r ≤ 65536 ⌝ }
+{
+    let said = d.answer;
     let reply = said.reply;
-    let up = s.up;
     match reply {
-        Reply::Refused(k) => refused(o, at, k),
-        _ => {
-            let a = output::text(o, at, b"linksend ");
-            let b = message(o, a, said);
-            then(o, b, up)
-        }
+        Reply::Refused(k) => refused(o, at, k, out),
+        _ => accepted(o, at, command, d, out),
+    }
+}
+
+// How many slots a replayed table has at most.
+fn slots(s: u32) -> usize
+    ensures { λ r. ⌜ (r ≡ min s 300) × (r ≤ 300) ⌝ }
+{
+    if s < 300 { s as usize } else { 300 }
+}
+
+// How many bytes of buffer a call is lent.
+pub fn room_of(s: u32, room: Room) -> usize
+    ensures { λ r. ⌜ r ≡ roomOf s room ⌝ }
+{
+    match room {
+        Room::ForSlots => 44 * slots(s),
+        Room::Named(n) => n,
     }
 }
 
 // The values that were read.
-fn values_in(b: &[u8]) -> [u64; 12]
-    ensures { λ r. ⌜ r ≡ valuesIn (now (b .entry)) ⌝ }
+pub fn values_in(b: &[u8]) -> Values
+    ensures { λ r. ⌜ r .values ≡ valuesIn (now (b .entry)) ⌝ }
 {
-    [
+    let values = [
         layout::number(b, 0, 8),
         layout::number(b, 8, 8),
         layout::number(b, 16, 8),
@@ -181,7 +242,8 @@ fn values_in(b: &[u8]) -> [u64; 12]
         layout::number(b, 72, 8),
         layout::number(b, 80, 8),
         layout::number(b, 88, 8),
-    ]
+    ];
+    Values { values: values }
 }
 
 fn u8_at(b: &[u8], at: usize) -> u8
@@ -234,6 +296,14 @@ fn with_role(links: Links, role: Role) -> Links
     }
 }
 
+fn with_states(links: Links, a: bool, b: bool, c: bool, d: bool) -> Links
+    ensures { λ r. ⌜ r ≡ statesSet links a b c d ⌝ }
+{
+    let mut next = links;
+    next.active = [a, b, c, d];
+    next
+}
+
 fn with_exchange(links: Links, x: Exchange, q: Queue) -> Links
     ensures { λ r. ⌜ r ≡ exchangeSet links x q ⌝ }
 {
@@ -279,41 +349,26 @@ fn lay_queue(o: &mut [u8; 65536], at: usize, links: Links, given: &[u8]) -> Link
     }
 }
 
-fn hear(o: &mut [u8; 65536], at: usize, links: Links, link: u8, bytes: &[u8]) -> LinkAnswered
-    ensures { λ r. ⌜ (r .at ≤ 65536) × (r .links ≡ heardOf links link (now (bytes .entry)) .settled .after) ⌝ }
-{
-    let h = linkdesk::link_message(links, link, bytes);
-    let to = heard(o, at, h);
-    let said = h.answer;
-    let left = said.links;
-    LinkAnswered {
-        links: left,
-        at: to,
-    }
-}
-
-fn send(
+fn lay_states(
     o: &mut [u8; 65536],
     at: usize,
     links: Links,
-    link: u8,
-    kind: Kind,
-    given: &[u8],
+    a: bool,
+    b: bool,
+    c: bool,
+    d: bool,
 ) -> LinkAnswered
-    ensures { λ r. ⌜ (r .at ≤ 65536) × (r .links ≡ sentOf links link kind (valuesIn (now (given .entry))) .settled .after) ⌝ }
+    ensures { λ r. ⌜ (r .at ≤ 65536) × (r .links ≡ statesSet links a b c d) ⌝ }
 {
-    let vs = values_in(given);
-    let s = linkdesk::link_send(links, link, kind, vs);
-    let to = sent(o, at, s);
-    let said = s.answer;
-    let left = said.links;
+    let to = output::text(o, at, b"links\n");
+    let left = with_states(links, a, b, c, d);
     LinkAnswered {
         links: left,
         at: to,
     }
 }
 
-// Makes the line's call, and prints its answer.
+// Lays in what the line names, and prints its word.
 pub fn act(
     o: &mut [u8; 65536],
     at: usize,
@@ -325,11 +380,7 @@ pub fn act(
 {
     match line {
         LinkLine::Role(role) => lay_role(o, at, links, role),
-        LinkLine::Message(link, count) => {
-            let n = least(count, given.len());
-            hear(o, at, links, link, &given[0..n])
-        }
-        LinkLine::Send(link, kind) => send(o, at, links, link, kind, given),
+        LinkLine::States(a, b, c, d) => lay_states(o, at, links, a, b, c, d),
         LinkLine::Exchange(x) => lay_exchange(o, at, links, x),
         LinkLine::Queue => lay_queue(o, at, links, given),
     }

@@ -99,7 +99,7 @@ fn either_settled(b: bool, x: Settled, y: Settled) -> Settled
     if b { x } else { y }
 }
 
-fn no_fields() -> Fields
+pub fn no_fields() -> Fields
     ensures { λ r. ⌜ r ≡ noFields ⌝ }
 {
     Fields {
@@ -161,7 +161,7 @@ fn up_taken(g: Links, m: Said) -> bool
     !client & (!m.reply & ((m.kind == 2) | ((m.kind == 4) & (!m.a & active))))
 }
 
-fn none_up() -> TakenUp
+pub fn none_up() -> TakenUp
     ensures { λ r. ⌜ r ≡ noneUp ⌝ }
 {
     let f = no_fields();

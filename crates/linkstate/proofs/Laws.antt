@@ -11,10 +11,8 @@ use Rattle.gauge.specs.Gauge.{mostMs, sampledOf, healthOf}
 use Rattle.table.specs.declared.Links.{Links}
 use Rattle.table.specs.declared.Answered.{Answered}
 use Rattle.table.specs.Table.{linkIn, activeB, gaugeAt, gaugeSet, refusedBy}
-use Rattle.linkcalls.specs.declared.Settled.{Settled}
-use Rattle.linkcalls.specs.Calls.{changedOf}
-use Rattle.rules.specs.Rules.{Group, Call, Management, Done, Did, answerOf, does, plain, healthy, refuses, linksOf, withLinks, linkDoes, sampleRefusal, sampleDoes}
-use Rattle.linkstate.specs.Linkstate.{answeredBy, healthBy}
+use Rattle.rules.specs.Rules.{Group, Call, Management, Done, Did, answerOf, does, healthy, refuses, linksOf, withLinks, sampleRefusal, sampleDoes}
+use Rattle.linkstate.specs.Linkstate.{healthBy}
 
 -- THE LINKS
 module _ (ls : Links) (g : Group) (e : linksOf g ≡ ls) where
@@ -40,21 +38,6 @@ module _ (ls : Links) (g : Group) (e : linksOf g ≡ ls) where
       }
 
   module _ (l : ℕ) where
-    pub change-did : (up : Bool) (u : Settled) (r : Answered) → linkIn l ≡ true → u ≡ changedOf ls l up → r ≡ answeredBy (u .after)
-        → DidIt (Call.manage (Management.linkChange l up)) r
-    unfolding linkDoes answeredBy
-    change-did up u r h q p =
-        links-left (Call.manage (Management.linkChange l up)) (answeredBy (u .after)) r
-        ((simp h)
-        ∙ ap (λ (x : Settled). record { answer = plain; group = withLinks g (x .after) })
-        (sym (q ∙ ap (λ (x : Links). changedOf x l up) (sym e))))
-        p
-
-    pub change-refused : (up : Bool) (r : Answered) → linkIn l ≡ false → r ≡ refusedBy 13 ls
-        → DidIt (Call.manage (Management.linkChange l up)) r
-    unfolding linkDoes
-    change-refused up r h p = links-refused (Call.manage (Management.linkChange l up)) 13 r (simp h) p
-
     -- SAMPLE, by the number of its refusal
     module _ (ms j : ℕ) (f : j ≡ sampleRefusal (ls .active) l ms) (r : Answered) where
       abbrev sampling : Call

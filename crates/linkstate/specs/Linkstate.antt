@@ -1,14 +1,10 @@
--- What link change and sample answer. Assumes nothing.
+-- What a sample answers. Assumes nothing.
 use mathlib.Core.Bool.{false}
 use Rattle.gauge.specs.declared.Health.{Health}
-use Rattle.outcome.specs.declared.Reply.the-variants.{Accepted, Sampled}
+use Rattle.outcome.specs.declared.Reply.the-variants.{Sampled}
 use Rattle.outcome.specs.Outcome.{noMessage}
 use Rattle.table.specs.declared.Links.{Links}
 use Rattle.table.specs.declared.Answered.{Answered}
-
--- an accepted call's answer
-unfoldable pub answeredBy : Links → Answered
-answeredBy links = record { reply = Accepted; made = false; message = noMessage; links = links }
 
 -- a sample's answer: the health
 unfoldable pub healthBy : Health → Links → Answered

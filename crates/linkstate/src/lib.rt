@@ -1,37 +1,13 @@
-// Link change and sample (document 01, "Desk calls"; request 2026-10): they see the links with their gauges and exchange alone.
+// Sample (request 2026-10): it sees the links with their gauges alone.
 ghost use mathlib.Core.Path.{_≡_};
 ghost use Rattle.rules.specs.Rules as Rules;
 ghost use Rattle.rules.specs.Rules.{Call, sampleRefusal};
 ghost use Rattle.rules.specs.Promises.{DidLinks};
-ghost use Rattle.linkstate.specs.Linkstate.{answeredBy, healthBy};
+ghost use Rattle.linkstate.specs.Linkstate.{healthBy};
 use gauge::Health;
 use outcome::Reply;
 use table::Answered;
 use table::Links;
-
-// An accepted call's answer.
-fn answered(links: Links) -> Answered
-    ensures { λ r. ⌜ r ≡ answeredBy links ⌝ }
-{
-    Answered {
-        reply: Reply::Accepted,
-        made: false,
-        message: [0u8; 44],
-        links: links,
-    }
-}
-
-pub fn link_change(links: Links, link: u8, up: bool) -> Answered
-    ensures { λ r. ⌜ DidLinks links (Call.manage (Rules.Management.linkChange link up)) r ⌝ }
-{
-    if table::link_ok(link) {
-        let done = linkcalls::change(links, link, up);
-        let after = done.after;
-        answered(after)
-    } else {
-        table::refuse(13, links)
-    }
-}
 
 // The refusal that sample gives: 13, 6, 17; 0 for none.
 fn sample_refusal(links: Links, link: u8, ms: u32) -> u8

@@ -8,19 +8,16 @@ use Rattle.management.specs.declared.Management.the-variants as Calls
 abbrev pub managementOf : Management → Rules.Management
 managementOf (Calls.Open k given) = Rules.Management.openSlot k given
 managementOf (Calls.Free k) = Rules.Management.freeSlot k
-managementOf (Calls.LinkChange l up) = Rules.Management.linkChange l up
 managementOf (Calls.Sample l ms) = Rules.Management.sample l ms
 
 -- the own token that an open looks for; 0 for none
 abbrev pub tokenOf : Management → ℕ
 tokenOf (Calls.Open k given) = given .own
 tokenOf (Calls.Free k) = 0
-tokenOf (Calls.LinkChange l up) = 0
 tokenOf (Calls.Sample l ms) = 0
 
 -- the slot whose record it may change; 0 for none
 abbrev pub slotOf : Management → ℕ
 slotOf (Calls.Open k given) = k
 slotOf (Calls.Free k) = k
-slotOf (Calls.LinkChange l up) = 0
 slotOf (Calls.Sample l ms) = 0

@@ -16,8 +16,6 @@ pub enum Management {
     Open(u32, Opening),
     // a slot
     Free(u32),
-    // a link, and whether it is active now
-    LinkChange(u8, bool),
     // a link, and an answer time in milliseconds
     Sample(u8, u32),
 }
@@ -29,7 +27,6 @@ pub fn token_of(call: Management) -> u32
     match call {
         Management::Open(_, given) => given.own,
         Management::Free(_) => 0,
-        Management::LinkChange(_, _) => 0,
         Management::Sample(_, _) => 0,
     }
 }
@@ -41,7 +38,6 @@ pub fn slot_of(call: Management) -> u32
     match call {
         Management::Open(slot, _) => slot,
         Management::Free(slot) => slot,
-        Management::LinkChange(_, _) => 0,
         Management::Sample(_, _) => 0,
     }
 }
@@ -74,10 +70,6 @@ pub fn manage(
             given,
         ),
         Management::Free(slot) => opening::free(s, n, mem, count, links, slot, rec),
-        Management::LinkChange(link, up) => table::kept(
-            rec,
-            linkstate::link_change(links, link, up),
-        ),
         Management::Sample(link, ms) => table::kept(rec, linkstate::sample(links, link, ms)),
     }
 }

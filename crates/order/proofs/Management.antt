@@ -18,10 +18,14 @@ use Rattle.element.proofs.Others.{fresh-length}
 use Rattle.connection.specs.Connection.{zeroRecord}
 use Rattle.connection.specs.declared.Opening.{Opening}
 use Rattle.table.specs.declared.Links.{Links}
-use Rattle.table.specs.Table.{slotB, openB, linkIn, activeB, findFrom, gaugeAt, gaugeSet}
+use Rattle.connection.specs.declared.Record.{Record}
+use Rattle.failover.specs.declared.Plan.{Plan}
+use Rattle.failover.specs.Failover.{planOf, movedOf, movedAll}
+use Rattle.failover.proofs.Keeps.{ButLink, moved-keeps, moved-long, moved-at}
+use Rattle.table.specs.Table.{sizesB, slotB, recordAt, openB, linkIn, activeB, findFrom, gaugeAt, gaugeSet}
 use Rattle.linkcalls.specs.Calls.{changedOf, heardOf, sentOf}
 use Rattle.connection.specs.Connection.{openedRecord}
-use Rattle.rules.specs.Rules.{Group, manage, Management, openSlot, freeSlot, linkChange, linkMessage, linkSend, sample, Answer, Turn, next, plain, healthy, refuses, sizesOk, recordOf, elementIn, putTurn, plainTurn, badOpening, linksOf, withLinks, openRefusal, openDoes, freeRefusal, freeDoes, linkDoes, linkMessageDoes, linkSendDoes, sampleRefusal, sampleDoes}
+use Rattle.rules.specs.Rules.{Group, manage, Management, openSlot, freeSlot, linkChange, linkMessage, linkSend, sample, Says, Answer, Turn, next, plain, healthy, refuses, sizesOk, recordOf, elementIn, putTurn, plainTurn, badOpening, linksOf, withLinks, openRefusal, openDoes, freeRefusal, freeDoes, linkRefusal, failsOver, linkDoes, linkMessageDoes, linkSendDoes, sampleRefusal, sampleDoes}
 use Rattle.order.proofs.Slots.{slot-in, open-in, open-is, open-found, element-long, Sizes, sizes-in, Put, put}
 use Rattle.order.proofs.Acts.{OpenAt, ownOf}
 use Rattle.order.proofs.Near.{Good, enough}
@@ -127,28 +131,49 @@ free-good g k good = go (eqb (freeRefusal g k) 0) refl
 links-good : (g : Group) (ls : Links) → Good g → Good (withLinks g ls)
 links-good g ls good = record { sizes = good .sizes; apart = good .apart }
 
-link-good : (g : Group) (l : ℕ) (up : Bool) → Good g → Good ((linkDoes g l up) .group)
-unfolding linkDoes refuses
-link-good g l up good = go (linkIn l)
+-- connections that moved are open and have their own tokens as before
+failover-good : (g : Group) (ls : Links) (b : List ℕ) (says : ℕ → Says) (made : Bool) (message : List ℕ) → Good g
+    → Good (failsOver g ls b says made message .group)
+unfolding failsOver
+failover-good g ls b says made message good =
+    record {
+      sizes = ap (λ (k : ℕ). sizesB (g .S) (g .N) (length (g .memory)) k) (moved-long (g .N) p (g .table)) ∙ good .sizes;
+      apart = λ i j x y e. good .apart i j (old i x) (old j y) (sym (own i) ∙ e ∙ own j);
+    }
   where
-    go : (t : Bool) → Good ((cond t (record { answer = plain; group = withLinks g (changedOf (linksOf g) l up .after) }) (refuses g 13 [])) .group)
-    go true = links-good g (changedOf (linksOf g) l up .after) good
-    go false = good
+    p : Plan
+    p = planOf (g .links) (ls .active)
 
--- a call that acts on the links alone, or is refused
-either-good : (g : Group) (a : Answer) (ls : Links) (k : ℕ) (t : Bool) → Good g
-    → Good ((cond t (record { answer = a; group = withLinks g ls }) (refuses g k [])) .group)
+    kept : (i : ℕ) → ButLink (recordOf g (suc i)) (movedOf (g .N) p (recordOf g (suc i)))
+    kept i = moved-keeps (g .N) p (recordOf g (suc i))
+
+    own : (i : ℕ) → recordAt (movedAll (g .N) p (g .table)) (suc i) .id .own ≡ ownOf g (suc i)
+    own i = ap (λ (c : Record). c .id .own) (moved-at (g .N) p (g .table) (suc i)) ∙ kept i .own
+
+    old : (i : ℕ) → openB (g .S) (movedAll (g .N) p (g .table)) (suc i) ≡ true → OpenAt g (suc i)
+    old i x =
+        let w = open-in (g .S) (movedAll (g .N) p (g .table)) (suc i) x in
+        open-is (g .S) (g .table) (suc i) (w .slot)
+        (sym (ap (λ (c : Record). c .id .opened) (moved-at (g .N) p (g .table) (suc i)) ∙ kept i .opened) ∙ w .is-open)
+
+-- a call on the links, or a refused one
+either-good : (g : Group) (ls : Links) (b : List ℕ) (says : ℕ → Says) (made : Bool) (message : List ℕ) (k : ℕ) (t : Bool) → Good g
+    → Good ((cond t (failsOver g ls b says made message) (refuses g k b)) .group)
 unfolding refuses
-either-good g a ls k true good = links-good g ls good
-either-good g a ls k false good = good
+either-good g ls b says made message k true good = failover-good g ls b says made message good
+either-good g ls b says made message k false good = good
 
-message-good : (g : Group) (l : ℕ) (b : List ℕ) → Good g → Good ((linkMessageDoes g l b) .group)
+link-good : (g : Group) (l : ℕ) (up : Bool) (b : List ℕ) → Good g → Good ((linkDoes g l up b) .group)
+unfolding linkDoes
+link-good g l up b good = either-good g _ b _ _ _ _ (eqb (linkRefusal g b (cond (linkIn l) 0 13)) 0) good
+
+message-good : (g : Group) (l : ℕ) (bytes b : List ℕ) → Good g → Good ((linkMessageDoes g l bytes b) .group)
 unfolding linkMessageDoes
-message-good g l b good = either-good g _ _ _ (eqb (heardOf (linksOf g) l b .refusal) 0) good
+message-good g l bytes b good = either-good g _ b _ _ _ _ (eqb (linkRefusal g b (heardOf (linksOf g) l bytes .refusal)) 0) good
 
-send-good : (g : Group) (l : ℕ) (k : Kind) (vs : List ℕ) → Good g → Good ((linkSendDoes g l k vs) .group)
+send-good : (g : Group) (l : ℕ) (k : Kind) (vs b : List ℕ) → Good g → Good ((linkSendDoes g l k vs b) .group)
 unfolding linkSendDoes
-send-good g l k vs good = either-good g _ _ _ (eqb (sentOf (linksOf g) l k vs .refusal) 0) good
+send-good g l k vs b good = either-good g _ b _ _ _ _ (eqb (linkRefusal g b (sentOf (linksOf g) l k vs .refusal)) 0) good
 
 sample-good : (g : Group) (l ms : ℕ) → Good g → Good ((sampleDoes g l ms) .group)
 unfolding sampleDoes refuses
@@ -165,7 +190,7 @@ sample-good g l ms good = go (eqb (sampleRefusal (g .links) l ms) 0)
 pub manage-good : (g : Group) (d : Management) → Good g → Good (next g (manage d))
 manage-good g (openSlot k o) good = open-good g k o good
 manage-good g (freeSlot k) good = free-good g k good
-manage-good g (linkChange l up) good = link-good g l up good
-manage-good g (linkMessage l b) good = message-good g l b good
-manage-good g (linkSend l k vs) good = send-good g l k vs good
+manage-good g (linkChange l up b) good = link-good g l up b good
+manage-good g (linkMessage l bytes b) good = message-good g l bytes b good
+manage-good g (linkSend l k vs b) good = send-good g l k vs b good
 manage-good g (sample l ms) good = sample-good g l ms good

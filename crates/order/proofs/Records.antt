@@ -25,7 +25,7 @@ use Rattle.outcome.specs.Outcome.{effectOf, refusedOf, outcomeOf, urgentOutcome
 use Rattle.transmit.specs.Transmit.{sendOf, sentOf, urgentOf, urgentSendOf}
 use Rattle.produced.specs.Produced.{producedOf, urgedOf}
 use Rattle.receive.specs.Receive.{placeOf, mayPlace, placeForbids, readOf, takeOf, tornOf, consumedOf}
-use Rattle.hear.specs.Hear.{ruledOf, hearOf, abortedOf, followedOf, acceptedOf}
+use Rattle.hear.specs.Hear.{ruledOf, hearOf, abortedOf, followedOf, validatedOf, acceptedOf}
 use Rattle.heard.specs.Heard.{heardRecord}
 use Rattle.finish.specs.Finish.{resetOf, closingOf, shutdownOf, closeOf, abortOf}
 use Rattle.rules.specs.Rules.{Request, send, gather, urgent, place, read, shutdown, close, abort, Call, on, hear, manage, Turn, turnOf, requestTurn, hearTurn, placedIn}
@@ -77,7 +77,7 @@ module _ (c : Record) where
   read-keeps n a t k = search (by-test, refused, outcome) depth 9
 
   hear-keeps : (n : ℕ) (a : Bool) (m : Message) → Keeps c (hearOf n a c m)
-  unfolding hearOf abortedOf followedOf ruledOf acceptedOf heardRecord marksTo
+  unfolding hearOf abortedOf followedOf validatedOf ruledOf acceptedOf heardRecord marksTo
   hear-keeps n a m = search (by-test, refused, outcome, shut) depth 9
 
   shutdown-keeps : (n : ℕ) (a : Bool) → Keeps c (shutdownOf n a c)

@@ -24,7 +24,9 @@ use Rattle.table.specs.Table.{sizesB, slotB, recordAt, openB, activeB, gaugeAt,
 use Rattle.linkcalls.specs.Calls.{touched, settledOf, changeTouch, changedOf}
 use Rattle.connection.specs.declared.Opening.{Opening}
 use Rattle.connection.specs.Connection.{openedRecord}
-use Rattle.rules.specs.Rules.{Group, send, gather, openSlot, linkChange, Call, on, manage, Says, accepted, sent, Answer, turnOf, requestTurn, refuses, putTurn, onDoes, openRefusal, openDoes, linkDoes, next, Fresh}
+use Rattle.rules.specs.Rules.{Group, send, gather, openSlot, linkChange, Call, on, manage, Says, accepted, sent, Answer, turnOf, requestTurn, refuses, putTurn, onDoes, openRefusal, openDoes, linkRefusal, failsOver, linkDoes, linkChanged, next, Fresh}
+use Rattle.failover.specs.Failover as Failover
+use Rattle.failover.specs.Failover.{planOf, targetOf, goneB, movesB, tellsB, movedAll, messagesOf, countOf, bufferLeft}
 use Rattle.order.specs.Statement.{answers, leaves, At, Whose, the-manager, connection, ownerOf, whoseFrom, whose, AnotherOrder, Made, none-made, one-made, SameOutcome}
 use Rattle.order.proofs.Theorem.{sentence3}
 
@@ -169,7 +171,7 @@ given own peer =
     }
 
 abbrev opening : List Call
-opening = manage (linkChange 1 true) ∷ manage (openSlot 1 (given 11 21)) ∷ manage (openSlot 2 (given 12 22)) ∷ []
+opening = manage (linkChange 1 true (replicate 88 0)) ∷ manage (openSlot 1 (given 11 21)) ∷ manage (openSlot 2 (given 12 22)) ∷ []
 
 abbrev one : Call
 one = on 1 (send (5 ∷ 6 ∷ []))
@@ -186,7 +188,7 @@ secondly = opening ++ two ∷ one ∷ []
 
 -- whose each call is, by the groups as the spans begin
 pub owners-are : whose aGroup firstly ≡ the-manager ∷ the-manager ∷ the-manager ∷ connection 1 ∷ connection 2 ∷ []
-unfolding whoseFrom ownerOf inRange movedOf stepOf turnsOf distanceOf goodB gapOf highByte lowByte encodeOf roomOf takenOf firstOf stretchesOf part elementOf splice freshElement zeroRecord fitsB remoteOk numbersOk offsetsOk distancesOk placeOk placesOk coherentB refusalOf messageOf toldIn usedIn toldOf outcomeOf refusedOf sendForbids nOf rtokenOf placingOf producedOut producedOf tellsOf sentOf waitsB sendOf sizesB slotB recordAt openB activeB holdsB lowest findFrom withRecord withLink linkSet touched changeTouch settledOf changedOf endsB emptyQueue turnOf requestTurn refuses putTurn onDoes openedRecord openRefusal openDoes linkDoes
+unfolding whoseFrom ownerOf inRange movedOf stepOf turnsOf distanceOf goodB gapOf highByte lowByte encodeOf roomOf takenOf firstOf stretchesOf part elementOf splice freshElement zeroRecord fitsB remoteOk numbersOk offsetsOk distancesOk placeOk placesOk coherentB refusalOf messageOf toldIn usedIn toldOf outcomeOf refusedOf sendForbids nOf rtokenOf placingOf producedOut producedOf tellsOf sentOf waitsB sendOf sizesB slotB recordAt openB activeB holdsB lowest findFrom withRecord withLink linkSet touched changeTouch settledOf changedOf endsB emptyQueue turnOf requestTurn refuses putTurn onDoes openedRecord openRefusal openDoes linkRefusal failsOver linkDoes planOf targetOf goneB movesB tellsB Failover.movedOf Failover.toldOf movedAll messagesOf countOf bufferLeft
 owners-are = refl
 
 pub sends-swapped : AnotherOrder aGroup firstly secondly
@@ -200,12 +202,12 @@ sends-swapped =
 abbrev sends : ℕ → Says
 sends n = sent n (record { key = 0; address = 4; start = 0; len = n } ∷ [])
 
-pub said-first : map (λ (a : Answer). a .says) (answers aGroup firstly) ≡ accepted ∷ accepted ∷ accepted ∷ sends 2 ∷ sends 3 ∷ []
-unfolding answers inRange movedOf stepOf turnsOf distanceOf goodB gapOf highByte lowByte encodeOf roomOf takenOf firstOf stretchesOf part elementOf splice freshElement zeroRecord fitsB remoteOk numbersOk offsetsOk distancesOk placeOk placesOk coherentB refusalOf messageOf toldIn usedIn toldOf outcomeOf refusedOf sendForbids nOf rtokenOf placingOf producedOut producedOf tellsOf sentOf waitsB sendOf sizesB slotB recordAt openB activeB holdsB lowest findFrom withRecord withLink linkSet touched changeTouch settledOf changedOf endsB emptyQueue turnOf requestTurn refuses putTurn onDoes openedRecord openRefusal openDoes linkDoes
+pub said-first : map (λ (a : Answer). a .says) (answers aGroup firstly) ≡ linkChanged 0 ∷ accepted ∷ accepted ∷ sends 2 ∷ sends 3 ∷ []
+unfolding answers inRange movedOf stepOf turnsOf distanceOf goodB gapOf highByte lowByte encodeOf roomOf takenOf firstOf stretchesOf part elementOf splice freshElement zeroRecord fitsB remoteOk numbersOk offsetsOk distancesOk placeOk placesOk coherentB refusalOf messageOf toldIn usedIn toldOf outcomeOf refusedOf sendForbids nOf rtokenOf placingOf producedOut producedOf tellsOf sentOf waitsB sendOf sizesB slotB recordAt openB activeB holdsB lowest findFrom withRecord withLink linkSet touched changeTouch settledOf changedOf endsB emptyQueue turnOf requestTurn refuses putTurn onDoes openedRecord openRefusal openDoes linkRefusal failsOver linkDoes planOf targetOf goneB movesB tellsB Failover.movedOf Failover.toldOf movedAll messagesOf countOf bufferLeft
 said-first = refl
 
-pub said-second : map (λ (a : Answer). a .says) (answers aGroup secondly) ≡ accepted ∷ accepted ∷ accepted ∷ sends 3 ∷ sends 2 ∷ []
-unfolding answers inRange movedOf stepOf turnsOf distanceOf goodB gapOf highByte lowByte encodeOf roomOf takenOf firstOf stretchesOf part elementOf splice freshElement zeroRecord fitsB remoteOk numbersOk offsetsOk distancesOk placeOk placesOk coherentB refusalOf messageOf toldIn usedIn toldOf outcomeOf refusedOf sendForbids nOf rtokenOf placingOf producedOut producedOf tellsOf sentOf waitsB sendOf sizesB slotB recordAt openB activeB holdsB lowest findFrom withRecord withLink linkSet touched changeTouch settledOf changedOf endsB emptyQueue turnOf requestTurn refuses putTurn onDoes openedRecord openRefusal openDoes linkDoes
+pub said-second : map (λ (a : Answer). a .says) (answers aGroup secondly) ≡ linkChanged 0 ∷ accepted ∷ accepted ∷ sends 3 ∷ sends 2 ∷ []
+unfolding answers inRange movedOf stepOf turnsOf distanceOf goodB gapOf highByte lowByte encodeOf roomOf takenOf firstOf stretchesOf part elementOf splice freshElement zeroRecord fitsB remoteOk numbersOk offsetsOk distancesOk placeOk placesOk coherentB refusalOf messageOf toldIn usedIn toldOf outcomeOf refusedOf sendForbids nOf rtokenOf placingOf producedOut producedOf tellsOf sentOf waitsB sendOf sizesB slotB recordAt openB activeB holdsB lowest findFrom withRecord withLink linkSet touched changeTouch settledOf changedOf endsB emptyQueue turnOf requestTurn refuses putTurn onDoes openedRecord openRefusal openDoes linkRefusal failsOver linkDoes planOf targetOf goneB movesB tellsB Failover.movedOf Failover.toldOf movedAll messagesOf countOf bufferLeft
 said-second = refl
 
 -- sentence 3, of these two lists

@@ -26,7 +26,9 @@ use Rattle.positions.specs.Positions.{movedIn, Journal, opened, afterCal
 use Rattle.positions.proofs.Inbound.{Steps}
 use Rattle.safety.proofs.Sound.{kept-sizes, sound-next, sound-fresh}
 use Rattle.positions.proofs.Journals.{Keeps, turn-keeps}
-use Rattle.positions.proofs.Noted.{HeardWith, now, Noted, SlotTurn, slot-turn, saidAfter, aside, turns, begins, closes, strays}
+use Rattle.positions.proofs.Places.{norm}
+use Rattle.failover.proofs.Keeps.{ButLink}
+use Rattle.positions.proofs.Noted.{HeardWith, now, Noted, SlotTurn, slot-turn, saidAfter, aside, moves, turns, begins, closes, strays}
 use Rattle.order.specs.Statement.{leaves, answers}
 
 -- the bytes of a message heard are below 256
@@ -72,6 +74,24 @@ began B n given e =
       past = λ y v l w. clash (cc);
     }
 
+-- another link changes nothing of it
+but-link : (B : Type 0) {n : ℕ} {c d : Record} {e : List ℕ} {j : Journal} → ButLink c d → Keeps B n c e j → Keeps B n d e j
+but-link B b k =
+    record {
+      own-is = b .own ∙ k .own-is;
+      P-at = ap (λ x. norm (x .producer)) (b .inbound) ∙ k .P-at;
+      P-bits = λ x. rw (b .inbound) (k .P-bits x);
+      C-at = ap (λ x. x .consumer) (b .inbound) ∙ k .C-at;
+      T-at = ap (λ x. x .told) (b .inbound) ∙ k .T-at;
+      told-handed = k .told-handed;
+      handed-announced = k .handed-announced;
+      announced-most = k .announced-most;
+      as-handed = k .as-handed;
+      young = k .young;
+      here = k .here;
+      past = k .past;
+    }
+
 -- ONE CALL ON
 module _ (B : Type 0) (g : Group) (i : ℕ) (j : Journal) where
   abbrev pub KeepsAt : Type 0
@@ -90,6 +110,11 @@ module _ (B : Type 0) (g : Group) (s : Sound g) (c : Call) (i : ℕ) (j : Journa
   was-open o e =
       let w = open-in (next g c .S) (next g c .table) (suc i) o in
       open-is (g .S) (g .table) (suc i) (rw (kept-sizes g s c .0) at (w .slot)) (ap (λ (r : Record). r .id .opened) (sym e) ∙ w .is-open)
+
+  pub was-open-by : OpenAt (next g c) (suc i) → recordOf (next g c) (suc i) .id .opened ≡ recordOf g (suc i) .id .opened → OpenAt g (suc i)
+  was-open-by o e =
+      let w = open-in (next g c .S) (next g c .table) (suc i) o in
+      open-is (g .S) (g .table) (suc i) (rw (kept-sizes g s c .0) at (w .slot)) (sym e ∙ w .is-open)
 
   pub slot-turned : SlotTurn g c i j
   slot-turned = slot-turn g s c i j (λ o. k o .own-is)
@@ -134,6 +159,7 @@ module _ (B : Type 0) (g : Group) (s : Sound g) (c : Call) (i : ℕ) (j : Journa
 
       go : SlotTurn g c i j → KeepsAt B (next g c) i (afterCall (g .N - 4) (suc i) j c (answer g c))
       go (aside r e w) = settled j w (subst₂ (λ x f. Keeps B (g .N) x f j) (sym r) (sym e) (k (was-open now r)))
+      go (moves b e w) = settled j w (subst (λ f. Keeps B (g .N) (recordOf (next g c) (suc i)) f j) (sym e) (but-link B b (k (was-open-by now (b .opened)))))
       go (turns o n) = here n o
       go (begins given z p a r w) =
           settled (opened (given .own)) w (subst (λ x. Keeps B (g .N) x (elementIn (next g c) (suc i)) (opened (given .own))) (sym r) (began B (g .N) given _))

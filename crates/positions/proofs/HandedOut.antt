@@ -48,7 +48,7 @@ unread-by-hear g b = go (does g (hear b)) refl (effect g (hear b))
 
     go : (x : Done) → does g (hear b) ≡ x → Effect g (hear b) x → readIn (x .answer .says) ≡ 0
     go x q (refuses-it n h e) = ap (λ (d : Done). readIn (d .answer .says)) e
-    go x q (links-it i p w e) = clash (cc)
+    go x q (links-it i b p w e) = clash (cc)
     go x q (samples-it l ms p z e) = clash (cc)
     go x q (puts-turn l t ok a e) = ap (λ (d : Done). readIn (d .answer .says)) e ∙ by l t a
 
@@ -71,7 +71,7 @@ reads-by-read g k q = go (does g (on k q)) (effect g (on k q))
 
     go : (x : Done) → Effect g (on k q) x → Reads (x .answer .says)
     go x (refuses-it n h e) = inl (ap (λ (d : Done). readIn (d .answer .says)) e)
-    go x (links-it i p w e) = clash (cc)
+    go x (links-it i b p w e) = clash (cc)
     go x (samples-it l ms p z e) = clash (cc)
     go x (puts-turn l t ok a e) = rw e (by l t a)
 
@@ -135,9 +135,9 @@ module _ (g : Group) (s : Sound g) (k : ℕ) (d : ℕ) (j : Journal) where
       go true false h a = same (λ o. false≢true (sym a ∙ ap acceptedB (o .took))) refl refl
       go false u h a = same (λ o. let e = o .is in eqb-false l k h (cc)) refl refl
   grows (manage (freeSlot l)) = same (λ o. let e = o .is in clash (cc)) refl refl
-  grows (manage (linkChange l up)) = same (λ o. let e = o .is in clash (cc)) refl refl
-  grows (manage (linkMessage l b)) = same (λ o. let e = o .is in clash (cc)) refl refl
-  grows (manage (linkSend l i vs)) = same (λ o. let e = o .is in clash (cc)) refl refl
+  grows (manage (linkChange l up b)) = same (λ o. let e = o .is in clash (cc)) refl refl
+  grows (manage (linkMessage l bytes b)) = same (λ o. let e = o .is in clash (cc)) refl refl
+  grows (manage (linkSend l i vs b)) = same (λ o. let e = o .is in clash (cc)) refl refl
   grows (manage (sample l ms)) = same (λ o. let e = o .is in clash (cc)) refl refl
 
 -- ALL CALLS. What is said after the calls cs, from j on

@@ -7,6 +7,7 @@ use mathlib.Core.List.{List, _++_}
 use Prim.Native.Nat.{ℕ, _-_}
 use Rattle.cursor.specs.Cursor.{gapOf, stepOf}
 use Rattle.cdc.specs.declared.Message.{Message}
+use Rattle.closing.specs.Closing.{stateOf, abortSent}
 use Rattle.connection.specs.declared.Record.{Record}
 use Rattle.outcome.specs.declared.Reply.{Reply}
 use Rattle.outcome.specs.declared.Reply.the-variants.{Heard, Read}
@@ -16,14 +17,14 @@ use Rattle.outcome.specs.Outcome.{refusedOf, outcomeOf, urgentOutcome, toldOf, 
 use Rattle.transmit.specs.Transmit.{sendOf, sentOf, urgentOf, urgentSendOf}
 use Rattle.produced.specs.Produced.{producedOf, urgedOf}
 use Rattle.receive.specs.Receive.{placeOf, readOf, takeOf, tornOf, consumedOf, consumedIn, clearedIn, unreadOf}
-use Rattle.hear.specs.Hear.{ruledOf, hearOf, abortedOf, followedOf, acceptedOf}
+use Rattle.hear.specs.Hear.{ruledOf, hearOf, abortedOf, followedOf, validatedOf, acceptedOf}
 use Rattle.heard.specs.Heard.{heardRecord, heardIn}
 use Rattle.hear.proofs.Laws.{aborted-shut, repliedTo, hear-cases, accepted-is}
 use Rattle.heard.proofs.Laws.{Produces}
 use Rattle.finish.specs.Finish.{resetOf, closingOf, shutdownOf, closeOf, abortOf}
 use Rattle.outcome.specs.declared.Placing.{Placing}
 use Rattle.pieces.specs.Pieces.{Piece, piecesOf}
-use Rattle.rules.specs.Rules.{Says, saysOf, refusal, accepted, Request, read, turnOf, requestTurn, send, gather, urgent, place, shutdown, close, abort, hearTurn, heard, torn, reset, sampled, linkHeard, linkSent, sent, gathered, wasRead, Turn}
+use Rattle.rules.specs.Rules.{Says, saysOf, refusal, accepted, Request, read, turnOf, requestTurn, send, gather, urgent, place, shutdown, close, abort, hearTurn, heard, torn, reset, sampled, linkChanged, linkHeard, linkSent, sent, gathered, wasRead, Turn}
 use Rattle.flow.specs.Flow.{takenOf}
 use Rattle.connection.specs.declared.Inbound.{Inbound}
 use Rattle.closing.specs.declared.State.the-variants.{PeerAbortWait}
@@ -135,9 +136,12 @@ module _ (n : ℕ) (c : Record) (New : Cursor → Type 0) where
 
     -- hear replaces P by what keeps the rules
     heard-goes : (m : Message) → New (m .producer) → Goes n c New (hearOf n a c m)
+    unfolding marksTo
     heard-goes m w =
         hear-cases n a c m (Goes n c New) refused (record { steps = inl (aborted-shut c) })
         (outcome (Heard 0 PeerAbortWait) false c (quiet _ c refl refl refl))
+        (outcome (Heard 0 (stateOf (c .marks))) false c (quiet _ c refl refl refl))
+        (outcome (Heard 0 PeerAbortWait) true (marksTo c (abortSent (c .marks))) (quiet _ (marksTo c (abortSent (c .marks))) refl refl refl))
         (λ p r. rw (accepted-is n c m) (shut _ _ (outcome (repliedTo n c m) _ (heardRecord n c m) (heard-steps m w p))))
 
 module _ (n : ℕ) (a : Bool) (c : Record) (e : List ℕ) where
@@ -218,7 +222,7 @@ module _ (n : ℕ) (a : Bool) (c : Record) where
   abort-unread = search (either, refuses, replies) depth 9
 
   hear-unread : (m : Message) → Unread (hearOf n a c m)
-  unfolding hearOf abortedOf followedOf ruledOf acceptedOf
+  unfolding hearOf abortedOf followedOf validatedOf ruledOf acceptedOf
   hear-unread m = search (either, refuses, replies, closes) depth 9
 
   -- a request that names a number read is a read
@@ -235,8 +239,9 @@ module _ (n : ℕ) (a : Bool) (c : Record) where
   reader q out p (heard moved state) = inl refl
   reader q out p reset = inl refl
   reader q out p (sampled h) = inl refl
-  reader q out p (linkHeard f t u) = inl refl
-  reader q out p (linkSent u) = inl refl
+  reader q out p (linkChanged n) = inl refl
+  reader q out p (linkHeard f t u n) = inl refl
+  reader q out p (linkSent u n) = inl refl
 
   pub request-reader : (e : List ℕ) (q : Request) → Reader q (requestTurn n a c e q .answer .says)
   unfolding requestTurn turnOf

@@ -20,6 +20,9 @@ use Rattle.safety.specs.Statement.{acceptedB, OpenAt, ownOf}
 use Rattle.safety.proofs.Invariant.{Sound, sizes}
 use Rattle.safety.proofs.Effects.{opens, open-facts, Acts, asks, hears, frees, Effect, refuses-it, links-it, samples-it, puts-turn, effect}
 use Rattle.linktheorems.specs.Statements.{Call as LinkCall}
+use Rattle.element.specs.Element.{elementOf}
+use Rattle.failover.proofs.Keeps.{ButLink, moved-keeps}
+use Rattle.safety.proofs.Failing.{only-the-link}
 use Rattle.safety.specs.Links.{callOf}
 use Rattle.cursor.specs.declared.Cursor.{Cursor}
 use Rattle.cdc.specs.declared.Message.{Message}
@@ -53,11 +56,11 @@ module _ (d : ℕ) (j : Journal) where
   either false x e = refl
 
   -- a call on the links says nothing of a slot
-  after-links : (k : ℕ) (c : LinkCall) (a : Answer) → afterCall d k j (callOf c) a ≡ j
+  after-links : (k : ℕ) (c : LinkCall) (b : List ℕ) (a : Answer) → afterCall d k j (callOf c b) a ≡ j
   unfolding afterCall
-  after-links k (LinkCall.change l up) a = refl
-  after-links k (LinkCall.message l b) a = refl
-  after-links k (LinkCall.send l i vs) a = refl
+  after-links k (LinkCall.change l up) b a = refl
+  after-links k (LinkCall.message l bytes) b a = refl
+  after-links k (LinkCall.send l i vs) b a = refl
 
   pub after-refused : (k : ℕ) (c : Call) (n : ℕ) (out : List ℕ)
       → afterCall d k j c (record { says = refusal n; made = false; message = noMessage; out = out }) ≡ j
@@ -66,9 +69,9 @@ module _ (d : ℕ) (j : Journal) where
   after-refused k (hear b) n out = either (namesB (j .own) (decodeOf b)) _ (noted-refused nothing n out)
   after-refused k (manage (openSlot i given)) n out = ap (λ t. cond t (opened (given .own)) j) (and-false (eqb i k))
   after-refused k (manage (freeSlot i)) n out = refl
-  after-refused k (manage (linkChange l up)) n out = refl
-  after-refused k (manage (linkMessage l b)) n out = refl
-  after-refused k (manage (linkSend l i vs)) n out = refl
+  after-refused k (manage (linkChange l up b)) n out = refl
+  after-refused k (manage (linkMessage l bytes b)) n out = refl
+  after-refused k (manage (linkSend l i vs b)) n out = refl
   after-refused k (manage (sample l ms)) n out = refl
 
 -- WHAT A REQUEST STORES
@@ -139,6 +142,8 @@ module _ (g : Group) (c : Call) (i : ℕ) (j : Journal) where
 
   pub data SlotTurn : Type 0 where
     aside : now ≡ was → nowIn ≡ wasIn → saidAfter ≡ j → SlotTurn
+    -- its link may be another (request 2026-13)
+    moves : ButLink was now → nowIn ≡ wasIn → saidAfter ≡ j → SlotTurn
     turns : OpenAt g (suc i) → Noted → SlotTurn
     begins : (given : Given.Opening) → recordOf g (suc i) .id .opened ≡ false → c ≡ manage (openSlot (suc i) given)
         → answer g c .says ≡ accepted → now ≡ openedRecord given → saidAfter ≡ opened (given .own) → SlotTurn
@@ -318,10 +323,12 @@ module _ (g : Group) (s : Sound g) (c : Call) (i : ℕ) (j : Journal) (own-is : 
       go x q (refuses-it n h e) =
           aside (ap (λ (d : Done). recordOf (d .group) (suc i)) (q ∙ e)) (ap (λ (d : Done). elementIn (d .group) (suc i)) (q ∙ e))
           (said-by (refuses g n (lentOut c)) (q ∙ e) ∙ after-refused (g .N - 4) j (suc i) c n (lentOut c))
-      go x q (links-it k p a e) =
-          aside (ap (λ (d : Done). recordOf (d .group) (suc i)) q ∙ ap (λ (h : Group). recordOf h (suc i)) e)
-          (ap (λ (d : Done). elementIn (d .group) (suc i)) q ∙ ap (λ (h : Group). elementIn h (suc i)) e)
-          (ap (λ z. afterCall (g .N - 4) (suc i) j z (answer g c)) p ∙ after-links (g .N - 4) j (suc i) k (answer g c))
+      go x q (links-it k b p a e) =
+          let o = only-the-link g k b in
+          let r = ap (λ (z : Call). recordOf (next g z) (suc i)) p ∙ o .each (suc i) in
+          moves (subst (ButLink (recordOf g (suc i))) (sym r) (moved-keeps (g .N) _ (recordOf g (suc i))))
+          (ap (λ (z : Call). elementIn (next g z) (suc i)) p ∙ (λ x. elementOf (o .same-N x) (suc i) (o .same-memory x)))
+          (ap (λ z. afterCall (g .N - 4) (suc i) j z (answer g c)) p ∙ after-links (g .N - 4) j (suc i) k b (answer g c))
       go x q (samples-it l ms p y e) =
           aside (ap (λ (d : Done). recordOf (d .group) (suc i)) (q ∙ e)) (ap (λ (d : Done). elementIn (d .group) (suc i)) (q ∙ e))
           (ap (λ z. afterCall (g .N - 4) (suc i) j z (answer g c)) p)

@@ -19,10 +19,10 @@ use Rattle.cursor.specs.Cursor.{cursorAt, dataOf}
 use Rattle.positions.specs.Positions.{offsetOf, Journal, opened, journal, AreBytes, OfEachSlot, lapOf, cursorP, byteAt, Follows, CursorsFollow, HandsOut, byteOut, EachPositionOnce, afterCall, readIn, journalFrom, ReadAsAnnounced, Stay, AnnouncedStay, StoredAhead, NotOld, NoOldLap}
 use Rattle.positions.proofs.Places.{norm}
 use Rattle.safety.proofs.Sound.{kept-sizes, sound-fresh, sound-leaves, leaves-sizes, sound-next}
-use Rattle.positions.proofs.Noted.{SlotTurn, aside, turns, begins, closes, strays, HeardWith, Noted}
+use Rattle.positions.proofs.Noted.{SlotTurn, aside, moves, turns, begins, closes, strays, HeardWith, Noted}
 use Rattle.positions.proofs.Journals.{stays-byte, handed-byte, placed-ahead}
 use Rattle.positions.proofs.HandedOut.{Unopened, HandsFrom, some-from, order-from, byte-from, grows, saidBy, stays-by}
-use Rattle.positions.proofs.Followed.{KeepsAt, Following, long, slot-turned, fresh-follows, not-closed, was-open, call-follows, list-follows}
+use Rattle.positions.proofs.Followed.{KeepsAt, Following, long, slot-turned, fresh-follows, not-closed, was-open, was-open-by, call-follows, list-follows}
 use Rattle.connection.specs.declared.Record.{Record}
 use Rattle.connection.specs.Connection.{zeroRecord}
 use Rattle.safety.proofs.Calls.{Opening}
@@ -122,6 +122,7 @@ module _ (B : Type 0) (g : Group) (s : Sound g) (i : ℕ) (j : Journal) (k : Fol
     where
       go : SlotTurn g c i j → getD (elementIn (next g c) (suc i)) (offsetOf (g .N - 4) y) 0 ≡ byteAt g (suc i) y
       go (aside r e w) = ap (λ x. getD x (offsetOf (g .N - 4) y) 0) e
+      go (moves b e w) = ap (λ x. getD x (offsetOf (g .N - 4) y) 0) e
       go (turns p n) =
           stays-byte B (g .N) (sizes g s .least) (recordOf g (suc i)) (elementIn g (suc i)) (long B g s c i j k o) (s .coherent i o) j (k o)
           (elementIn (next g c) (suc i)) (n .bytes) (n .said .says) (n .storing) y l m
@@ -143,6 +144,11 @@ module _ (g : Group) (s : Sound g) (i : ℕ) (j : Journal) (k : Following ⊥ g 
   still-open o e =
       let w = open-in (g .S) (g .table) (suc i) o in
       open-is (next g c .S) (next g c .table) (suc i) (rw (kept-sizes g s c .0) (w .slot)) (ap (λ r. r .opened) e ∙ w .is-open)
+
+  still-open-by : OpenAt g (suc i) → recordOf (next g c) (suc i) .id .opened ≡ recordOf g (suc i) .id .opened → OpenAt (next g c) (suc i)
+  still-open-by o e =
+      let w = open-in (g .S) (g .table) (suc i) o in
+      open-is (next g c .S) (next g c .table) (suc i) (rw (kept-sizes g s c .0) (w .slot)) (e ∙ w .is-open)
 
   not-zero : recordOf (next g c) (suc i) ≡ zeroRecord → OpenAt (next g c) (suc i) → ⊥
   unfolding zeroRecord
@@ -183,6 +189,9 @@ module _ (g : Group) (s : Sound g) (i : ℕ) (j : Journal) (k : Following ⊥ g 
   from-waits o h m b (aside r e w) =
       waits (still-open o (ap (λ (x : Record). x .id) r)) (rw w h) (rw w m)
       (stay ⊥ g s i j k o c y (omega (arith, k o .told-handed)) m ∙ b)
+  from-waits o h m b (moves u e w) =
+      waits (still-open-by o (u .opened)) (rw w h) (rw w m)
+      (stay ⊥ g s i j k o c y (omega (arith, k o .told-handed)) m ∙ b)
   from-waits o h m b (turns x n) = from-turn o h m b n
   from-waits o h m b (begins given z p a r w) = not-opened given p a
   from-waits o h m b (closes r e w) = is-gone (not-zero r) (rw w h)
@@ -195,6 +204,7 @@ module _ (g : Group) (s : Sound g) (i : ℕ) (j : Journal) (k : Following ⊥ g 
   from-gone : (OpenAt g (suc i) → ⊥) → j .handed ≤ y → SlotTurn g c i j → Fate (next g c) i l y v
   unfolding l
   from-gone x h (aside r e w) = is-gone (λ o. x (was-open ⊥ g s c i j k o r)) (rw w h)
+  from-gone x h (moves b e w) = is-gone (λ o. x (was-open-by ⊥ g s c i j k o (b .opened))) (rw w h)
   from-gone x h (turns o n) = absurd (x o)
   from-gone x h (begins given z p a r w) = not-opened given p a
   from-gone x h (closes r e w) = is-gone (not-zero r) (rw w h)

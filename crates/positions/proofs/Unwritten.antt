@@ -15,16 +15,18 @@ use Rattle.table.specs.Table.{slotB, openB, activeB, gaugeAt, findFrom, withLin
 use Rattle.connection.specs.Connection.{openedRecord}
 use Rattle.exchange.specs.Exchange.{emptyQueue, endsB}
 use Rattle.linkcalls.specs.Calls.{touched, settledOf, changeTouch, changedOf}
-use Rattle.rules.specs.Rules.{turnOf, requestTurn, putTurn, hearTurn, onDoes, hearAt, hearDoes, openRefusal, openDoes, linkDoes}
+use Rattle.failover.specs.Failover as Failover
+use Rattle.failover.specs.Failover.{planOf, targetOf, goneB, movesB, tellsB, movedAll, messagesOf, countOf, bufferLeft}
+use Rattle.rules.specs.Rules.{turnOf, requestTurn, putTurn, hearTurn, onDoes, hearAt, hearDoes, openRefusal, openDoes, linkDoes, linkRefusal, failsOver}
 use Rattle.closing.specs.Closing.{marksHeard}
 use Rattle.receive.specs.Receive.{placeOf, readOf, takeOf, consumedOf, consumedIn, clearedIn, unreadOf, mayPlace, placeForbids, readForbids, updateOf}
-use Rattle.hear.specs.Hear.{ruledOf, hearOf, followedOf, acceptedOf}
+use Rattle.hear.specs.Hear.{ruledOf, hearOf, followedOf, validatedOf, acceptedOf}
 use Rattle.heard.specs.Heard.{nextB, producerB, consumerB, heardRecord, urgesB, urgentIn, heardIn, heardOut, answersB}
 use Rattle.cdc.specs.Cdc.{decodeOf, fieldsOf, num2, cursorOf, encodeOf, num4, highByte, lowByte, flagsOf}
 use Rattle.flow.specs.Flow.{takenOf, windowOf, updateDue}
 
 pub peer-announced-unwritten : PeerAnnouncedUnwritten
-unfolding sizesB slotB recordAt openB activeB gaugeAt zeroRecord journalFrom answers afterCall onDoes hearDoes hearAt putTurn linkDoes openDoes openRefusal openedRecord findFrom lowest holdsB withRecord withLink linkSet touched settledOf changeTouch changedOf endsB emptyQueue splice part elementOf freshElement requestTurn hearTurn turnOf placeOf readOf takeOf consumedOf consumedIn clearedIn updateOf updateDue windowOf unreadOf takenOf gapOf distanceOf turnsOf stepOf movedOf inRange goodB coherentB fitsB remoteOk numbersOk offsetsOk distancesOk placeOk placesOk reachedB passedBy refusalOf placeForbids readForbids mayPlace allFree intactB outcomeOf toldOf toldIn usedIn hearOf followedOf acceptedOf producerB consumerB heardRecord urgesB urgentIn heardIn heardOut answersB sameB closedIf marksHeard marksTo ruledOf nextB encodeOf highByte lowByte cursorAt decodeOf fieldsOf cursorOf num2 num4 flagsOf ringFrom unread
+unfolding sizesB slotB recordAt openB activeB gaugeAt zeroRecord journalFrom answers afterCall onDoes hearDoes hearAt putTurn linkRefusal failsOver linkDoes planOf targetOf goneB movesB tellsB Failover.movedOf Failover.toldOf movedAll messagesOf countOf bufferLeft openDoes openRefusal openedRecord findFrom lowest holdsB withRecord withLink linkSet touched settledOf changeTouch changedOf endsB emptyQueue splice part elementOf freshElement requestTurn hearTurn turnOf placeOf readOf takeOf consumedOf consumedIn clearedIn updateOf updateDue windowOf unreadOf takenOf gapOf distanceOf turnsOf stepOf movedOf inRange goodB coherentB fitsB remoteOk numbersOk offsetsOk distancesOk placeOk placesOk reachedB passedBy refusalOf placeForbids readForbids mayPlace allFree intactB outcomeOf toldOf toldIn usedIn hearOf followedOf validatedOf acceptedOf producerB consumerB heardRecord urgesB urgentIn heardIn heardOut answersB sameB closedIf marksHeard marksTo ruledOf nextB encodeOf highByte lowByte cursorAt decodeOf fieldsOf cursorOf num2 num4 flagsOf ringFrom unread
 peer-announced-unwritten = (
   record { sizes = refl; closed = shut; down = off; unheard = empty; idle = refl; none = refl; zeros = refl },
   record { handed-8 = refl; announced-8 = refl; first-again = refl; placed-once = refl; not-again = refl },

@@ -23,7 +23,7 @@ use Rattle.exchange.specs.declared.Role.the-variants.{Client}
 use Rattle.exchange.specs.Exchange.{noExchange, emptyQueue}
 use Rattle.rules.specs.Rules.{Group, Request, send, gather, urgent, place, read, shutdown, close, abort, openSlot, freeSlot, linkChange}
 use Rattle.rules.specs.Rules.{linkMessage, linkSend, sample, Call, on, hear, manage, Says, refusal, accepted, sent, gathered, wasRead}
-use Rattle.rules.specs.Rules.{torn, reset, heard, sampled, linkHeard, linkSent, Answer, answer, next, recordOf, elementIn, Fresh}
+use Rattle.rules.specs.Rules.{torn, reset, heard, sampled, linkChanged, linkHeard, linkSent, Answer, answer, next, recordOf, elementIn, Fresh}
 use Rattle.order.specs.Statement.{leaves, answers, At}
 use Rattle.safety.specs.Statement.{OpenAt, acceptedB, Opens}
 
@@ -60,8 +60,9 @@ movedIn torn = 0
 movedIn (heard moved state) = moved
 movedIn reset = 0
 movedIn (sampled q) = 0
-movedIn (linkHeard f t u) = 0
-movedIn (linkSent u) = 0
+movedIn (linkChanged n) = 0
+movedIn (linkHeard f t u n) = 0
+movedIn (linkSent u n) = 0
 
 abbrev pub readIn : Says → ℕ
 readIn (refusal k) = 0
@@ -73,8 +74,9 @@ readIn torn = 0
 readIn (heard moved state) = 0
 readIn reset = 0
 readIn (sampled q) = 0
-readIn (linkHeard f t u) = 0
-readIn (linkSent u) = 0
+readIn (linkChanged n) = 0
+readIn (linkHeard f t u n) = 0
+readIn (linkSent u n) = 0
 
 -- the bytes that a call places, and their offset; of other calls, none
 pub record Placed : Type 0 where
@@ -127,9 +129,9 @@ afterCall d k j (on i q) a = cond (eqb i k) (noted d j (placed q) a) j
 afterCall d k j (hear b) a = cond (namesB (j .own) (decodeOf b)) (noted d j nothing a) j
 afterCall d k j (manage (openSlot i given)) a = cond (eqb i k && acceptedB (a .says)) (opened (given .own)) j
 afterCall d k j (manage (freeSlot i)) a = j
-afterCall d k j (manage (linkChange l up)) a = j
-afterCall d k j (manage (linkMessage l b)) a = j
-afterCall d k j (manage (linkSend l i vs)) a = j
+afterCall d k j (manage (linkChange l up b)) a = j
+afterCall d k j (manage (linkMessage l bytes b)) a = j
+afterCall d k j (manage (linkSend l i vs b)) a = j
 afterCall d k j (manage (sample l ms)) a = j
 
 unfoldable pub journalFrom : ℕ → ℕ → Journal → List Call → List Answer → Journal
@@ -269,7 +271,7 @@ firstOfEight = record { size = 8; index = 1; link1 = zeroToken; link2 = zeroToke
 
 abbrev pub unplaced : List Call
 unplaced =
-    manage (linkChange 1 true)
+    manage (linkChange 1 true (replicate 44 0))
     ∷ manage (openSlot 1 (record { own = 1; peer = 1; link = 1; remote = firstOfEight }))
     ∷ on 1 (place 4 (11 ∷ 12 ∷ 13 ∷ 14 ∷ []))
     ∷ announces 1 4

@@ -12,7 +12,7 @@ use Rattle.connection.specs.Connection.{coherentB, refusalOf}
 use Rattle.outcome.specs.Outcome.{refusedOf, outcomeOf, urgentOutcome, closedIf}
 use Rattle.transmit.specs.Transmit.{sendOf, sentOf, urgentOf, urgentSendOf}
 use Rattle.receive.specs.Receive.{placeOf, readOf, takeOf}
-use Rattle.hear.specs.Hear.{ruledOf, hearOf, abortedOf, followedOf, acceptedOf}
+use Rattle.hear.specs.Hear.{ruledOf, hearOf, abortedOf, followedOf, validatedOf, acceptedOf}
 use Rattle.finish.specs.Finish.{resetOf, closingOf, shutdownOf, closeOf, abortOf}
 use Rattle.rules.specs.Rules.{refusal, torn, saysOf}
 
@@ -112,7 +112,7 @@ module _ (n : ℕ) (active : Bool) (c : Record) (ok : coherentB n c ≡ true) wh
   read-answers k = search (by-test, first, outcome) depth 9
 
   pub hear-answers : (m : Message) → Answers (hearOf n active c m)
-  unfolding hearOf abortedOf followedOf ruledOf acceptedOf
+  unfolding hearOf abortedOf followedOf validatedOf ruledOf acceptedOf
   hear-answers m = search (by-test, first, number, cursors, outcome, shut) depth 9
 
   pub shutdown-answers : Answers (shutdownOf n active c)

@@ -39,7 +39,7 @@ use Rattle.element.specs.Element.{allFree, intactB}
 use Rattle.transmit.specs.Transmit.{nothingSent, sendOf, sentOf, urgentOf, urgentSendOf}
 use Rattle.produced.specs.Produced.{sendForbids, waitsB}
 use Rattle.receive.specs.Receive.{unreadOf, placeForbids, mayPlace, placeOf, readForbids, readOf, takeOf, tornOf}
-use Rattle.hear.specs.Hear.{ruledOf, abortedOf, acceptedOf, followedOf, hearOf}
+use Rattle.hear.specs.Hear.{ruledOf, abortedOf, acceptedOf, validatedOf, followedOf, hearOf}
 use Rattle.heard.specs.Heard.{nextB, producerB, consumerB}
 use Rattle.finish.specs.Finish.{resetOf, closingOf, shutdownForbids, shutdownOf, closeForbids, closeOf, abortOf}
 use Rattle.outcome.proofs.Laws.{outcome-reply, urgent-reply, closed-reply}
@@ -49,8 +49,8 @@ use Rattle.table.specs.Table.{sizesB, slotB, openB, activeB, gaugeAt, findFrom,
 use Rattle.connection.specs.declared.Opening.{Opening}
 use Rattle.table.specs.Table.{linkIn}
 use Rattle.pieces.specs.Pieces.{piecesOf}
-use Rattle.rules.specs.Rules.{Group, Request, send, gather, urgent, place, read, shutdown, close, abort, openSlot, freeSlot, linkChange, linkMessage, linkSend, sample, Call, on, hear, manage, Says, refusal, accepted, sent, gathered, wasRead, torn, reset, heard, sampled, linkHeard, linkSent, saysOf, turnOf, requestTurn, hearTurn, Done, refuses, answer, sizesOk, recordOf, elementIn, linkOf, putTurn, onDoes, holderOf, hearAt, hearMessage, hearDoes, openRefusal, openDoes, freeRefusal, freeDoes, linkDoes, linkMessageDoes, linkSendDoes, linksOf, withLinks, healthy, sampleRefusal, sampleDoes, does, badOpening}
-use Rattle.refusals.specs.Refusals.{outside, sizesWrong, slotOutside, slotClosed, incoherent, byteIs, malformedLink, tokenUnheld, connectionDown, linkDown, messageDown, stateForbids, aborting, notAborting, producerBroken, consumerBroken, byteFree, unplaceable, alreadyOpen, tokenHeld, zeroOrOut, linkOutside, actedOutside, heardFate, messageOutside, queueFull, sendingBarred, tooLong, Test, _when_, placeTest, tests, firstOf, Exactly, ExactlyWhen}
+use Rattle.rules.specs.Rules.{Group, Request, send, gather, urgent, place, read, shutdown, close, abort, openSlot, freeSlot, linkChange, linkMessage, linkSend, sample, Call, on, hear, manage, Says, refusal, accepted, sent, gathered, wasRead, torn, reset, heard, sampled, linkChanged, linkHeard, linkSent, saysOf, turnOf, requestTurn, hearTurn, Done, refuses, answer, sizesOk, recordOf, elementIn, linkOf, putTurn, onDoes, holderOf, hearAt, hearMessage, hearDoes, openRefusal, openDoes, freeRefusal, freeDoes, lentOk, linkRefusal, failsOver, linkDoes, linkMessageDoes, linkSendDoes, linksOf, withLinks, healthy, sampleRefusal, sampleDoes, does, badOpening}
+use Rattle.refusals.specs.Refusals.{outside, sizesWrong, lentWrong, slotOutside, slotClosed, incoherent, byteIs, malformedLink, tokenUnheld, connectionDown, linkDown, messageDown, stateForbids, aborting, notAborting, producerBroken, consumerBroken, byteFree, unplaceable, alreadyOpen, tokenHeld, zeroOrOut, linkOutside, actedOutside, heardFate, messageOutside, queueFull, sendingBarred, tooLong, Test, _when_, placeTest, tests, firstOf, Exactly, ExactlyWhen}
 use Rattle.refusals.proofs.Answers.{clash}
 use Rattle.refusals.proofs.Gathered.{carried}
 
@@ -65,8 +65,9 @@ number torn = none
 number (heard moved state) = none
 number reset = none
 number (sampled q) = none
-number (linkHeard f t u) = none
-number (linkSent u) = none
+number (linkChanged n) = none
+number (linkHeard f t u n) = none
+number (linkSent u n) = none
 
 number-is : (s : Says) (k : ℕ) → number s ≡ some k → s ≡ refusal k
 number-is (refusal j) k e = cc
@@ -78,8 +79,9 @@ number-is torn k e = cc
 number-is (heard moved state) k e = cc
 number-is reset k e = cc
 number-is (sampled q) k e = cc
-number-is (linkHeard f t u) k e = cc
-number-is (linkSent u) k e = cc
+number-is (linkChanged n) k e = cc
+number-is (linkHeard f t u n) k e = cc
+number-is (linkSent u n) k e = cc
 
 unnumbered : (s : Says) → ((k : ℕ) → s ≡ refusal k → ⊥) → number s ≡ none
 unnumbered (refusal k) h = absurd (h k refl)
@@ -91,8 +93,9 @@ unnumbered torn h = refl
 unnumbered (heard moved state) h = refl
 unnumbered reset h = refl
 unnumbered (sampled q) h = refl
-unnumbered (linkHeard f t u) h = refl
-unnumbered (linkSent u) h = refl
+unnumbered (linkChanged n) h = refl
+unnumbered (linkHeard f t u n) h = refl
+unnumbered (linkSent u n) h = refl
 
 -- TESTS. What F makes of the outcome of a test: where the test fails, its number; else what the tests after it give
 module _ {A : Type 0} (F : A → Option ℕ) (n : ℕ) (l : List Test) where
@@ -327,31 +330,32 @@ module _ (n : ℕ) (c : Record) (m : Message) where
   cursors-are : producerBroken n c m || consumerBroken c m ≡ not (producerB n c (m .producer) && consumerB c (m .consumer))
   cursors-are = rw (producer-is, consumer-is) (sym (not-and (producerB n c (m .producer)) (consumerB c (m .consumer))))
 
-  by-abort : (a s w ok t : Bool) (x y z : Outcome) → t ≡ not ok → Accepts x → Accepts y → Accepts z
-      → number (saysOf (cond a x (cond s y (cond w (cond ok z (refusedOf 8 c)) (refusedOf 16 c))) .reply))
-      ≡ firstOf (16 when (not a && (not s && not w)) ∷ 8 when (not a && (not s && t)) ∷ [])
+  by-abort : (a s f w ok t : Bool) (x y v z : Outcome) → t ≡ not ok → Accepts x → Accepts y → Accepts v → Accepts z
+      → number (saysOf (cond a x (cond s y (cond f v (cond w (cond ok z (refusedOf 8 c)) (refusedOf 16 c)))) .reply))
+      ≡ firstOf (16 when (not a && (not s && (not f && not w))) ∷ 8 when (not a && (not s && (not f && t))) ∷ [])
   unfolding firstOf refusedOf
-  by-abort true s w ok t x y z e h i j = h .none-given
-  by-abort false true w ok t x y z e h i j = i .none-given
-  by-abort false false false ok t x y z e h i j = refl
-  by-abort false false true true t x y z e h i j = rw e (j .none-given)
-  by-abort false false true false t x y z e h i j = rw e
+  by-abort true s f w ok t x y v z e h i l j = h .none-given
+  by-abort false true f w ok t x y v z e h i l j = i .none-given
+  by-abort false false true w ok t x y v z e h i l j = l .none-given
+  by-abort false false false false ok t x y v z e h i l j = refl
+  by-abort false false false true true t x y v z e h i l j = rw e (j .none-given)
+  by-abort false false false true false t x y v z e h i l j = rw e
 
   hear-first : (a : Bool)
       → number (saysOf (hearOf n a c m .reply))
       ≡ firstOf
       (3 when not (coherentB n c)
       ∷ 6 when not a
-      ∷ 16 when (not (m .flags .abort) && (not (c .marks .abort) && not (eqb (m .sequence) (sequenceAfter (c .inbound .last)))))
-      ∷ 8 when (not (m .flags .abort) && (not (c .marks .abort) && (producerBroken n c m || consumerBroken c m)))
+      ∷ 16 when (not (m .flags .abort) && (not (c .marks .abort) && (not (m .flags .failover) && not (eqb (m .sequence) (sequenceAfter (c .inbound .last))))))
+      ∷ 8 when (not (m .flags .abort) && (not (c .marks .abort) && (not (m .flags .failover) && (producerBroken n c m || consumerBroken c m))))
       ∷ [])
-  unfolding hearOf followedOf ruledOf nextB abortedOf acceptedOf
+  unfolding hearOf followedOf validatedOf ruledOf nextB abortedOf acceptedOf
   hear-first a =
       let ok = producerB n c (m .producer) && consumerB c (m .consumer) in
       let s = outcomeOf (Heard 0 PeerAbortWait) false c in
       first-two n a c (cond (m .flags .abort) (abortedOf c) (followedOf n c m)) _
-      (by-abort (m .flags .abort) (c .marks .abort) (nextB c m) ok _ (abortedOf c) s (acceptedOf n c m) cursors-are (search accepted-all)
-      (search accepted-all) (search accepted-all))
+      (by-abort (m .flags .abort) (c .marks .abort) (m .flags .failover) (nextB c m) ok _ (abortedOf c) s (validatedOf c m) (acceptedOf n c m) cursors-are (search accepted-all)
+      (search accepted-all) (search accepted-all) (search accepted-all))
 
 -- a request's turn
 request-first : (g : Group) (k : ℕ) (q : Request)
@@ -403,7 +407,7 @@ module _ (m : Marks) where
   unfolding closeStateOf
   by-marks = search not-aborting depth 9
 
-  aborting-is : aborting (stateOf m) ≡ m .abort
+  pub aborting-is : aborting (stateOf m) ≡ m .abort
   unfolding stateOf
   aborting-is = go (m .abort)
     where
@@ -412,9 +416,9 @@ module _ (m : Marks) where
       go false = by-marks
 
 -- what open and free do with the number that their tests come to
-module _ (g : Group) (d : Done) where
+module _ (g : Group) (out : List ℕ) (d : Done) where
   abbrev numbered : ℕ → Option ℕ
-  numbered r = refusedBy (cond (eqb r 0) d (refuses g r []))
+  numbered r = refusedBy (cond (eqb r 0) d (refuses g r out))
 
   module _ (accepts : refusedBy d ≡ none) where
     zero-first : numbered 0 ≡ firstOf []
@@ -537,13 +541,13 @@ sent-refusal ls l k vs = go (eqb j 0) refl
     go true e = sym (eqb-true j 0 e)
     go false e = refl
 
-module _ (g : Group) (d : Done) (accepts : refusedBy d ≡ none) where
+module _ (g : Group) (out : List ℕ) (d : Done) (accepts : refusedBy d ≡ none) where
   -- the class by its three tests: a named, f FE, o optional
   abbrev class : Bool → Bool → Bool → ℕ
   class a f o = cond a 1 (cond f 2 (cond o 3 0))
 
   by-class : (len a f o two x y : Bool)
-      → numbered g d
+      → numbered g out d
       (cond (not len) 4
       (cond (eqb (class a f o) 3) 0
       (cond (not (eqb (class a f o) 1 && two)) 4
@@ -564,20 +568,20 @@ module _ (g : Group) (d : Done) (accepts : refusedBy d ≡ none) where
   by-class true false false false two x y = refl
 
   message-first : (l : ℕ) (b : List ℕ)
-      → numbered g d (messageRefusal (linksOf g) l b (heardIn (linksOf g) b) (fateNo (linksOf g) l (heardIn (linksOf g) b)))
-      ≡ firstOf (tests g (manage (linkMessage l b)))
+      → numbered g out d (messageRefusal (linksOf g) l b (heardIn (linksOf g) b) (fateNo (linksOf g) l (heardIn (linksOf g) b)))
+      ≡ firstOf (13 when linkOutside l ∷ 6 when messageDown g l (getD b 0 0) ∷ 4 when malformedLink b ∷ 14 when messageOutside g l b ∷ 15 when queueFull g l b ∷ [])
   unfolding messageRefusal optionalB messageB fullB refuses classOf
   message-first l b =
       let m = heardIn (linksOf g) b in
       let taken = isFate (heardFate g l b) Taken || isFate (heardFate g l b) Queued in
-      must-not (numbered g d) 13 _ (linkOutside l) (not (linkIn l)) _ _ (outside-is 1 4 l)
-      (must-not (numbered g d) 6 _ (messageDown g l (getD b 0 0)) (downB (linksOf g) l (getD b 0 0)) _ _ (down-is g l (getD b 0 0))
+      must-not (numbered g out d) 13 _ (linkOutside l) (not (linkIn l)) _ _ (outside-is 1 4 l)
+      (must-not (numbered g out d) 6 _ (messageDown g l (getD b 0 0)) (downB (linksOf g) l (getD b 0 0)) _ _ (down-is g l (getD b 0 0))
       (bytes taken m)
       refl)
       refl
     where
       bytes : (taken : Bool) (m : Said)
-          → numbered g d
+          → numbered g out d
           (cond (not (eqb (length b) 44)) 4
           (cond (eqb (classOf (getD b 0 0)) 3) 0
           (cond (not (namedB (getD b 0 0) && byteIs b 1 0x2C)) 4
@@ -594,18 +598,32 @@ module _ (g : Group) (d : Done) (accepts : refusedBy d ≡ none) where
           (taken && outsideB m) (isFate (heardFate g l b) Queued && leb 4 (g .queue .count)))
 
   sending-first : (l : ℕ) (k : Kind) (vs : List ℕ)
-      → numbered g d (sendRefusal (linksOf g) l (sentIn (linksOf g) k vs) (dueB (g .exchange) l (sentIn (linksOf g) k vs)))
-      ≡ firstOf (tests g (manage (linkSend l k vs)))
+      → numbered g out d (sendRefusal (linksOf g) l (sentIn (linksOf g) k vs) (dueB (g .exchange) l (sentIn (linksOf g) k vs)))
+      ≡ firstOf (13 when linkOutside l ∷ 6 when messageDown g l (codeOf k) ∷ 14 when actedOutside (sentIn (linksOf g) k vs) ∷ 15 when sendingBarred g l (sentIn (linksOf g) k vs) ∷ [])
   unfolding sendRefusal refuses saidOf
   sending-first l k vs =
       let m = sentIn (linksOf g) k vs in
-      must-not (numbered g d) 13 _ (linkOutside l) (not (linkIn l)) _ _ (outside-is 1 4 l)
-      (must-not (numbered g d) 6 _ (messageDown g l (codeOf k)) (downB (linksOf g) l (codeOf k)) _ _ (down-is g l (codeOf k))
-      (must-not (numbered g d) 14 _ (actedOutside m) (outsideB m) _ _ (acted-is m)
-      (must-not (numbered g d) 15 [] (sendingBarred g l m) (sendingBarred g l m) 0 15 refl (accepts ∙ none-left) refl)
+      must-not (numbered g out d) 13 _ (linkOutside l) (not (linkIn l)) _ _ (outside-is 1 4 l)
+      (must-not (numbered g out d) 6 _ (messageDown g l (codeOf k)) (downB (linksOf g) l (codeOf k)) _ _ (down-is g l (codeOf k))
+      (must-not (numbered g out d) 14 _ (actedOutside m) (outsideB m) _ _ (acted-is m)
+      (must-not (numbered g out d) 15 [] (sendingBarred g l m) (sendingBarred g l m) 0 15 refl (accepts ∙ none-left) refl)
       refl)
       refl)
       refl
+
+-- 1 first, of what they are lent
+lent-is : (g : Group) (out : List ℕ) → lentWrong g out ≡ not (lentOk g out)
+lent-is g out = (λ i. sizes-is g i || sym (not-leb (44 * g .S) (length out)) i) ∙ sym (not-and (sizesOk g) (leb (44 * g .S) (length out)))
+
+lent-first : (g : Group) (out : List ℕ) (d : Done) (j : ℕ) (l : List Test) → numbered g out d j ≡ firstOf l
+    → numbered g out d (linkRefusal g out j) ≡ firstOf (1 when lentWrong g out ∷ l)
+unfolding linkRefusal refuses
+lent-first g out d j l e = must (numbered g out d) 1 l (lentWrong g out) (lentOk g out) j 1 (lent-is g out) e refl
+
+change-first : (g : Group) (out : List ℕ) (d : Done) → refusedBy d ≡ none → (l : ℕ)
+    → numbered g out d (cond (linkIn l) 0 13) ≡ firstOf (13 when linkOutside l ∷ [])
+unfolding refuses
+change-first g out d accepts l = must (numbered g out d) 13 [] (linkOutside l) (linkIn l) 0 13 (outside-is 1 4 l) (accepts ∙ none-left) refl
 
 -- sample, by the number of its refusal
 sample-first : (g : Group) (l ms : ℕ) → refusedBy (sampleDoes g l ms) ≡ firstOf (tests g (manage (sample l ms)))
@@ -628,7 +646,7 @@ sample-first g l ms =
     go x y z false false false e f h = rw (e, f, h)
 
 call-first : (g : Group) (c : Call) → refusedBy (does g c) ≡ firstOf (tests g c)
-unfolding onDoes hearDoes hearAt hearTurn openDoes freeDoes linkDoes linkMessageDoes linkSendDoes putTurn turnOf refuses decodeOf
+unfolding onDoes hearDoes hearAt hearTurn openDoes freeDoes failsOver linkDoes linkMessageDoes linkSendDoes putTurn turnOf refuses decodeOf
 call-first g (on k q) =
     must refusedBy 1 _ (sizesWrong g) (sizesOk g) _ _ (sizes-is g)
     (must refusedBy 2 _ (slotClosed g k) (openB (g .S) (g .table) k) _ _ (open-is g k) (request-first g k q) refl)
@@ -641,12 +659,13 @@ call-first g (hear b) =
     (must-not refusedBy 5 _ (tokenUnheld g (m .token)) (eqb k 0) _ _ (unheld-is g (m .token)) (hear-first (g .N) (recordOf g k) m (linkOf g k)) refl)
     refl)
     refl
-call-first g (manage (openSlot k o)) = open-first g _ refl k o
-call-first g (manage (freeSlot k)) = free-first g _ refl k
-call-first g (manage (linkChange l up)) =
-    must refusedBy 13 [] (linkOutside l) (linkIn l) _ _ (outside-is 1 4 l) none-left refl
-call-first g (manage (linkMessage l b)) = ap (numbered g _) (heard-refusal (linksOf g) l b) ∙ message-first g _ refl l b
-call-first g (manage (linkSend l k vs)) = ap (numbered g _) (sent-refusal (linksOf g) l k vs) ∙ sending-first g _ refl l k vs
+call-first g (manage (openSlot k o)) = open-first g [] _ refl k o
+call-first g (manage (freeSlot k)) = free-first g [] _ refl k
+call-first g (manage (linkChange l up out)) = lent-first g out _ _ _ (change-first g out _ refl l)
+call-first g (manage (linkMessage l b out)) =
+    lent-first g out _ _ _ (ap (numbered g out _) (heard-refusal (linksOf g) l b) ∙ message-first g out _ refl l b)
+call-first g (manage (linkSend l k vs out)) =
+    lent-first g out _ _ _ (ap (numbered g out _) (sent-refusal (linksOf g) l k vs) ∙ sending-first g out _ refl l k vs)
 call-first g (manage (sample l ms)) = sample-first g l ms
 
 pub exactly-when : ExactlyWhen

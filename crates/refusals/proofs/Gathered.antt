@@ -4,7 +4,7 @@ use mathlib.Core.List.{List}
 use Prim.Native.Nat.{ℕ}
 use Rattle.outcome.specs.declared.Placing.{Placing}
 use Rattle.pieces.specs.Pieces.{Piece}
-use Rattle.rules.specs.Rules.{Says, refusal, accepted, sent, gathered, wasRead, torn, heard, reset, sampled, linkHeard, linkSent, inPieces}
+use Rattle.rules.specs.Rules.{Says, refusal, accepted, sent, gathered, wasRead, torn, heard, reset, sampled, linkChanged, linkHeard, linkSent, inPieces}
 use Rattle.refusals.proofs.Answers.{clash}
 
 module _ (f : ℕ → List Piece) where
@@ -19,8 +19,9 @@ module _ (f : ℕ → List Piece) where
   carried P h (heard moved state) w = w
   carried P h reset w = w
   carried P h (sampled health) w = w
-  carried P h (linkHeard f t u) w = w
-  carried P h (linkSent u) w = w
+  carried P h (linkChanged n) w = w
+  carried P h (linkHeard f t u n) w = w
+  carried P h (linkSent u n) w = w
 
   pub refused-in : (s : Says) (k : ℕ) → inPieces f s ≡ refusal k → s ≡ refusal k
   refused-in s k = carried (λ (r : Says). r ≡ refusal k → s ≡ refusal k) (λ n p q h e. clash (cc)) s (λ e. e)

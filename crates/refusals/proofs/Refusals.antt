@@ -19,11 +19,11 @@ use Rattle.outcome.specs.Outcome.{effectOf, refusedOf, outcomeOf, urgentOutcome
 use Rattle.outcome.proofs.Laws.{outcome-reply, urgent-reply, closed-reply}
 use Rattle.transmit.specs.Transmit.{sendOf, sentOf, urgentOf, urgentSendOf}
 use Rattle.receive.specs.Receive.{placeOf, readOf, takeOf, tornOf}
-use Rattle.hear.specs.Hear.{ruledOf, hearOf, abortedOf, followedOf, acceptedOf}
+use Rattle.hear.specs.Hear.{ruledOf, hearOf, abortedOf, validatedOf, followedOf, acceptedOf}
 use Rattle.finish.specs.Finish.{resetOf, closingOf, shutdownOf, closeOf, abortOf}
 use Rattle.table.specs.Table.{recordAt, withRecord}
 use Rattle.pieces.specs.Pieces.{piecesOf}
-use Rattle.rules.specs.Rules.{Group, Request, send, gather, urgent, place, read, shutdown, close, abort, openSlot, freeSlot, linkChange, linkMessage, linkSend, sample, Call, on, hear, manage, Says, refusal, accepted, sent, gathered, wasRead, torn, reset, heard, sampled, linkHeard, linkSent, saysOf, answerInPieces, turnOf, placedIn, readInto, requestTurn, hearTurn, Done, refuses, recordOf, elementIn, linkOf, putTurn, outOf, onDoes, holderOf, hearAt, hearMessage, hearDoes, openDoes, freeDoes, linkDoes, linkMessageDoes, linkSendDoes, sampleDoes, does}
+use Rattle.rules.specs.Rules.{Group, Request, send, gather, urgent, place, read, shutdown, close, abort, openSlot, freeSlot, linkChange, linkMessage, linkSend, sample, Call, on, hear, manage, Says, refusal, accepted, sent, gathered, wasRead, torn, reset, heard, sampled, linkChanged, linkHeard, linkSent, saysOf, answerInPieces, turnOf, placedIn, readInto, requestTurn, hearTurn, Done, refuses, recordOf, elementIn, linkOf, putTurn, outOf, onDoes, holderOf, hearAt, hearMessage, hearDoes, openDoes, freeDoes, failsOver, linkDoes, linkMessageDoes, linkSendDoes, sampleDoes, does}
 use Rattle.refusals.specs.Refusals.{lentOut, RefusedKeeps}
 use Rattle.refusals.proofs.Gathered.{refused-in}
 
@@ -58,8 +58,9 @@ refusalB torn = false
 refusalB (heard moved state) = false
 refusalB reset = false
 refusalB (sampled q) = false
-refusalB (linkHeard f t u) = false
-refusalB (linkSent u) = false
+refusalB (linkChanged n) = false
+refusalB (linkHeard f t u n) = false
+refusalB (linkSent u n) = false
 
 -- what x does, by F: where it refuses, it does no more than that
 module _ {A : Type 0} (g : Group) (out : List ℕ) (F : A → Done) where
@@ -143,7 +144,7 @@ module _ (g : Group) (j : ℕ) where
   request abort = quiet _ (search walk depth 9)
 
   hears : (m : Message) → Refuses g [] (λ d. d) (putTurn g j (hearTurn (g .N) (linkOf g j) (recordOf g j) e m))
-  unfolding hearTurn hearOf abortedOf followedOf ruledOf acceptedOf
+  unfolding hearTurn hearOf abortedOf followedOf validatedOf ruledOf acceptedOf
   hears m = quiet _ (search walk depth 9)
 
 -- EVERY CALL
@@ -157,14 +158,14 @@ module _ (g : Group) where
   heard-by Malformed = search gives
 
   call : (c : Call) → Refuses g (lentOut c) (λ d. d) (does g c)
-  unfolding onDoes hearDoes openDoes freeDoes linkDoes linkMessageDoes linkSendDoes sampleDoes putTurn
+  unfolding onDoes hearDoes openDoes freeDoes failsOver linkDoes linkMessageDoes linkSendDoes sampleDoes putTurn
   call (on k q) = search (by-test, gives, request)
   call (hear b) = search (by-test, gives, heard-by)
   call (manage (openSlot k o)) = search (by-test, gives, never)
   call (manage (freeSlot k)) = search (by-test, gives, never)
-  call (manage (linkChange l up)) = search (by-test, gives, never)
-  call (manage (linkMessage l b)) = search (by-test, gives, never)
-  call (manage (linkSend l k vs)) = search (by-test, gives, never)
+  call (manage (linkChange l up out)) = search (by-test, gives, never)
+  call (manage (linkMessage l b out)) = search (by-test, gives, never)
+  call (manage (linkSend l k vs out)) = search (by-test, gives, never)
   call (manage (sample l ms)) = search (by-test, gives, never)
 
 pub refused-keeps : RefusedKeeps

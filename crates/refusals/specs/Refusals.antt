@@ -48,6 +48,10 @@ abbrev pub sizesWrong : Group → Bool
 sizesWrong g =
     outside 1 255 (g .S) || outside 8 65540 (g .N) || not (eqb (length (g .memory)) (g .S * g .N)) || not (eqb (length (g .table)) (g .S))
 
+-- and, in the calls on links, a buffer under 44 x S bytes (request 2026-13)
+abbrev pub lentWrong : Group → List ℕ → Bool
+lentWrong g out = sizesWrong g || ltb (length out) (44 * g .S)
+
 -- 2: slot outside 1 to S, or closed (for open: outside only)
 abbrev pub slotOutside : Group → ℕ → Bool
 slotOutside g k = outside 1 (g .S) k
@@ -137,17 +141,18 @@ consumerBroken c m =
     || ltb (gapOf d (c .outbound .consumer) (c .outbound .producer)) (gapOf d (m .consumer) (c .outbound .producer))
 
 -- 16: a message heard carries another number than the last one heard plus one, 65,535 going on to 0 (request 2026-07). A message with A is
--- exempt, as is any heard after we sent A
+-- exempt, as is any heard after we sent A; and one with F (request 2026-13)
 abbrev pub notNext : Group → ℕ → Message → Bool
 notNext g k m =
     not (m .flags .abort)
-    && (not (recordOf g k .marks .abort) && not (eqb (m .sequence) (sequenceAfter (recordOf g k .inbound .last))))
+    && (not (recordOf g k .marks .abort) && (not (m .flags .failover) && not (eqb (m .sequence) (sequenceAfter (recordOf g k .inbound .last)))))
 
--- with A in the message cursors are not looked at, and after A sent nothing is
+-- with A or F in the message cursors are not looked at, and after A sent nothing is
 abbrev pub cursorBroken : Group → ℕ → Message → Bool
 cursorBroken g k m =
     not (m .flags .abort)
-    && (not (recordOf g k .marks .abort) && (producerBroken (g .N) (recordOf g k) m || consumerBroken (recordOf g k) m))
+    && (not (recordOf g k .marks .abort)
+    && (not (m .flags .failover) && (producerBroken (g .N) (recordOf g k) m || consumerBroken (recordOf g k) m)))
 
 -- 9: a placed byte is outside the data or not free
 abbrev pub byteFree : Group → ℕ → ℕ → Bool
@@ -265,17 +270,18 @@ tests g (manage (freeSlot k)) =
     ∷ 3 when incoherent g k
     ∷ 7 when notAborting g k
     ∷ []
-tests g (manage (linkChange l up)) = 13 when linkOutside l ∷ []
-tests g (manage (linkMessage l b)) =
-    13 when linkOutside l
+tests g (manage (linkChange l up out)) = 1 when lentWrong g out ∷ 13 when linkOutside l ∷ []
+tests g (manage (linkMessage l b out)) =
+    1 when lentWrong g out
+    ∷ 13 when linkOutside l
     ∷ 6 when messageDown g l (getD b 0 0)
     ∷ 4 when malformedLink b
     ∷ 14 when messageOutside g l b
     ∷ 15 when queueFull g l b
     ∷ []
-tests g (manage (linkSend l k vs)) =
+tests g (manage (linkSend l k vs out)) =
     let m = sentIn (linksOf g) k vs in
-    13 when linkOutside l ∷ 6 when messageDown g l (codeOf k) ∷ 14 when actedOutside m ∷ 15 when sendingBarred g l m ∷ []
+    1 when lentWrong g out ∷ 13 when linkOutside l ∷ 6 when messageDown g l (codeOf k) ∷ 14 when actedOutside m ∷ 15 when sendingBarred g l m ∷ []
 tests g (manage (sample l ms)) = 13 when linkOutside l ∷ 6 when linkDown g l ∷ 17 when tooLong ms ∷ []
 
 -- the number of the first test whose condition holds; `none`: none does
@@ -292,11 +298,16 @@ pub record Exactly (g : Group) (c : Call) : Type 0 where
 abbrev pub ExactlyWhen : Type 0
 ExactlyWhen = (g : Group) (c : Call) → Exactly g c
 
--- what is lent to a call to write into, beside the group: a read's out buffer
+-- what is lent to a call to write into, beside the group: a read's out buffer, and that of a call on links
 abbrev pub lentOut : Call → List ℕ
 lentOut (on k q) = outOf q
 lentOut (hear b) = []
-lentOut (manage d) = []
+lentOut (manage (openSlot k o)) = []
+lentOut (manage (freeSlot k)) = []
+lentOut (manage (linkChange l up out)) = out
+lentOut (manage (linkMessage l b out)) = out
+lentOut (manage (linkSend l k vs out)) = out
+lentOut (manage (sample l ms)) = []
 
 -- A REFUSED CALL ALTERS NOTHING IT WAS LENT. The group stays as it was, in every table and byte; the answer is the number only, with no
 -- message, and out holds what it held.

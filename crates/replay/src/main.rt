@@ -1,10 +1,11 @@
 // Replays calls on one group: reads a call from each line of the standard input, makes it, and prints its answer. What a line may be and
 // what is printed is fixed by the replay format; what a call answers is the group's alone. Lines are parsed by `lines`, calls made by
 // `replay_calls`, and `replay_state` has the group and the lines that are no calls; answers are printed by `answers`, all over the streams
-// of `stream`; a record's numbers are read and printed by `records`, a gauge's by `gauge_text`, link messages by `link_text`.
+// of `stream`; a record's numbers are read and printed by `records`, a gauge's by `gauge_text`, lines on links by `link_read` and
+// `link_text`.
 //
-// Six buffers are lent throughout: `mem` the receive memory, `given` the bytes of a line, `body` the second bytes of a line, `out` the out
-// buffer of a read, `buf` the input and `o` the output.
+// Six buffers are lent throughout: `mem` the receive memory, `given` the bytes of a line, `body` the second bytes of a line, `out` the
+// buffer of a read and of the calls on links, `buf` the input and `o` the output.
 use lines::Line;
 use replay_state::World;
 use stream::input;
@@ -48,6 +49,16 @@ fn act<'a>(
         ),
         Line::Gather(slot, h, b) => replay_calls::gather_line(mem, given, body, o, w, slot, h, b),
         Line::Setup(l) => replay_calls::setup_line(given, out, o, w, l),
+        Line::LinkCall(command, count, room) => replay_calls::link_lent(
+            mem,
+            given,
+            out,
+            o,
+            w,
+            command,
+            count,
+            room,
+        ),
         Line::Link(l) => replay_calls::link_line(given, o, w, l),
         _ => aside(mem, given, o, w, line),
     }

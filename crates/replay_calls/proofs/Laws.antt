@@ -1,46 +1,24 @@
 -- What a call is lent, and what it leaves. Assumes nothing.
 use Prim.Native.Nat.{ℕ, _-_, min}
-use mathlib.Core.Path.{_≡_, refl, sym, ap, _∙_}
-use mathlib.Core.Bool.{Bool, true, false}
+use mathlib.Core.Path.{_≡_, ap}
 use mathlib.Core.List.{List, _++_}
-use native.Mathlib.Omega.{arith}
-use lib.Dec.{leb}
-use lib.ListN.{length, take, drop, replicate, drop-of-length-le}
-use lib.Seq.{take-all, take-length, drop-length}
-use borrow.Author.Tests.{leb-true, leb-false}
+use lib.ListN.{length, take, drop, replicate}
 use Rattle.group.specs.declared.Command.{Command}
 use Rattle.rows.specs.declared.Made.{Made}
 use Rattle.rows.specs.Rows.{OnRows}
+use Rattle.linkdesk.specs.declared.LinkCommand.{LinkCommand}
+use Rattle.link_read.specs.declared.Room.{Room}
+use Rattle.link_text.specs.LinkText.{valuesIn, roomOf}
+use Rattle.link_rows.specs.declared.LinkMade.{LinkMade}
+use Rattle.link_rows.specs.LinkRows as LinkRows
 use Rattle.replay_state.specs.declared.World.{World}
-use Rattle.replay_calls.specs.ReplayCalls.{Turned, Called, Lent, Gathered}
+use Rattle.replay_state.proofs.Laws.{take-least, drop-least}
+use Rattle.replay_calls.specs.ReplayCalls.{Turned, Called, Lent, Gathered, LinkCalled, LinkLent}
 
--- the first k, cut where there are no more
-module _ (l : List ℕ) (k n : ℕ) (e : n ≡ min k (length l)) where
-  pub take-least : take (n - 0) l ≡ take k l
-  take-least = go (leb k (length l)) refl
-    where
-      go : (b : Bool) → leb k (length l) ≡ b → take (n - 0) l ≡ take k l
-      go true h =
-          let le = leb-true k (length l) h in
-          let f : n - 0 ≡ k = omega arith in
-          ap (λ (i : ℕ). take i l) f
-      go false h =
-          let lt = leb-false k (length l) h in
-          let f : n - 0 ≡ length l = omega arith in
-          ap (λ (i : ℕ). take i l) f ∙ take-length l ∙ sym (take-all k l (omega arith))
-
-  pub drop-least : drop (n - 0) l ≡ drop k l
-  drop-least = go (leb k (length l)) refl
-    where
-      go : (b : Bool) → leb k (length l) ≡ b → drop (n - 0) l ≡ drop k l
-      go true h =
-          let le = leb-true k (length l) h in
-          let f : n - 0 ≡ k = omega arith in
-          ap (λ (i : ℕ). drop i l) f
-      go false h =
-          let lt = leb-false k (length l) h in
-          let f : n - 0 ≡ length l = omega arith in
-          ap (λ (i : ℕ). drop i l) f ∙ drop-length l ∙ sym (drop-of-length-le l {i = k} (omega arith))
+-- the first LEN bytes are zeros now
+pub wiped : (m z : List ℕ) (len n : ℕ) → n ≡ min len (length m) → z ≡ replicate (length (take (n - 0) m)) 0
+    → z ++ drop (n - 0) m ≡ replicate (length (take len m)) 0 ++ drop len m
+wiped m z len n e h = rw (h, take-least m len n e, drop-least m len n e)
 
 -- out was filled before the call
 pub call-is : (w r : World) (c : Command) (m b o o' l left : List ℕ) (a : Made) → o' ≡ o
@@ -64,3 +42,15 @@ lent-is w r c count room m b out m₁ b₁ o₁ m₂ o₂ l left e f g e₂ g₂
 pub gathered-on : (w r : World) (slot : ℕ) (m m' h h' b b' : List ℕ) → m ≡ m' → h ≡ h' → b ≡ b' → Gathered w slot m h b r
     → Gathered w slot m' h' b' r
 gathered-on w r slot m m' h h' b b' e f g d = rw (← e, ← f, ← g) d
+
+-- the same of a call on links
+pub link-call-is : (w r : World) (c : LinkCommand) (m b vs o o' left : List ℕ) (a : LinkMade) → o' ≡ o
+    → LinkRows.OnRows (w .table) (w .count) (w .s) (w .n) m (w .links) c b vs o' a left → r .table ≡ a .table
+    → r .links ≡ a .done .answer .links → Turned w r → LinkCalled w c m b vs o r left
+link-call-is w r c m b vs o o' left a e did t k u = record { made = a; did = rw e at did; table = t; links = k; turned = u }
+
+pub link-lent-is : (w r : World) (c : LinkCommand) (count : ℕ) (room : Room) (m b out m₁ b₁ vs o₁ o₂ left : List ℕ) → m₁ ≡ take (w .len) m
+    → b₁ ≡ take count b → vs ≡ valuesIn b → o₁ ≡ take (roomOf (w .s) room) out → o₂ ≡ drop (roomOf (w .s) room) out
+    → LinkCalled w c m₁ b₁ vs (replicate (length o₁) 165) r left → LinkLent w c count room m b out r (left ++ o₂)
+link-lent-is w r c count room m b out m₁ b₁ vs o₁ o₂ left e f v g g₂ h =
+    record { left = left; called = rw (← e, ← f, ← v, ← g) h; rest = ap (λ (x : List ℕ). left ++ x) g₂ }

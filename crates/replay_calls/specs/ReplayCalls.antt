@@ -13,6 +13,11 @@ use Rattle.rows.specs.declared.Made.{Made}
 use Rattle.rows.specs.Rows as Rows
 use Rattle.gather_text.specs.declared.GatherMade.{GatherMade}
 use Rattle.gather_text.specs.GatherText as Gather
+use Rattle.linkdesk.specs.declared.LinkCommand.{LinkCommand}
+use Rattle.link_read.specs.declared.Room.{Room}
+use Rattle.link_text.specs.LinkText.{valuesIn, roomOf}
+use Rattle.link_rows.specs.declared.LinkMade.{LinkMade}
+use Rattle.link_rows.specs.LinkRows as LinkRows
 use Rattle.replay_state.specs.declared.World.{World}
 use Rattle.replay_state.specs.World.{tableTo, linksTo, atTo}
 
@@ -65,3 +70,18 @@ pub record Gathered (w : World) (slot : ℕ) (m h b : List ℕ) (r : World) : Ty
   pub table : r .table ≡ made .table
   pub links : r .links ≡ made .gathered .answer .links
   pub turned : Turned w r
+
+-- a call on links, with bytes b or values vs beside it, that left the buffer out as `left`
+pub record LinkCalled (w : World) (c : LinkCommand) (m b vs out : List ℕ) (r : World) (left : List ℕ) : Type 0 where
+  pub made : LinkMade
+  pub did : LinkRows.OnRows (w .table) (w .count) (w .s) (w .n) m (w .links) c b vs out made left
+  pub table : r .table ≡ made .table
+  pub links : r .links ≡ made .done .answer .links
+  pub turned : Turned w r
+
+-- the same, lent LEN bytes of m, `count` of b or the values there, and its room of out, all A5; the bytes after it stay
+pub record LinkLent (w : World) (c : LinkCommand) (count : ℕ) (room : Room) (m b out : List ℕ) (r : World) (out' : List ℕ) : Type 0 where
+  pub left : List ℕ
+  pub called :
+      LinkCalled w c (take (w .len) m) (take count b) (valuesIn b) (replicate (length (take (roomOf (w .s) room) out)) 165) r left
+  pub rest : out' ≡ left ++ drop (roomOf (w .s) room) out

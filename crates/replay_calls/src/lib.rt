@@ -1,17 +1,21 @@
 // A fresh group of a replay, and the lines of the replay format that are calls: of the group, of a head and a body, of the pool, on setting
-// up and on link messages. What each answers is printed to the output buffer `o`.
+// up and on links. What each answers is printed to the output buffer `o`.
 ghost use mathlib.Core.Path.{_≡_};
 ghost use Prim.Native.Nat.{_≤_};
-ghost use lib.ListN.{length, take, replicate};
+ghost use mathlib.Core.List.{_++_};
+ghost use lib.ListN.{length, take, drop, replicate};
 ghost use Rattle.pool.specs.Pool.{freePool};
 ghost use Rattle.pool_text.specs.PoolText.{Left};
 ghost use Rattle.setup_text.specs.SetupText as Setup;
 ghost use Rattle.link_text.specs.LinkText as Link;
 ghost use Rattle.replay_state.specs.World.{linksTo, booksTo, settingsTo, atTo};
-ghost use Rattle.replay_calls.specs.ReplayCalls.{freshOf, Called, Lent, Gathered};
+ghost use Rattle.replay_calls.specs.ReplayCalls.{freshOf, Called, Lent, Gathered, LinkCalled, LinkLent};
 use exchange::Role;
 use group::Command;
 use link_read::LinkLine;
+use link_read::Room;
+use linkdesk::LinkCommand;
+use linkdesk::Values;
 use pool_text::PoolLine;
 use replay_state::World;
 use replay_state::least;
@@ -83,7 +87,10 @@ pub fn start_over(
     len: usize,
     count: usize,
 ) -> World
-    ensures { λ r. ⌜ (r .at ≤ 65536) × (r ≡ freshOf s n len count (w .books) (w .settings) (r .at)) ⌝ }
+    ensures { λ r.
+        ⌜ (r .at ≤ 65536)
+        × ((r ≡ freshOf s n len count (w .books) (w .settings) (r .at))
+        × (now (mem .exit) ≡ replicate (length (take len (now (mem .entry)))) 0 ++ drop len (now (mem .entry)))) ⌝ }
 {
     let most = least(len, mem.len());
     fill(&mut mem[0..most], 0);
@@ -229,7 +236,7 @@ pub fn setup_line(
     next
 }
 
-// A line on link messages, made on the links.
+// A line that lays something of the links in.
 pub fn link_line(given: &[u8], o: &mut [u8; 65536], w: World, line: LinkLine) -> World
     ensures { λ r.
         ⌜ (r .at ≤ 65536)
@@ -242,4 +249,74 @@ pub fn link_line(given: &[u8], o: &mut [u8; 65536], w: World, line: LinkLine) ->
     next.links = after;
     next.at = a.at;
     next
+}
+
+// Makes one of the three calls on links, every byte of the buffer A5 before it, and prints its answer.
+fn link_called(
+    mem: &[u8],
+    bytes: &[u8],
+    given: Values,
+    buffer: &mut [u8],
+    o: &mut [u8; 65536],
+    w: World,
+    command: LinkCommand,
+) -> World
+    ensures { λ r.
+        ⌜ LinkCalled w command (now (mem .entry)) (now (bytes .entry)) (given .values) (replicate (length (now (buffer .entry))) 165) r
+        (now (buffer .exit)) ⌝ }
+{
+    let table = w.table;
+    let links = w.links;
+    fill(buffer, 165);
+    let a = link_rows::on_rows(
+        table,
+        w.count,
+        w.s,
+        w.n,
+        mem,
+        links,
+        command,
+        bytes,
+        given,
+        buffer,
+    );
+    let done = a.done;
+    let after = a.table;
+    let told = done.answer;
+    let left = told.links;
+    let at = link_text::answer(o, w.at, command, done, buffer);
+    let mut next = w;
+    next.table = after;
+    next.links = left;
+    next.at = at;
+    next
+}
+
+// The same, with what it is lent: LEN bytes of memory, its bytes or its values, and the buffer.
+pub fn link_lent(
+    mem: &[u8],
+    given: &[u8],
+    out: &mut [u8],
+    o: &mut [u8; 65536],
+    w: World,
+    command: LinkCommand,
+    count: usize,
+    room: Room,
+) -> World
+    ensures { λ r.
+        ⌜ LinkLent w command count room (now (mem .entry)) (now (given .entry)) (now (out .entry)) r (now (out .exit)) ⌝ }
+{
+    let len = least(w.len, mem.len());
+    let k = least(count, given.len());
+    let most = least(link_text::room_of(w.s, room), out.len());
+    let values = link_text::values_in(given);
+    link_called(
+        &mem[0..len],
+        &given[0..k],
+        values,
+        &mut out[0..most],
+        o,
+        w,
+        command,
+    )
 }

@@ -2,6 +2,9 @@
 // What each prints goes to the output buffer `o`.
 ghost use mathlib.Core.Path.{_≡_};
 ghost use Prim.Native.Nat.{_≤_, min};
+ghost use mathlib.Core.List.{_++_};
+ghost use lib.ListN.{take, drop};
+ghost use Rattle.layout.specs.Layout.{laidAt};
 ghost use Rattle.table.specs.Table.{gaugeSet};
 ghost use Rattle.replay_state.specs.World.{tableTo, linksTo, atTo, laidIn};
 use connection::Record;
@@ -29,15 +32,6 @@ pub fn least(a: usize, b: usize) -> usize
     ensures { λ r. ⌜ (r ≡ min a b) × ((r ≤ a) × (r ≤ b)) ⌝ }
 {
     if a < b { a } else { b }
-}
-
-fn copy(to: &mut [u8], from: &[u8]) {
-    let n = least(to.len(), from.len());
-    let mut i = 0;
-    while i < n {
-        to[i] = from[i];
-        i += 1;
-    }
 }
 
 // The output buffer is filled up to `at` now.
@@ -85,19 +79,22 @@ pub fn poke(
     at: usize,
     count: usize,
 ) -> World
-    ensures { λ r. ⌜ (r .at ≤ 65536) × (r ≡ atTo w (r .at)) ⌝ }
+    ensures { λ r.
+        ⌜ (r .at ≤ 65536)
+        × ((r ≡ atTo w (r .at))
+        × (now (mem .exit) ≡ laidAt (take (w .len) (now (mem .entry))) at (take count (now (given .entry))) ++ drop (w .len) (now (mem .entry)))) ⌝ }
 {
     let len = least(w.len, mem.len());
     let k = least(count, given.len());
-    if at <= len {
-        if k <= len - at {
-            let end = at + k;
-            copy(&mut mem[at..end], &given[0..k]);
-            let to = output::text(o, w.at, b"poke\n");
-            return filled_to(w, to);
-        }
+    if len < at {
+        return bad(o, w);
     }
-    bad(o, w)
+    if len - at < k {
+        return bad(o, w);
+    }
+    layout::put_bytes(&mut mem[0..len], at, &given[0..k]);
+    let to = output::text(o, w.at, b"poke\n");
+    filled_to(w, to)
 }
 
 // Prints bytes of the memory from byte `at` on, where they lie within it.

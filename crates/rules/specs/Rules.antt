@@ -2,7 +2,7 @@
 -- The contracts of the calls cite `Did`, which is `answer` and `next`; the theorems about lists of calls cite these and `Fresh`, and, for
 -- whose a call is and what it sees, `recordOf`, `elementIn`, `linkOf` and `holderOf`.
 -- Assumes nothing.
-use Prim.Native.Nat.{ℕ}
+use Prim.Native.Nat.{ℕ, _*_}
 use mathlib.Core.Path.{_≡_}
 use mathlib.Core.Bool.{Bool, true, false, _&&_, _||_, not, cond}
 use mathlib.Core.List.{List, [], _∷_, _++_}
@@ -43,6 +43,7 @@ use Rattle.finish.specs.Finish.{shutdownOf, closeOf, abortOf}
 use Rattle.table.specs.declared.Links.{Links}
 use Rattle.table.specs.declared.Answered.{Answered}
 use Rattle.table.specs.Table.{sizesB, slotB, recordAt, openB, linkIn, activeB, gaugeAt, findFrom, withRecord, gaugeSet}
+use Rattle.failover.specs.Failover.{planOf, movedAll, messagesOf, countOf, bufferLeft}
 use Rattle.linkcalls.specs.declared.Fields.{Fields}
 use Rattle.linkcalls.specs.declared.TakenUp.{TakenUp}
 use Rattle.linkcalls.specs.Calls.{changedOf, heardOf, sentOf}
@@ -105,13 +106,14 @@ pub data Request : Type 0 where
 
 -- of management, document 01's desk calls: open takes a slot and what the connection is given (own token, peer token, link, N', index, and
 -- a key and a base for each link); link change a link and whether it is active; link message a link and bytes; link send (request 2026-01)
--- a link, a kind and its values; sample (request 2026-10) a link and milliseconds
+-- a link, a kind and its values; sample (request 2026-10) a link and milliseconds. The three calls on links are lent a buffer (request
+-- 2026-13)
 pub data Management : Type 0 where
   openSlot : ℕ → Opening → Management
   freeSlot : ℕ → Management
-  linkChange : ℕ → Bool → Management
-  linkMessage : ℕ → List ℕ → Management
-  linkSend : ℕ → Kind → List ℕ → Management
+  linkChange : ℕ → Bool → List ℕ → Management
+  linkMessage : ℕ → List ℕ → List ℕ → Management
+  linkSend : ℕ → Kind → List ℕ → List ℕ → Management
   sample : ℕ → ℕ → Management
 
 pub data Call : Type 0 where
@@ -131,8 +133,9 @@ pub data Says : Type 0 where
   heard : ℕ → State → Says
   reset : Says
   sampled : Health → Says
-  linkHeard : Fields → Fate → TakenUp → Says
-  linkSent : TakenUp → Says
+  linkChanged : ℕ → Says
+  linkHeard : Fields → Fate → TakenUp → ℕ → Says
+  linkSent : TakenUp → ℕ → Says
 
 -- 44 zeros stand in the place of a message where none is made
 pub record Answer : Type 0 where
@@ -195,8 +198,9 @@ inPieces pieces torn = torn
 inPieces pieces (heard moved state) = heard moved state
 inPieces pieces reset = reset
 inPieces pieces (sampled health) = sampled health
-inPieces pieces (linkHeard fields fate up) = linkHeard fields fate up
-inPieces pieces (linkSent up) = linkSent up
+inPieces pieces (linkChanged n) = linkChanged n
+inPieces pieces (linkHeard fields fate up n) = linkHeard fields fate up n
+inPieces pieces (linkSent up n) = linkSent up n
 
 abbrev pub answerInPieces : (ℕ → List Piece) → Answer → Answer
 answerInPieces pieces a = record { says = inPieces pieces (a .says); made = a .made; message = a .message; out = a .out }
@@ -333,32 +337,49 @@ freeDoes g k =
     let j = freeRefusal g k in
     cond (eqb j 0) (putTurn g k (plainTurn zeroRecord (elementIn g k))) (refuses g j [])
 
--- Link change: 13; it sets one link, and one that is set down loses its gauge, and ends an exchange that is run over it
-unfoldable pub linkDoes : Group → ℕ → Bool → Done
-linkDoes g l up =
-    cond (linkIn l) (record { answer = plain; group = withLinks g (changedOf (linksOf g) l up .after) }) (refuses g 13 [])
+-- FAILOVER (request 2026-13). "The three calls now test 1 first", and "1 covers a buffer under 44 x S bytes"; j: what they test then
+abbrev pub lentOk : Group → List ℕ → Bool
+lentOk g b = sizesOk g && leb (44 * g .S) (length b)
 
--- Link message: 13, 6, 4, 14, 15, and what the bytes are
-unfoldable pub linkMessageDoes : Group → ℕ → List ℕ → Done
-linkMessageDoes g l b =
-    let h = heardOf (linksOf g) l b in
-    cond (eqb (h .refusal) 0)
-    (record {
-      answer = record { says = linkHeard (h .fields) (h .fate) (h .settled .up); made = h .replies; message = h .reply; out = [] };
-      group = withLinks g (h .settled .after);
-    })
-    (refuses g (h .refusal) [])
+unfoldable pub linkRefusal : Group → List ℕ → ℕ → ℕ
+linkRefusal g b j = cond (lentOk g b) j 1
 
--- Link send: 13, 6, 14, 15, and the message made
-unfoldable pub linkSendDoes : Group → ℕ → Kind → List ℕ → Done
-linkSendDoes g l k vs =
+-- after a call's own work on the links, connections move, and the messages stand in the buffer b; the answer counts them
+unfoldable pub failsOver : Group → Links → List ℕ → (ℕ → Says) → Bool → List ℕ → Done
+failsOver g links b says made message =
+    let p = planOf (g .links) (links .active) in
+    record {
+      answer =
+          record {
+            says = says (countOf (g .N) p (g .table));
+            made = made;
+            message = message;
+            out = bufferLeft (messagesOf (g .N) p (g .table)) b;
+          };
+      group = groupOf (g .S) (g .N) (movedAll (g .N) p (g .table)) links (g .memory);
+    }
+
+-- Link change: 1, 13; it sets one link, and one that is set down loses its gauge, and ends an exchange that is run over it
+unfoldable pub linkDoes : Group → ℕ → Bool → List ℕ → Done
+linkDoes g l up b =
+    let j = linkRefusal g b (cond (linkIn l) 0 13) in
+    cond (eqb j 0) (failsOver g (changedOf (linksOf g) l up .after) b linkChanged false noMessage) (refuses g j b)
+
+-- Link message: 1, 13, 6, 4, 14, 15, and what the bytes are
+unfoldable pub linkMessageDoes : Group → ℕ → List ℕ → List ℕ → Done
+linkMessageDoes g l bytes b =
+    let h = heardOf (linksOf g) l bytes in
+    let j = linkRefusal g b (h .refusal) in
+    cond (eqb j 0)
+    (failsOver g (h .settled .after) b (linkHeard (h .fields) (h .fate) (h .settled .up)) (h .replies) (h .reply))
+    (refuses g j b)
+
+-- Link send: 1, 13, 6, 14, 15, and the message made
+unfoldable pub linkSendDoes : Group → ℕ → Kind → List ℕ → List ℕ → Done
+linkSendDoes g l k vs b =
     let h = sentOf (linksOf g) l k vs in
-    cond (eqb (h .refusal) 0)
-    (record {
-      answer = record { says = linkSent (h .settled .up); made = true; message = h .message; out = [] };
-      group = withLinks g (h .settled .after);
-    })
-    (refuses g (h .refusal) [])
+    let j = linkRefusal g b (h .refusal) in
+    cond (eqb j 0) (failsOver g (h .settled .after) b (linkSent (h .settled .up)) true (h .message)) (refuses g j b)
 
 -- Sample: 13, 6, 17 (above 60,000 milliseconds); 0: not refused
 unfoldable pub sampleRefusal : List Bool → ℕ → ℕ → ℕ
@@ -378,9 +399,9 @@ sampleDoes g l ms =
 abbrev pub manageDoes : Group → Management → Done
 manageDoes g (openSlot k o) = openDoes g k o
 manageDoes g (freeSlot k) = freeDoes g k
-manageDoes g (linkChange l up) = linkDoes g l up
-manageDoes g (linkMessage l b) = linkMessageDoes g l b
-manageDoes g (linkSend l k vs) = linkSendDoes g l k vs
+manageDoes g (linkChange l up b) = linkDoes g l up b
+manageDoes g (linkMessage l bytes b) = linkMessageDoes g l bytes b
+manageDoes g (linkSend l k vs b) = linkSendDoes g l k vs b
 manageDoes g (sample l ms) = sampleDoes g l ms
 
 abbrev pub does : Group → Call → Done

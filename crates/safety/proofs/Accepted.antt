@@ -1,7 +1,7 @@
 -- What `acceptedB` of specs/Statement says of an answer. Assumes nothing.
 use mathlib.Core.Path.{_≡_, refl}
 use mathlib.Core.Bool.{true, false≢true}
-use Rattle.rules.specs.Rules.{Says, refusal, accepted, sent, gathered, wasRead, torn, reset, heard, sampled, linkHeard, linkSent}
+use Rattle.rules.specs.Rules.{Says, refusal, accepted, sent, gathered, wasRead, torn, reset, heard, sampled, linkChanged, linkHeard, linkSent}
 use Rattle.safety.specs.Statement.{acceptedB}
 
 pub says-accepted : (s : Says) → acceptedB s ≡ true → s ≡ accepted
@@ -14,5 +14,6 @@ says-accepted torn e = absurd (false≢true e)
 says-accepted (heard moved state) e = absurd (false≢true e)
 says-accepted reset e = absurd (false≢true e)
 says-accepted (sampled q) e = absurd (false≢true e)
-says-accepted (linkHeard f t u) e = absurd (false≢true e)
-says-accepted (linkSent u) e = absurd (false≢true e)
+says-accepted (linkChanged n) e = absurd (false≢true e)
+says-accepted (linkHeard f t u n) e = absurd (false≢true e)
+says-accepted (linkSent u n) e = absurd (false≢true e)

@@ -15,17 +15,26 @@ use Rattle.element.proofs.Others.{fresh-length, fresh-intact}
 use Rattle.connection.specs.Connection.{coherentB, zeroRecord}
 use Rattle.connection.proofs.Laws.{and-left, and-right, opened-coherent}
 use Rattle.connection.specs.declared.Opening as Given
-use Rattle.rules.specs.Rules.{Group, Request, openSlot, freeSlot, linkChange, sample, Call, on, hear, manage, refusal, accepted, torn, reset, Turn, turnOf, requestTurn, hearTurn, Done, does, refuses, putTurn, recordOf, elementIn, linkOf}
+use Rattle.rules.specs.Rules.{Group, Request, openSlot, freeSlot, linkChange, sample, Call, on, hear, manage, refusal, accepted, torn, reset, Turn, turnOf, requestTurn, hearTurn, Done, does, refuses, putTurn, recordOf, elementIn, linkOf, linksOf}
 use Rattle.order.proofs.Records.{long-by}
 use Rattle.order.proofs.Near.{enough}
 use Rattle.order.proofs.Slots.{slot-in, open-in, element-long, Put, put}
 use Rattle.safety.specs.Statement.{OpenAt, acceptedB, changedBy}
 use Rattle.refusals.specs.Refusals.{lentOut}
 use Rattle.refusals.proofs.Answers.{clash}
-use Rattle.safety.proofs.Effects.{Openable, open-facts, openTurn, free-facts, freeTurn, Acts, asks, hears, opens, frees, Incoherent, Effect, refuses-it, links-it, samples-it, puts-turn, Quiet, relinked, resampled}
+use Rattle.safety.proofs.Effects.{Openable, open-facts, openTurn, free-facts, freeTurn, Acts, asks, hears, opens, frees, Incoherent, Effect, refuses-it, links-it, samples-it, puts-turn, Quiet, resampled}
 use Rattle.linktheorems.specs.Statements.{Call as LinkCall}
 use Rattle.safety.specs.Links.{callOf}
 use Rattle.safety.proofs.Effects
+use Rattle.connection.specs.declared.Record.{Record}
+use Rattle.table.specs.declared.Links.{Links}
+use Rattle.failover.specs.declared.Plan.{Plan}
+use Rattle.failover.specs.Failover.{planOf, movedOf, movedAll}
+use Rattle.failover.proofs.Keeps.{moved-keeps, moved-at}
+use Rattle.table.specs.Table.{recordAt}
+use Rattle.failover.proofs.Still.{moved-coherent, plan-most}
+use Rattle.linktheorems.specs.Statements as Link
+use Rattle.safety.specs.Links.{relinked}
 use Rattle.safety.proofs.Invariant.{Sound, no-slot-0, sizes}
 use Rattle.safety.proofs.Turns.{Kept, same, request, heard}
 
@@ -39,11 +48,12 @@ pub record Opening (g : Group) (c : Call) (k : ℕ) (x : Done) : Type 0 where
 abbrev heldBy : Group → Call → Done → ℕ → List ℕ → List ℕ
 heldBy g c x k e = cond (acceptedB (x .answer .says)) (changedBy (g .N) k c e) e
 
--- no slot is touched
+-- no slot is touched, but that its link may be another (request 2026-13)
 pub record Untouched (g : Group) (c : Call) (x : Done) : Type 0 where
   pub same-S : x .group .S ≡ g .S
   pub same-N : x .group .N ≡ g .N
-  pub same-table : x .group .table ≡ g .table
+  pub same-open : (j : ℕ) → recordOf (x .group) j .id .opened ≡ recordOf g j .id .opened
+  pub still-coherent : (j : ℕ) → coherentB (g .N) (recordOf g j) ≡ true → coherentB (g .N) (recordOf (x .group) j) ≡ true
   pub same-memory : x .group .memory ≡ g .memory
   pub same-held : (k : ℕ) (e : List ℕ) → heldBy g c x k e ≡ e
 
@@ -67,7 +77,7 @@ module _ (g : Group) (s : Sound g) where
   unfolding refuses
   refused c n out h =
       record {
-        effect = inl (record { same-S = refl; same-N = refl; same-table = refl; same-memory = refl; same-held = λ k e. refl });
+        effect = inl (record { same-S = refl; same-N = refl; same-open = λ j. refl; still-coherent = λ j e. e; same-memory = refl; same-held = λ k e. refl });
         not-3 = λ e. let w = h (cc) in not-here (w .0) (w .1) (w .2);
         not-torn = λ e. clash (cc);
       }
@@ -76,16 +86,21 @@ module _ (g : Group) (s : Sound g) where
       not-here zero o e = no-slot-0 g o
       not-here (suc i) o e = false≢true (sym e ∙ s .coherent i o)
 
-  -- a call on the links touches no slot
-  aside : (c : Call) (x : Done) (k : LinkCall) → c ≡ callOf k → Quiet (x .answer .says) → x .group ≡ relinked g k → Does g c x
-  aside c x k p a r =
+  -- a call on the links touches no slot, but that connections may move
+  aside : (c : Call) (x : Done) (k : LinkCall) (b : List ℕ) → c ≡ callOf k b → Quiet (x .answer .says) → x .group ≡ relinked g k → Does g c x
+  aside c x k b p a r =
       record {
         effect =
             inl
             (record {
               same-S = ap (λ (h : Group). h .S) r;
               same-N = ap (λ (h : Group). h .N) r;
-              same-table = ap (λ (h : Group). h .table) r;
+              same-open = λ j. ap (λ (h : Group). recordOf h j .id .opened) r ∙ ap (λ (c : Record). c .id .opened) (here j) ∙ moved-keeps (g .N) plan (recordOf g j) .opened;
+              still-coherent =
+                  λ j e.
+                  ap (λ (h : Group). coherentB (g .N) (recordOf h j)) r
+                  ∙ ap (coherentB (g .N)) (here j)
+                  ∙ moved-coherent (g .N) plan (recordOf g j) (plan-most (g .links) (after .active)) e;
               same-memory = ap (λ (h : Group). h .memory) r;
               same-held = λ s e. rw p (held k s e (acceptedB (x .answer .says)));
             });
@@ -93,15 +108,24 @@ module _ (g : Group) (s : Sound g) where
         not-torn = a .not-torn;
       }
     where
-      held : (k : LinkCall) (s : ℕ) (e : List ℕ) (t : Bool) → cond t (changedBy (g .N) s (callOf k) e) e ≡ e
+      after : Links
+      after = Link.next (linksOf g) k
+
+      plan : Plan
+      plan = planOf (g .links) (after .active)
+
+      here : (j : ℕ) → recordAt (movedAll (g .N) plan (g .table)) j ≡ movedOf (g .N) plan (recordOf g j)
+      here j = moved-at (g .N) plan (g .table) j
+
+      held : (k : LinkCall) (s : ℕ) (e : List ℕ) (t : Bool) → cond t (changedBy (g .N) s (callOf k b) e) e ≡ e
       held (LinkCall.change l up) s e t = same t e
-      held (LinkCall.message l b) s e t = same t e
+      held (LinkCall.message l bytes) s e t = same t e
       held (LinkCall.send l i vs) s e t = same t e
 
   sampled-aside : (l ms : ℕ) → Does g (manage (sample l ms)) (resampled g l ms)
   sampled-aside l ms =
       record {
-        effect = inl (record { same-S = refl; same-N = refl; same-table = refl; same-memory = refl; same-held = λ k e. refl });
+        effect = inl (record { same-S = refl; same-N = refl; same-open = λ j. refl; still-coherent = λ j e. e; same-memory = refl; same-held = λ k e. refl });
         not-3 = λ e. clash (cc);
         not-torn = λ e. clash (cc);
       }
@@ -207,6 +231,6 @@ module _ (g : Group) (s : Sound g) where
     where
       go : (x : Done) → Effect g c x → Does g c x
       go x (refuses-it n h e) = rw e (refused c n (lentOut c) h)
-      go x (links-it k p a e) = aside c x k p a e
+      go x (links-it k b p a e) = aside c x k b p a e
       go x (samples-it l ms p z e) = rw (p, e) (sampled-aside l ms)
       go x (puts-turn k t z a e) = rw e (acts-does c k t a)

@@ -68,7 +68,7 @@ module _ (n k : ℕ) (e : List ℕ) where
   changes (hear b) = stays (λ given p. clash (cc)) (λ at b p. clash (cc)) refl
   changes (manage (openSlot j given)) = opening j given
   changes (manage (freeSlot j)) = stays (λ given p. clash (cc)) (λ at b p. clash (cc)) refl
-  changes (manage (linkChange l up)) = stays (λ given p. clash (cc)) (λ at b p. clash (cc)) refl
-  changes (manage (linkMessage l b)) = stays (λ given p. clash (cc)) (λ at b p. clash (cc)) refl
-  changes (manage (linkSend l i vs)) = stays (λ given p. clash (cc)) (λ at b p. clash (cc)) refl
+  changes (manage (linkChange l up o)) = stays (λ given p. clash (cc)) (λ at b p. clash (cc)) refl
+  changes (manage (linkMessage l b o)) = stays (λ given p. clash (cc)) (λ at b p. clash (cc)) refl
+  changes (manage (linkSend l i vs o)) = stays (λ given p. clash (cc)) (λ at b p. clash (cc)) refl
   changes (manage (sample l ms)) = stays (λ given p. clash (cc)) (λ at b p. clash (cc)) refl

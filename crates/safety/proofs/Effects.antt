@@ -19,7 +19,7 @@ use Rattle.gauge.specs.Gauge.{mostMs, sampledOf}
 use Rattle.connection.specs.declared.Opening as Given
 use Rattle.connection.specs.Connection.{openedRecord}
 use Rattle.table.specs.Table.{linkIn}
-use Rattle.rules.specs.Rules.{plainTurn, badOpening, Group, Request, openSlot, freeSlot, linkChange, linkMessage, linkSend, sample, Call, on, hear, manage, Says, refusal, torn, linkHeard, linkSent, Turn, requestTurn, hearTurn, Done, does, answer, refuses, putTurn, recordOf, elementIn, linkOf, sizesOk, outOf, onDoes, holderOf, hearAt, hearMessage, hearDoes, plain, openRefusal, openDoes, freeRefusal, freeDoes, linkDoes, linkMessageDoes, linkSendDoes, linksOf, withLinks, healthy, sampleRefusal, sampleDoes}
+use Rattle.rules.specs.Rules.{plainTurn, badOpening, Group, Request, openSlot, freeSlot, linkChange, linkMessage, linkSend, sample, Call, on, hear, manage, Says, refusal, torn, linkChanged, linkHeard, linkSent, Turn, requestTurn, hearTurn, Done, does, answer, refuses, putTurn, recordOf, elementIn, linkOf, sizesOk, outOf, onDoes, holderOf, hearAt, hearMessage, hearDoes, plain, openRefusal, openDoes, freeRefusal, freeDoes, lentOk, linkRefusal, failsOver, linkDoes, linkMessageDoes, linkSendDoes, linksOf, withLinks, healthy, sampleRefusal, sampleDoes}
 use Rattle.table.specs.Table.{slotB, openB, activeB, gaugeAt, findFrom, gaugeSet}
 use Rattle.table.specs.declared.Links.{Links}
 use Rattle.llcfields.specs.declared.Kind.{Kind}
@@ -35,7 +35,8 @@ use Rattle.linktheorems.specs.Statements.{Call as LinkCall}
 use Rattle.order.proofs.Slots.{found-open}
 use Rattle.safety.specs.Statement.{OpenAt, ownOf}
 use Rattle.refusals.specs.Refusals.{lentOut}
-use Rattle.safety.specs.Links.{callOf}
+use Rattle.safety.specs.Links.{callOf, relinked}
+use Rattle.outcome.specs.Outcome.{noMessage}
 use Rattle.refusals.proofs.Answers.{clash}
 
 -- the turn of an accepted open, and that of an accepted free
@@ -54,10 +55,7 @@ pub data Acts (g : Group) (c : Call) (k : ℕ) (t : Turn) : Type 0 where
       → t ≡ openTurn g given → Acts g c k t
   frees : c ≡ manage (freeSlot k) → freeRefusal g k ≡ 0 → t ≡ freeTurn g k → Acts g c k t
 
--- what a call on the links leaves, and what it says where it is not refused
-abbrev pub relinked : Group → LinkCall → Group
-relinked g k = withLinks g (Link.next (linksOf g) k)
-
+-- what a call on the links says where it is not refused
 pub record Quiet (says : Says) : Type 0 where
   pub not-refused : (n : ℕ) → says ≡ refusal n → ⊥
   pub not-torn : says ≡ torn → ⊥
@@ -76,7 +74,7 @@ Incoherent g n = n ≡ 3 → (k : ℕ) × OpenAt g k × (coherentB (g .N) (recor
 
 pub data Effect (g : Group) (c : Call) (x : Done) : Type 0 where
   refuses-it : (n : ℕ) → Incoherent g n → x ≡ refuses g n (lentOut c) → Effect g c x
-  links-it : (k : LinkCall) → c ≡ callOf k → Quiet (x .answer .says) → x .group ≡ relinked g k → Effect g c x
+  links-it : (k : LinkCall) (b : List ℕ) → c ≡ callOf k b → Quiet (x .answer .says) → x .group ≡ relinked g k → Effect g c x
   samples-it : (l ms : ℕ) → c ≡ manage (sample l ms) → sampleRefusal (g .links) l ms ≡ 0 → x ≡ resampled g l ms → Effect g c x
   puts-turn : (k : ℕ) (t : Turn) → sizesOk g ≡ true → Acts g c k t → x ≡ putTurn g k t → Effect g c x
 
@@ -238,6 +236,14 @@ send-3 ls l k vs = go (eqb j 0) .is
     go true = this-3 0 refl
     go false = number-3
 
+-- and 1 first
+change-3 : (l : ℕ) → eqb (cond (linkIn l) 0 13) 3 ≡ false
+change-3 l = either-3 (linkIn l) 0 13 (this-3 0 refl) (this-3 13 refl) .is
+
+lent-3 : (g : Group) (b : List ℕ) (j : ℕ) → eqb j 3 ≡ false → eqb (linkRefusal g b j) 3 ≡ false
+unfolding linkRefusal
+lent-3 g b j e = either-3 (lentOk g b) j 1 (this-3 j e) (this-3 1 refl) .is
+
 module _ (g : Group) where
   not3 : (n : ℕ) → eqb n 3 ≡ false → Incoherent g n
   not3 n h = number g n h .incoherent
@@ -269,7 +275,7 @@ module _ (g : Group) where
   heard b s Malformed e = refuses-it 4 (not3 4 refl) refl
 
   pub effect : (c : Call) → Effect g c (does g c)
-  unfolding onDoes hearDoes openDoes freeDoes linkDoes linkMessageDoes linkSendDoes sampleDoes
+  unfolding onDoes hearDoes openDoes freeDoes failsOver linkDoes linkMessageDoes linkSendDoes sampleDoes
   effect (on k q) = asked k q (sizesOk g) (openB (g .S) (g .table) k) refl refl
   effect (hear b) = go (sizesOk g) refl
     where
@@ -291,42 +297,36 @@ module _ (g : Group) where
           → Effect g (manage (freeSlot k)) (cond z (putTurn g k (freeTurn g k)) (refuses g (freeRefusal g k) []))
       go true e = let no = eqb-true (freeRefusal g k) 0 e in puts-turn k _ (free-facts g k no .sizes) (frees refl no refl) refl
       go false e = refuses-it (freeRefusal g k) (free-3 g k) refl
-  effect (manage (linkChange l up)) = go (linkIn l)
+  effect (manage (linkChange l up b)) = go (eqb (linkRefusal g b (cond (linkIn l) 0 13)) 0)
     where
       go : (z : Bool)
-          → Effect g (manage (linkChange l up)) (cond z (record { answer = plain; group = relinked g (LinkCall.change l up) }) (refuses g 13 []))
-      go true = links-it (LinkCall.change l up) refl (record { not-refused = λ n e. clash (cc); not-torn = λ e. clash (cc) }) refl
-      go false = refuses-it 13 (not3 13 refl) refl
-  effect (manage (linkMessage l b)) = go (eqb (heardOf (linksOf g) l b .refusal) 0)
+          → Effect g (manage (linkChange l up b))
+          (cond z (failsOver g (Link.next (linksOf g) (LinkCall.change l up)) b linkChanged false noMessage)
+          (refuses g (linkRefusal g b (cond (linkIn l) 0 13)) b))
+      go true = links-it (LinkCall.change l up) b refl (record { not-refused = λ n e. clash (cc); not-torn = λ e. clash (cc) }) refl
+      go false = refuses-it _ (not3 _ (lent-3 g b _ (change-3 l))) refl
+  effect (manage (linkMessage l bytes b)) = go (eqb (linkRefusal g b (heardOf (linksOf g) l bytes .refusal)) 0)
     where
       h : Heard
-      h = heardOf (linksOf g) l b
+      h = heardOf (linksOf g) l bytes
 
       go : (z : Bool)
-          → Effect g (manage (linkMessage l b))
-          (cond z
-          (record {
-            answer = record { says = linkHeard (h .fields) (h .fate) (h .settled .up); made = h .replies; message = h .reply; out = [] };
-            group = relinked g (LinkCall.message l b);
-          })
-          (refuses g (h .refusal) []))
-      go true = links-it (LinkCall.message l b) refl (record { not-refused = λ n e. clash (cc); not-torn = λ e. clash (cc) }) refl
-      go false = refuses-it (h .refusal) (not3 _ (message-3 (linksOf g) l b)) refl
-  effect (manage (linkSend l k vs)) = go (eqb (sentOf (linksOf g) l k vs .refusal) 0)
+          → Effect g (manage (linkMessage l bytes b))
+          (cond z (failsOver g (Link.next (linksOf g) (LinkCall.message l bytes)) b (linkHeard (h .fields) (h .fate) (h .settled .up)) (h .replies) (h .reply))
+          (refuses g (linkRefusal g b (h .refusal)) b))
+      go true = links-it (LinkCall.message l bytes) b refl (record { not-refused = λ n e. clash (cc); not-torn = λ e. clash (cc) }) refl
+      go false = refuses-it _ (not3 _ (lent-3 g b _ (message-3 (linksOf g) l bytes))) refl
+  effect (manage (linkSend l k vs b)) = go (eqb (linkRefusal g b (sentOf (linksOf g) l k vs .refusal)) 0)
     where
       h : Sent
       h = sentOf (linksOf g) l k vs
 
       go : (z : Bool)
-          → Effect g (manage (linkSend l k vs))
-          (cond z
-          (record {
-            answer = record { says = linkSent (h .settled .up); made = true; message = h .message; out = [] };
-            group = relinked g (LinkCall.send l k vs);
-          })
-          (refuses g (h .refusal) []))
-      go true = links-it (LinkCall.send l k vs) refl (record { not-refused = λ n e. clash (cc); not-torn = λ e. clash (cc) }) refl
-      go false = refuses-it (h .refusal) (not3 _ (send-3 (linksOf g) l k vs)) refl
+          → Effect g (manage (linkSend l k vs b))
+          (cond z (failsOver g (Link.next (linksOf g) (LinkCall.send l k vs)) b (linkSent (h .settled .up)) true (h .message))
+          (refuses g (linkRefusal g b (h .refusal)) b))
+      go true = links-it (LinkCall.send l k vs) b refl (record { not-refused = λ n e. clash (cc); not-torn = λ e. clash (cc) }) refl
+      go false = refuses-it _ (not3 _ (lent-3 g b _ (send-3 (linksOf g) l k vs))) refl
   effect (manage (sample l ms)) = go (eqb (sampleRefusal (g .links) l ms) 0) refl
     where
       never-3 : Incoherent g (sampleRefusal (g .links) l ms)

@@ -19,3 +19,4 @@ pub mod Own
 pub mod Theorem
 pub mod Progress
 pub mod Dropped
+pub mod Failing

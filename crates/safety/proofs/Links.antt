@@ -19,42 +19,65 @@ use Rattle.table.specs.Table.{openB, linkIn, gaugeAt}
 use Rattle.linkcalls.specs.Calls.{unchanged, changedOf, heardOf, sentOf}
 use Rattle.linktheorems.specs.Statements.{Call as LinkCall}
 use Rattle.linktheorems.proofs.Theorems.{refused-keeps}
-use Rattle.rules.specs.Rules.{Group, openSlot, freeSlot, linkChange, linkMessage, linkSend, sample, Call, on, hear, manage, Answer, Turn, Done, does, refuses, putTurn, outOf, sizesOk, onDoes, hearAt, hearMessage, hearDoes, openRefusal, openDoes, freeRefusal, freeDoes, linkDoes, linkMessageDoes, linkSendDoes, sampleRefusal, sampleDoes, linksOf, withLinks}
+use Rattle.rules.specs.Rules.{Group, openSlot, freeSlot, linkChange, linkMessage, linkSend, sample, Call, on, hear, manage, Answer, Turn, Done, does, refuses, putTurn, outOf, sizesOk, onDoes, hearAt, hearMessage, hearDoes, openRefusal, openDoes, freeRefusal, freeDoes, lentOk, linkRefusal, failsOver, linkDoes, linkMessageDoes, linkSendDoes, sampleRefusal, sampleDoes, Says, linksOf, withLinks, groupOf}
+use native.Mathlib.Omega.{arith}
+use Rattle.connection.specs.declared.Record.{Record}
+use Rattle.failover.specs.Failover.{planOf, movedAll}
+use Rattle.failover.proofs.Still.{still-moved, same-still}
 use Rattle.safety.specs.Links.{callOf, LinkCallsLeave, KeepsLinks, OthersKeep, Other, SameButExchange, ExchangeUnread}
 use Rattle.safety.proofs.Effects.{Effect, refuses-it, links-it, samples-it, puts-turn, effect}
 
--- 1. what is left, refused or not
-either-left : (g : Group) (a : Answer) (ls : Links) (k : ℕ) (t : Bool) → (t ≡ false → ls ≡ linksOf g)
-    → cond t (record { answer = a; group = withLinks g ls }) (refuses g k []) .group ≡ withLinks g ls
-unfolding refuses
-either-left g a ls k true h = refl
-either-left g a ls k false h = ap (withLinks g) (sym (h refl))
+-- 1. what is left, refused or not: links that are as they were move nothing
+still-here : (g : Group) (ls : Links) → ls ≡ linksOf g
+    → groupOf (g .S) (g .N) (movedAll (g .N) (planOf (g .links) (ls .active)) (g .table)) ls (g .memory) ≡ g
+still-here g ls e =
+    ap (λ (l : Links). groupOf (g .S) (g .N) (movedAll (g .N) (planOf (g .links) (l .active)) (g .table)) l (g .memory)) e
+    ∙ ap (λ (t : List Record). groupOf (g .S) (g .N) t (linksOf g) (g .memory))
+    (sym (still-moved (planOf (g .links) (g .links)) (g .N) (g .table) (same-still (g .links))))
 
-change-kept : (ls : Links) (l : ℕ) (up : Bool) → linkIn l ≡ false → changedOf ls l up .after ≡ ls
+either-left : (g : Group) (b : List ℕ) (ls : Links) (says : ℕ → Says) (made : Bool) (message : List ℕ) (j : ℕ)
+    → (eqb j 0 ≡ false → ls ≡ linksOf g) → (ok : Bool) → lentOk g b ≡ ok
+    → cond (eqb (cond ok j 1) 0) (failsOver g ls b says made message) (refuses g (cond ok j 1) b) .group
+    ≡ cond ok (groupOf (g .S) (g .N) (movedAll (g .N) (planOf (g .links) (ls .active)) (g .table)) ls (g .memory)) g
+unfolding refuses failsOver
+either-left g b ls says made message j h false e = refl
+either-left g b ls says made message j h true e = go (eqb j 0) refl
+  where
+    go : (t : Bool) → eqb j 0 ≡ t
+        → cond t (failsOver g ls b says made message) (refuses g j b) .group
+        ≡ groupOf (g .S) (g .N) (movedAll (g .N) (planOf (g .links) (ls .active)) (g .table)) ls (g .memory)
+    go true f = refl
+    go false f = sym (still-here g ls (h f))
+
+change-kept : (ls : Links) (l : ℕ) (up : Bool) → eqb (cond (linkIn l) 0 13) 0 ≡ false → changedOf ls l up .after ≡ ls
 unfolding changedOf unchanged
-change-kept ls l up e = rw e
+change-kept ls l up = go (linkIn l) refl
+  where
+    go : (t : Bool) → linkIn l ≡ t → eqb (cond t 0 13) 0 ≡ false → changedOf ls l up .after ≡ ls
+    go true f e = let z : _≡_ {A = ℕ} 0 1 = cc in absurd (omega arith)
+    go false f e = rw f
 
 pub link-calls-leave : LinkCallsLeave
-unfolding linkDoes linkMessageDoes linkSendDoes
-link-calls-leave g (LinkCall.change l up) =
-    either-left g _ (changedOf (linksOf g) l up .after) 13 (linkIn l) (λ e. change-kept (linksOf g) l up e)
-link-calls-leave g (LinkCall.message l b) =
-    let r = heardOf (linksOf g) l b .refusal in
-    either-left g _ (heardOf (linksOf g) l b .settled .after) r (eqb r 0)
-    (λ e. refused-keeps (linksOf g) l b ConfirmLink [] .0 .kept (eqb-false r 0 e))
-link-calls-leave g (LinkCall.send l k vs) =
+unfolding linkRefusal linkDoes linkMessageDoes linkSendDoes
+link-calls-leave g (LinkCall.change l up) b =
+    either-left g b (changedOf (linksOf g) l up .after) _ _ _ (cond (linkIn l) 0 13) (change-kept (linksOf g) l up) (lentOk g b) refl
+link-calls-leave g (LinkCall.message l bytes) b =
+    let r = heardOf (linksOf g) l bytes .refusal in
+    either-left g b (heardOf (linksOf g) l bytes .settled .after) _ _ _ r
+    (λ e. refused-keeps (linksOf g) l bytes ConfirmLink [] .0 .kept (eqb-false r 0 e)) (lentOk g b) refl
+link-calls-leave g (LinkCall.send l k vs) b =
     let r = sentOf (linksOf g) l k vs .refusal in
-    either-left g _ (sentOf (linksOf g) l k vs .settled .after) r (eqb r 0)
-    (λ e. refused-keeps (linksOf g) l [] k vs .1 .kept (eqb-false r 0 e))
+    either-left g b (sentOf (linksOf g) l k vs .settled .after) _ _ _ r
+    (λ e. refused-keeps (linksOf g) l [] k vs .1 .kept (eqb-false r 0 e)) (lentOk g b) refl
 
 -- 2. who leaves them
 pub others-keep : OthersKeep
 unfolding refuses putTurn
 others-keep g c = go (does g c) (effect g c)
   where
-    go : (x : Done) → Effect g c x → KeepsLinks g (x .group) ⊎ ((k : LinkCall) × (c ≡ callOf k))
+    go : (x : Done) → Effect g c x → KeepsLinks g (x .group) ⊎ ((k : LinkCall) × (b : List ℕ) × (c ≡ callOf k b))
     go x (refuses-it n h e) = inl (rw e (record { same-links = refl; same-role = refl; same-exchange = refl; same-queue = refl }))
-    go x (links-it k p a e) = inr (k, p)
+    go x (links-it k b p a e) = inr (k, b, p)
     go x (samples-it l ms p z e) = inl (rw e (record { same-links = refl; same-role = refl; same-exchange = refl; same-queue = refl }))
     go x (puts-turn k t s a e) = inl (rw e (record { same-links = refl; same-role = refl; same-exchange = refl; same-queue = refl }))
 
@@ -99,9 +122,9 @@ module _ (g : Group) (r : Role) (e : Exchange) (w : Queue) where
   alike (hear b) d = by-test (sizesOk g) _ _ _ _ (heard (decodeOf b)) (refused 1 [])
   alike (manage (openSlot k o)) d = by-test (eqb (openRefusal g k o) 0) _ _ _ _ (turned k _) (refused (openRefusal g k o) [])
   alike (manage (freeSlot k)) d = by-test (eqb (freeRefusal g k) 0) _ _ _ _ (turned k _) (refused (freeRefusal g k) [])
-  alike (manage (linkChange l up)) d = absurd d
-  alike (manage (linkMessage l b)) d = absurd d
-  alike (manage (linkSend l k vs)) d = absurd d
+  alike (manage (linkChange l up b)) d = absurd d
+  alike (manage (linkMessage l bytes b)) d = absurd d
+  alike (manage (linkSend l k vs b)) d = absurd d
   alike (manage (sample l ms)) d =
       by-test (eqb (sampleRefusal (g .links) l ms) 0) _ _ _ _
       (record {

@@ -8,7 +8,6 @@ use native.Mathlib.Decide.{ℕ-discrete}
 use Rattle.element.specs.Element.{elementOf, intactB}
 use Rattle.connection.specs.Connection.{coherentB, zeroRecord}
 use Rattle.rules.specs.Rules.{Group, Call, on, hear, manage, Turn, does, next, recordOf, elementIn, Fresh}
-use Rattle.table.specs.Table.{recordAt}
 use Rattle.order.proofs.Slots.{open-in, open-is}
 use Rattle.order.proofs.Near as near
 use Rattle.order.proofs.Management.{manage-good}
@@ -77,8 +76,10 @@ module _ (g : Group) (s : Sound g) (c : Call) where
 
       go : Untouched g c (does g c) ⊎ ((i : ℕ) × (t : Turn) × Turned g c (does g c) i t) → As-was j ⊎ Anew j
       go (inl u) =
-          inl (as-was j (u .same-S) (ap (λ t. recordAt t (suc j)) (u .same-table))
-          (λ x. elementOf (u .same-N x) (suc j) (u .same-memory x)) o)
+          let w = open-in (h .S) (h .table) (suc j) o in
+          let was = open-is (g .S) (g .table) (suc j) (rw (u .same-S) at (w .slot)) (sym (u .same-open (suc j)) ∙ w .is-open) in
+          let same : elementIn h (suc j) ≡ elementIn g (suc j) = λ x. elementOf (u .same-N x) (suc j) (u .same-memory x) in
+          inr (u .still-coherent (suc j) (s .coherent j was), ap intactB same ∙ s .intact j was, inl was)
       go (inr w) = by (w .0) (w .1) (w .2) (ℕ-discrete j (w .0))
 
   -- what is open after a call was open before, or the call opened it

@@ -8,20 +8,28 @@ use mathlib.Core.Logic.{_⊎_}
 use mathlib.Core.List.{List}
 use Rattle.linktheorems.specs.Statements as Link
 use Rattle.linktheorems.specs.Statements.{Call as LinkCall}
-use Rattle.rules.specs.Rules.{Group, Management, openSlot, freeSlot, linkChange, linkMessage, linkSend, sample, Call, on, hear, manage, answer, next, linksOf, withLinks}
+use Rattle.rules.specs.Rules.{Group, Management, openSlot, freeSlot, linkChange, linkMessage, linkSend, sample, Call, on, hear, manage, answer, next, linksOf, groupOf, lentOk}
+use mathlib.Core.Bool.{cond}
+use Rattle.failover.specs.Failover.{planOf, movedAll}
 
--- the desk call that a call on links is
-abbrev pub deskOf : LinkCall → Management
-deskOf (LinkCall.change l up) = linkChange l up
-deskOf (LinkCall.message l b) = linkMessage l b
-deskOf (LinkCall.send l k vs) = linkSend l k vs
+-- the desk call that a call on links is, with the buffer b (request 2026-13)
+abbrev pub deskOf : LinkCall → List ℕ → Management
+deskOf (LinkCall.change l up) b = linkChange l up b
+deskOf (LinkCall.message l bytes) b = linkMessage l bytes b
+deskOf (LinkCall.send l k vs) b = linkSend l k vs b
 
-abbrev pub callOf : LinkCall → Call
-callOf k = manage (deskOf k)
+abbrev pub callOf : LinkCall → List ℕ → Call
+callOf k b = manage (deskOf k b)
 
--- 1. It leaves the group as it was, with the links that it leaves of them, refused or not
+-- 1. Where 1 does not refuse it, it leaves the links that it leaves of them, refused or not; of each record at most its link is another,
+-- as failover says (`movedOf`); and all else as it was
+abbrev pub relinked : Group → LinkCall → Group
+relinked g k =
+    let ls = Link.next (linksOf g) k in
+    groupOf (g .S) (g .N) (movedAll (g .N) (planOf (g .links) (ls .active)) (g .table)) ls (g .memory)
+
 abbrev pub LinkCallsLeave : Type 0
-LinkCallsLeave = (g : Group) (k : LinkCall) → next g (callOf k) ≡ withLinks g (Link.next (linksOf g) k)
+LinkCallsLeave = (g : Group) (k : LinkCall) (b : List ℕ) → next g (callOf k b) ≡ cond (lentOk g b) (relinked g k) g
 
 -- 2. Every other call leaves the links, the role, the exchange and the queue
 pub record KeepsLinks (g h : Group) : Type 0 where
@@ -31,7 +39,7 @@ pub record KeepsLinks (g h : Group) : Type 0 where
   pub same-queue : h .queue ≡ g .queue
 
 abbrev pub OthersKeep : Type 0
-OthersKeep = (g : Group) (c : Call) → KeepsLinks g (next g c) ⊎ ((k : LinkCall) × (c ≡ callOf k))
+OthersKeep = (g : Group) (c : Call) → KeepsLinks g (next g c) ⊎ ((k : LinkCall) × (b : List ℕ) × (c ≡ callOf k b))
 
 -- 3. and reads neither role, exchange nor queue
 abbrev pub Other : Call → Type 0
@@ -39,9 +47,9 @@ Other (on k q) = Unit {0}
 Other (hear b) = Unit {0}
 Other (manage (openSlot k o)) = Unit {0}
 Other (manage (freeSlot k)) = Unit {0}
-Other (manage (linkChange l up)) = ⊥
-Other (manage (linkMessage l b)) = ⊥
-Other (manage (linkSend l k vs)) = ⊥
+Other (manage (linkChange l up b)) = ⊥
+Other (manage (linkMessage l bytes b)) = ⊥
+Other (manage (linkSend l k vs b)) = ⊥
 Other (manage (sample l ms)) = Unit {0}
 
 -- two groups that differ in these alone

@@ -18,7 +18,7 @@ use Rattle.transmit.specs.Transmit.{Within}
 use Rattle.produced.specs.Produced.{sendForbids}
 use Rattle.receive.specs.Receive.{readForbids, unreadOf}
 use Rattle.table.specs.Table.{slotB, openB}
-use Rattle.rules.specs.Rules.{Group, Request, send, gather, urgent, place, read, shutdown, close, abort, openSlot, freeSlot, linkChange, linkMessage, linkSend, sample, Call, on, hear, manage, Says, refusal, accepted, sent, gathered, wasRead, torn, reset, heard, sampled, linkHeard, linkSent, Answer, answer, next, sizesOk, recordOf, elementIn, linkOf, holderOf, Fresh}
+use Rattle.rules.specs.Rules.{Group, Request, send, gather, urgent, place, read, shutdown, close, abort, openSlot, freeSlot, linkChange, linkMessage, linkSend, sample, Call, on, hear, manage, Says, refusal, accepted, sent, gathered, wasRead, torn, reset, heard, sampled, linkChanged, linkHeard, linkSent, Answer, answer, next, sizesOk, recordOf, elementIn, linkOf, holderOf, Fresh}
 use Rattle.order.specs.Statement.{leaves, At}
 
 -- whatever calls are made of a fresh group, this holds of the group that they leave
@@ -71,8 +71,9 @@ acceptedB torn = false
 acceptedB (heard moved state) = false
 acceptedB reset = false
 acceptedB (sampled q) = false
-acceptedB (linkHeard f t u) = false
-acceptedB (linkSent u) = false
+acceptedB (linkChanged n) = false
+acceptedB (linkHeard f t u n) = false
+acceptedB (linkSent u n) = false
 
 abbrev pub placedBy : Request → List ℕ → List ℕ
 placedBy (send b) e = e
@@ -89,9 +90,9 @@ changedBy N k (on j q) e = cond (eqb j k) (placedBy q e) e
 changedBy N k (hear b) e = e
 changedBy N k (manage (openSlot j o)) e = cond (eqb j k) (freshElement N) e
 changedBy N k (manage (freeSlot j)) e = e
-changedBy N k (manage (linkChange l up)) e = e
-changedBy N k (manage (linkMessage l b)) e = e
-changedBy N k (manage (linkSend l i vs)) e = e
+changedBy N k (manage (linkChange l up b)) e = e
+changedBy N k (manage (linkMessage l bytes b)) e = e
+changedBy N k (manage (linkSend l i vs b)) e = e
 changedBy N k (manage (sample l ms)) e = e
 
 -- one call on, from the bytes e

@@ -12,6 +12,7 @@ use Rattle.flat.specs.declared.FlatLinks.{FlatLinks}
 use Rattle.flat.specs.declared.FlatView.{FlatView}
 use Rattle.flat_gather.specs.declared.FlatPiece.{FlatPiece}
 use Rattle.flat_link.specs.declared.FlatLinkAnswer.{FlatLinkAnswer}
+use Rattle.flat_link.specs.declared.FlatLinkCommand.{FlatLinkCommand}
 use Rattle.flat_pool.specs.declared.PoolAnswer.{PoolAnswer}
 use Rattle.flat_setup.specs.declared.SetupAnswer.{SetupAnswer}
 use Rattle.setup.specs.declared.Settings.{Settings}
@@ -164,39 +165,50 @@ shapeLinks one =
       };
     }
 
-abbrev pub shapeCommand : ℕ → FlatCommand
-shapeCommand one =
+abbrev pub shapeCommand : FlatCommand
+shapeCommand =
     record {
       number = ends32 1;
       slot = ends32 2;
       offset = ends32 3;
       ms = ends32 4;
       link = 5;
-      up = eqb one 6;
       opening = record {
-        own = ends32 7;
-        peer = ends32 8;
-        link = 9;
+        own = ends32 6;
+        peer = ends32 7;
+        link = 8;
         remote = record {
-          size = ends32 10;
-          index = ends32 11;
+          size = ends32 9;
+          index = ends32 10;
           link1 = record {
-            key = ends32 12;
-            base = ends64 13;
+            key = ends32 11;
+            base = ends64 12;
           };
           link2 = record {
-            key = ends32 14;
-            base = ends64 15;
+            key = ends32 13;
+            base = ends64 14;
           };
           link3 = record {
-            key = ends32 16;
-            base = ends64 17;
+            key = ends32 15;
+            base = ends64 16;
           };
           link4 = record {
-            key = ends32 18;
-            base = ends64 19;
+            key = ends32 17;
+            base = ends64 18;
           };
         };
+      };
+    }
+
+abbrev pub shapeLinkCommand : ℕ → FlatLinkCommand
+shapeLinkCommand one =
+    record {
+      number = ends32 1;
+      link = 2;
+      up = eqb one 3;
+      fields = record {
+        kind = 4;
+        values = ends64 5 ∷ ends64 6 ∷ ends64 7 ∷ ends64 8 ∷ ends64 9 ∷ ends64 10 ∷ ends64 11 ∷ ends64 12 ∷ ends64 13 ∷ ends64 14 ∷ ends64 15 ∷ ends64 16 ∷ [];
       };
     }
 
@@ -293,51 +305,52 @@ shapeLinkAnswer one =
           values = ends64 21 ∷ ends64 22 ∷ ends64 23 ∷ ends64 24 ∷ ends64 25 ∷ ends64 26 ∷ ends64 27 ∷ ends64 28 ∷ ends64 29 ∷ ends64 30 ∷ ends64 31 ∷ ends64 32 ∷ [];
         };
       };
-      made = eqb one 33;
-      message = replicate 44 34;
+      count = ends32 33;
+      made = eqb one 34;
+      message = replicate 44 35;
       links = record {
-        active = (eqb one 35) ∷ (eqb one 36) ∷ (eqb one 37) ∷ (eqb one 38) ∷ [];
+        active = (eqb one 36) ∷ (eqb one 37) ∷ (eqb one 38) ∷ (eqb one 39) ∷ [];
         gauges = record {
-          mean = whole 39;
-          worst = whole 40;
-          count = 41;
-          late = eqb one 42;
+          mean = whole 40;
+          worst = whole 41;
+          count = 42;
+          late = eqb one 43;
         } ∷ record {
-          mean = whole 43;
-          worst = whole 44;
-          count = 45;
-          late = eqb one 46;
+          mean = whole 44;
+          worst = whole 45;
+          count = 46;
+          late = eqb one 47;
         } ∷ record {
-          mean = whole 47;
-          worst = whole 48;
-          count = 49;
-          late = eqb one 50;
+          mean = whole 48;
+          worst = whole 49;
+          count = 50;
+          late = eqb one 51;
         } ∷ record {
-          mean = whole 51;
-          worst = whole 52;
-          count = 53;
-          late = eqb one 54;
+          mean = whole 52;
+          worst = whole 53;
+          count = 54;
+          late = eqb one 55;
         } ∷ [];
-        server = eqb one 55;
+        server = eqb one 56;
         exchange = record {
-          stage = 56;
-          v = 57;
-          w = 58;
+          stage = 57;
+          v = 58;
+          w = 59;
         };
         queue = record {
-          count = 59;
+          count = 60;
           places = record {
-            link = 60;
-            bytes = replicate 44 61;
+            link = 61;
+            bytes = replicate 44 62;
           } ∷ record {
-            link = 62;
-            bytes = replicate 44 63;
+            link = 63;
+            bytes = replicate 44 64;
           } ∷ record {
-            link = 64;
-            bytes = replicate 44 65;
+            link = 65;
+            bytes = replicate 44 66;
           } ∷ record {
-            link = 66;
-            bytes = replicate 44 67;
+            link = 67;
+            bytes = replicate 44 68;
           } ∷ [];
         };
       };

@@ -2,8 +2,8 @@
 // Scalars are counted from 1 as they are declared, through structs and arrays of structs or bools; an array of bytes counts as one. Number i
 // has i in its lowest and its highest byte, and is i as a float; a bool is whether `one` is i; each byte of an array is i.
 ghost use mathlib.Core.Path.{_≡_};
-ghost use Rattle.shapes.specs.Shapes.{shapeRecord, shapeLinks, shapeCommand, shapeAnswer, shapeLinkAnswer, shapePiece, shapeView};
-ghost use Rattle.shapes.specs.Shapes.{shapePoolAnswer, shapeSettings, shapeSetupAnswer};
+ghost use Rattle.shapes.specs.Shapes.{shapeRecord, shapeLinks, shapeCommand, shapeLinkCommand, shapeAnswer, shapeLinkAnswer};
+ghost use Rattle.shapes.specs.Shapes.{shapePiece, shapeView, shapePoolAnswer, shapeSettings, shapeSetupAnswer};
 use closing::Marks;
 use closing::Side;
 use connection::Identity;
@@ -26,6 +26,7 @@ use flat_gather::FlatGathered;
 use flat_gather::FlatPiece;
 use flat_link::FlatFields;
 use flat_link::FlatLinkAnswer;
+use flat_link::FlatLinkCommand;
 use flat_link::FlatTakenUp;
 use flat_pool::Books;
 use flat_pool::PoolAnswer;
@@ -204,37 +205,37 @@ pub fn links(one: u32) -> FlatLinks
     }
 }
 
-pub fn command(one: u32) -> FlatCommand
-    ensures { λ r. ⌜ r ≡ shapeCommand one ⌝ }
+pub fn command() -> FlatCommand
+    ensures { λ r. ⌜ r ≡ shapeCommand ⌝ }
 {
     let opening_remote_link1 = RToken {
-        key: 201326604,
-        base: 936748722493063181,
+        key: 184549387,
+        base: 864691128455135244,
     };
     let opening_remote_link2 = RToken {
-        key: 234881038,
-        base: 1080863910568919055,
+        key: 218103821,
+        base: 1008806316530991118,
     };
     let opening_remote_link3 = RToken {
-        key: 268435472,
-        base: 1224979098644774929,
+        key: 251658255,
+        base: 1152921504606846992,
     };
     let opening_remote_link4 = RToken {
-        key: 301989906,
-        base: 1369094286720630803,
+        key: 285212689,
+        base: 1297036692682702866,
     };
     let opening_remote = Remote {
-        size: 167772170,
-        index: 184549387,
+        size: 150994953,
+        index: 167772170,
         link1: opening_remote_link1,
         link2: opening_remote_link2,
         link3: opening_remote_link3,
         link4: opening_remote_link4,
     };
     let opening = Opening {
-        own: 117440519,
-        peer: 134217736,
-        link: 9,
+        own: 100663302,
+        peer: 117440519,
+        link: 8,
         remote: opening_remote,
     };
     FlatCommand {
@@ -243,8 +244,35 @@ pub fn command(one: u32) -> FlatCommand
         offset: 50331651,
         ms: 67108868,
         link: 5,
-        up: one == 6,
         opening: opening,
+    }
+}
+
+pub fn link_command(one: u32) -> FlatLinkCommand
+    ensures { λ r. ⌜ r ≡ shapeLinkCommand one ⌝ }
+{
+    let fields = FlatFields {
+        kind: 4,
+        values: [
+            360287970189639685,
+            432345564227567622,
+            504403158265495559,
+            576460752303423496,
+            648518346341351433,
+            720575940379279370,
+            792633534417207307,
+            864691128455135244,
+            936748722493063181,
+            1008806316530991118,
+            1080863910568919055,
+            1152921504606846992,
+        ],
+    };
+    FlatLinkCommand {
+        number: 16777217,
+        link: 2,
+        up: one == 3,
+        fields: fields,
     }
 }
 
@@ -391,52 +419,52 @@ pub fn link_answer(one: u32) -> FlatLinkAnswer
         fields: up_fields,
     };
     let links_gauges_1 = Gauge {
-        mean: 39.0,
-        worst: 40.0,
-        count: 41,
-        late: one == 42,
+        mean: 40.0,
+        worst: 41.0,
+        count: 42,
+        late: one == 43,
     };
     let links_gauges_2 = Gauge {
-        mean: 43.0,
-        worst: 44.0,
-        count: 45,
-        late: one == 46,
+        mean: 44.0,
+        worst: 45.0,
+        count: 46,
+        late: one == 47,
     };
     let links_gauges_3 = Gauge {
-        mean: 47.0,
-        worst: 48.0,
-        count: 49,
-        late: one == 50,
+        mean: 48.0,
+        worst: 49.0,
+        count: 50,
+        late: one == 51,
     };
     let links_gauges_4 = Gauge {
-        mean: 51.0,
-        worst: 52.0,
-        count: 53,
-        late: one == 54,
+        mean: 52.0,
+        worst: 53.0,
+        count: 54,
+        late: one == 55,
     };
     let links_exchange = Exchange {
-        stage: 56,
-        v: 57,
-        w: 58,
+        stage: 57,
+        v: 58,
+        w: 59,
     };
     let links_waiting_1 = Waiting {
-        link: 60,
-        bytes: [61u8; 44],
+        link: 61,
+        bytes: [62u8; 44],
     };
     let links_waiting_2 = Waiting {
-        link: 62,
-        bytes: [63u8; 44],
+        link: 63,
+        bytes: [64u8; 44],
     };
     let links_waiting_3 = Waiting {
-        link: 64,
-        bytes: [65u8; 44],
+        link: 65,
+        bytes: [66u8; 44],
     };
     let links_waiting_4 = Waiting {
-        link: 66,
-        bytes: [67u8; 44],
+        link: 67,
+        bytes: [68u8; 44],
     };
     let links_queue = Queue {
-        count: 59,
+        count: 60,
         places: [
             links_waiting_1,
             links_waiting_2,
@@ -445,14 +473,14 @@ pub fn link_answer(one: u32) -> FlatLinkAnswer
         ],
     };
     let links = FlatLinks {
-        active: [one == 35, one == 36, one == 37, one == 38],
+        active: [one == 36, one == 37, one == 38, one == 39],
         gauges: [
             links_gauges_1,
             links_gauges_2,
             links_gauges_3,
             links_gauges_4,
         ],
-        server: one == 55,
+        server: one == 56,
         exchange: links_exchange,
         queue: links_queue,
     };
@@ -462,8 +490,9 @@ pub fn link_answer(one: u32) -> FlatLinkAnswer
         fate: 50331651,
         fields: fields,
         up: up,
-        made: one == 33,
-        message: [34u8; 44],
+        count: 553648161,
+        made: one == 34,
+        message: [35u8; 44],
         links: links,
     }
 }

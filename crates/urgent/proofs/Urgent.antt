@@ -1,5 +1,5 @@
 -- The claims of specs/Urgent about groups. Assumes nothing.
-use mathlib.Core.Path.{_≡_, refl, sym, ap, _∙_}
+use mathlib.Core.Path.{_≡_, refl, sym, ap, _∙_, subst}
 use mathlib.Core.Logic.{_⊎_, inl, inr}
 use mathlib.Core.Bool.{Bool, true, false, false≢true, _||_, cond}
 use mathlib.Core.List.{List, [], _∷_, _++_}
@@ -20,7 +20,7 @@ use Rattle.outcome.specs.Outcome.{refusedOf, outcomeOf, urgentOutcome, toldOf, 
 use Rattle.transmit.specs.Transmit.{nothingSent, sendOf, sentOf, urgentOf, urgentSendOf}
 use Rattle.produced.specs.Produced.{sendForbids, nOf, producedOf, producedOut, urgedOut, urgedOf, waitsB}
 use Rattle.receive.specs.Receive.{placeOf, readOf, takeOf, tornOf, consumedOf}
-use Rattle.hear.specs.Hear.{hearOf, abortedOf, followedOf, ruledOf, acceptedOf}
+use Rattle.hear.specs.Hear.{hearOf, abortedOf, followedOf, validatedOf, ruledOf, acceptedOf}
 use Rattle.heard.specs.Heard.{heardRecord, heardOut}
 use Rattle.finish.specs.Finish.{resetOf, closingOf, shutdownOf, closeOf, abortOf}
 use Rattle.table.specs.Table.{recordAt, openB}
@@ -34,7 +34,9 @@ use Rattle.safety.proofs.Effects.{open-facts, Acts, asks, hears, opens, frees, 
 use Rattle.changes.proofs.Acted.{acts-slot}
 use Rattle.safety.proofs.OnSlot.{on-open, on-was-open}
 use Rattle.refusals.proofs.Refusals.{memory-back, table-back}
-use Rattle.changes.proofs.Changes.{one-record}
+use Rattle.changes.proofs.Changes.{one-record, acts-aside}
+use Rattle.failover.proofs.Keeps.{ButLink, moved-keeps}
+use Rattle.safety.proofs.Failing.{only-the-link}
 use Rattle.safety.proofs.Invariant.{Sound, no-slot-0}
 use Rattle.safety.proofs.Sound.{sound-fresh, sound-next}
 
@@ -116,7 +118,7 @@ module _ (c : Record) where
         passed false u h s = h s
 
     hear-keeps : (m : Message) → Keeps c (hearOf n a c m)
-    unfolding hearOf abortedOf followedOf ruledOf acceptedOf marksTo
+    unfolding hearOf abortedOf followedOf validatedOf ruledOf acceptedOf marksTo
     hear-keeps m = search (by-test, refused, outcome, told, heard-holds, shut) depth 9
 
     -- a send goes on only where no place stands
@@ -171,13 +173,18 @@ module _ (c : Record) where
     unfolding hearTurn turnOf
     hear-kept e m = hear-keeps m .kept
 
--- ONE CALL ON. The record of a slot that the table has: as it was, or what the call's turn there leaves
+as-was : {c d : Record} → d ≡ c → ButLink c d
+as-was {c} e =
+    subst (ButLink c) (sym e)
+    (record { opened = refl; own = refl; peer = refl; remote = refl; inbound = refl; outbound = refl; marks = refl })
+
+-- ONE CALL ON. The record of a slot that the table has: as it was, its link aside, or what the call's turn there leaves
 module _ (g : Group) (c : Call) (i : ℕ) (there : i < length (g .table)) where
   abbrev now : Record
   now = recordOf (next g c) (suc i)
 
   abbrev Left : Type 0
-  Left = (now ≡ recordOf g (suc i)) ⊎ ((t : Turn) × Acts g c (suc i) t × (now ≡ t .after))
+  Left = ButLink (recordOf g (suc i)) now ⊎ ((t : Turn) × Acts g c (suc i) t × (now ≡ t .after))
 
   record-left : Left
   unfolding refuses putTurn recordAt
@@ -186,13 +193,16 @@ module _ (g : Group) (c : Call) (i : ℕ) (there : i < length (g .table)) where
       turned : (k : ℕ) (t : Turn) → does g c ≡ putTurn g k t → sizesOk g ≡ true → Acts g c k t → Dec (suc i ≡ k) → Left
       turned k t did ok a (yes e) =
           inr (t, rw (← e) at a, ap (λ (d : Done). recordOf (d .group) (suc i)) (rw (← e) at did) ∙ record-same (g .table) i (t .after) there)
-      turned k t did ok a (no d) = inl (one-record g c .others (suc i) (λ p. d (p ∙ acts-slot g c k t ok a)))
+      turned k t did ok a (no d) =
+          inl (as-was (one-record g c .others (suc i) (λ p. d (p ∙ acts-slot g c k t ok a)) ∙ acts-aside g c k t (recordOf g (suc i)) a))
 
       go : (x : Done) → does g c ≡ x → Effect g c x → Left
-      go x q (refuses-it n h e) = inl (ap (λ (d : Done). recordOf (d .group) (suc i)) (q ∙ e))
-      go x q (links-it k p a e) =
-          inl (ap (λ (d : Done). recordOf (d .group) (suc i)) q ∙ ap (λ (h : Group). recordOf h (suc i)) e)
-      go x q (samples-it l ms w p e) = inl (ap (λ (d : Done). recordOf (d .group) (suc i)) (q ∙ e))
+      go x q (refuses-it n h e) = inl (as-was (ap (λ (d : Done). recordOf (d .group) (suc i)) (q ∙ e)))
+      go x q (links-it k b p a e) =
+          inl
+          (subst (ButLink (recordOf g (suc i))) (sym (ap (λ (z : Call). recordOf (next g z) (suc i)) p ∙ only-the-link g k b .each (suc i)))
+          (moved-keeps (g .N) _ (recordOf g (suc i))))
+      go x q (samples-it l ms w p e) = inl (as-was (ap (λ (d : Done). recordOf (d .group) (suc i)) (q ∙ e)))
       go x q (puts-turn k t s a e) = turned k t (q ∙ e) s a (ℕ-discrete (suc i) k)
 
   -- a slot that is open after it keeps both claims, or was opened
@@ -224,8 +234,8 @@ module _ (g : Group) (c : Call) (i : ℕ) (there : i < length (g .table)) where
       go : Left → Goes
       go (inl e) =
           let v = open-in (next g c .S) (next g c .table) (suc i) o in
-          let was = open-is (g .S) (g .table) (suc i) (rw (one-record g c .same-S) at (v .slot)) (ap (λ (r : Record). r .id .opened) (sym e) ∙ v .is-open) in
-          inl (was, same (recordOf g (suc i)) now (ap (λ (r : Record). r .outbound .producer) e) (ap (λ (r : Record). r .outbound .urgent) e))
+          let was = open-is (g .S) (g .table) (suc i) (rw (one-record g c .same-S) at (v .slot)) (sym (e .opened) ∙ v .is-open) in
+          inl (was, same (recordOf g (suc i)) now (ap (λ x. x .producer) (e .outbound)) (ap (λ x. x .urgent) (e .outbound)))
       go (inr w) = acted (w .0) (w .2) (w .1)
 
 pub Q-stays : QStays

@@ -35,7 +35,7 @@ use Rattle.produced.specs.Produced.{nOf, producedOf, producedOut, urgedOf, urge
 use Rattle.transmit.proofs.Laws.{wholeRecord, wholeOf, n-room, urgent-cases, urgent-coherent}
 use Rattle.receive.specs.Receive.{readForbids, unreadOf, consumedIn, clearedIn, consumedOf, updateOf, takeOf, readOf}
 use Rattle.receive.proofs.Laws.{gapCP, taking, taking-most, left, tells, take-is, consumed-cp, read-coherent}
-use Rattle.hear.specs.Hear.{acceptedOf, ruledOf, followedOf, hearOf}
+use Rattle.hear.specs.Hear.{acceptedOf, ruledOf, followedOf, validatedOf, hearOf}
 use Rattle.heard.specs.Heard.{producerB, consumerB, movedBy, urgesB, urgentIn, heardIn, heardOut, heardRecord, answersB, nextB}
 use Rattle.hear.proofs.Laws.{shutBy, repliedTo, heardOutcome, accepted-shut, accepted-open, hear-coherent}
 use Rattle.heard.proofs.Laws.{Produces, Consumes, producer-rules, consumer-rules}
@@ -51,8 +51,8 @@ module _ (n : ℕ) (c : Record) (bytes : List ℕ) (m : Message) (h : Hears n c 
   rules = producerB n c (m .producer) && consumerB c (m .consumer)
 
   hear-is : hearOf n true c m ≡ followed (eqb (refusalOf n true c false) 0) (nextB c m) rules
-  unfolding hearOf followedOf ruledOf followed
-  hear-is = rw (h .no-A, h .no-own-A)
+  unfolding hearOf followedOf validatedOf ruledOf followed
+  hear-is = rw (h .no-A, h .no-own-A, h .no-F)
 
   hear-accepted : hearOf n true c m ≡ acceptedOf n c m
   unfolding followed

@@ -57,6 +57,7 @@ pub record Hears (N : ℕ) (c : Record) (bytes : List ℕ) (m : Message) : Type 
   pub took : (n : ℕ) → hearOf N true c m .reply ≡ Refused n → ⊥
   pub no-A : m .flags .abort ≡ false
   pub no-own-A : c .marks .abort ≡ false
+  pub no-F : m .flags .failover ≡ false
   pub open-after : hearOf N true c m .after .id .opened ≡ true
 
 -- our record a, in a group whose elements have M bytes, and the peer's b, in one whose elements have N: both coherent, the peer's element

@@ -15,12 +15,14 @@ use Rattle.outcome.specs.Outcome.{messageOf, pendingOf, toldIn, usedIn, toldOf,
 use Rattle.transmit.specs.Transmit.{rtokenOf, placingOf, sentOf, urgentOf, sendOf, urgentSendOf}
 use Rattle.produced.specs.Produced.{sendForbids, nOf, producedOut, producedOf, tellsOf, urgedOut, urgedOf, waitsB}
 use Rattle.receive.specs.Receive.{placeForbids, mayPlace, placeOf, readForbids, unreadOf, consumedIn, clearedIn, consumedOf, updateOf, tornOf, takeOf, readOf}
-use Rattle.hear.specs.Hear.{ruledOf, abortedOf, acceptedOf, followedOf, hearOf}
+use Rattle.hear.specs.Hear.{ruledOf, abortedOf, acceptedOf, followedOf, validatedOf, hearOf}
 use Rattle.heard.specs.Heard.{nextB, producerB, consumerB, urgesB, urgentIn, heardIn, heardOut, heardRecord, answersB}
 use Rattle.finish.specs.Finish.{resetOf, closingOf, shutdownForbids, shutdownOf, closeForbids, closeOf, abortOf}
 use Rattle.table.specs.Table.{sizesB, slotB, recordAt, openB, activeB, holdsB, lowest, findFrom, withRecord, withLink, gaugeAt}
 use Rattle.connection.specs.Connection.{openedRecord, placeAt}
-use Rattle.rules.specs.Rules.{turnOf, requestTurn, hearTurn, refuses, putTurn, onDoes, hearAt, hearDoes, openRefusal, openDoes, freeRefusal, freeDoes, linkDoes}
+use Rattle.failover.specs.Failover as Failover
+use Rattle.failover.specs.Failover.{planOf, targetOf, goneB, movesB, tellsB, movedAll, messagesOf, countOf, bufferLeft}
+use Rattle.rules.specs.Rules.{turnOf, requestTurn, hearTurn, refuses, putTurn, onDoes, hearAt, hearDoes, openRefusal, openDoes, freeRefusal, freeDoes, linkDoes, linkRefusal, failsOver}
 use Rattle.connection.specs.declared.Record.{Record}
 use Rattle.connection.specs.declared.Outbound.{Outbound}
 use Rattle.rules.specs.Rules.{Group, answer, next, recordOf}
@@ -76,9 +78,9 @@ unfolding inRange sameB movedOf stepOf turnsOf distanceOf goodB gapOf
     zeroRecord fitsB remoteOk numbersOk offsetsOk distancesOk placeOk placesOk coherentB reachedB passedBy refusalOf messageOf pendingOf toldIn usedIn toldOf outcomeOf urgentOutcome refusedOf closedIf marksTo
     sendForbids nOf rtokenOf placingOf producedOut producedOf tellsOf sentOf urgedOut urgedOf urgentOf waitsB sendOf urgentSendOf
     placeForbids mayPlace placeOf readForbids unreadOf consumedIn clearedIn consumedOf updateOf tornOf takeOf readOf
-    abortedOf producerB consumerB urgesB urgentIn heardIn heardOut heardRecord answersB acceptedOf followedOf ruledOf nextB hearOf
+    abortedOf producerB consumerB urgesB urgentIn heardIn heardOut heardRecord answersB acceptedOf followedOf validatedOf ruledOf nextB hearOf
     shutdownForbids shutdownOf closeForbids closeOf resetOf closingOf abortOf
     sizesB slotB recordAt openB activeB holdsB lowest findFrom withRecord withLink
-    turnOf requestTurn hearTurn refuses putTurn onDoes hearAt hearDoes openedRecord openRefusal openDoes freeRefusal freeDoes linkDoes
+    turnOf requestTurn hearTurn refuses putTurn onDoes hearAt hearDoes openedRecord openRefusal openDoes freeRefusal freeDoes linkRefusal failsOver linkDoes planOf targetOf goneB movesB tellsB Failover.movedOf Failover.toldOf movedAll messagesOf countOf bufferLeft
     played found after urged urgents
 urgent-right = first-in-parts 3 _ urged _ _ refl refl refl refl refl

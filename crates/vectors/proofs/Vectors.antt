@@ -14,13 +14,15 @@ use Rattle.transmit.specs.Transmit.{rtokenOf, placingOf, sentOf, urgentOf, send
 use Rattle.produced.specs.Produced.{sendForbids, nOf, producedOut, producedOf, tellsOf, urgedOut, urgedOf, waitsB}
 use Rattle.pieces.specs.Pieces.{bytesOf, pieceOf, piecesFrom}
 use Rattle.receive.specs.Receive.{placeForbids, mayPlace, placeOf, readForbids, unreadOf, consumedIn, clearedIn, consumedOf, updateOf, tornOf, takeOf, readOf}
-use Rattle.hear.specs.Hear.{ruledOf, abortedOf, acceptedOf, followedOf, hearOf}
+use Rattle.hear.specs.Hear.{ruledOf, abortedOf, acceptedOf, followedOf, validatedOf, hearOf}
 use Rattle.heard.specs.Heard.{nextB, producerB, consumerB, urgesB, urgentIn, heardIn, heardOut, heardRecord, answersB}
 use Rattle.finish.specs.Finish.{resetOf, closingOf, shutdownForbids, shutdownOf, closeForbids, closeOf, abortOf}
 use Rattle.table.specs.Table.{sizesB, slotB, recordAt, openB, activeB, holdsB, lowest, findFrom, withRecord, withLink, gaugeAt, withGauge, linkSet}
 use Rattle.linkcalls.specs.Calls.{touched, settledOf, changeTouch, changedOf}
 use Rattle.connection.specs.Connection.{openedRecord}
-use Rattle.rules.specs.Rules.{turnOf, requestTurn, hearTurn, refuses, putTurn, onDoes, hearAt, hearDoes, openRefusal, openDoes, freeRefusal, freeDoes, linkDoes, sampleRefusal, sampleDoes}
+use Rattle.failover.specs.Failover as Failover
+use Rattle.failover.specs.Failover.{planOf, targetOf, goneB, movesB, tellsB, movedAll, messagesOf, countOf, bufferLeft}
+use Rattle.rules.specs.Rules.{turnOf, requestTurn, hearTurn, refuses, putTurn, onDoes, hearAt, hearDoes, openRefusal, openDoes, freeRefusal, freeDoes, linkDoes, sampleRefusal, sampleDoes, linkRefusal, failsOver}
 use Rattle.vectors.specs.Vectors.{played, found, vectors, VectorsRight}
 
 pub vectors-right : VectorsRight
@@ -34,11 +36,11 @@ unfolding inRange sameB movedOf stepOf turnsOf distanceOf goodB gapOf
     sendForbids nOf rtokenOf placingOf producedOut producedOf tellsOf sentOf urgedOut urgedOf urgentOf waitsB sendOf urgentSendOf
     bytesOf pieceOf piecesFrom
     placeForbids mayPlace placeOf readForbids unreadOf consumedIn clearedIn consumedOf updateOf tornOf takeOf readOf
-    abortedOf producerB consumerB urgesB urgentIn heardIn heardOut heardRecord answersB acceptedOf followedOf ruledOf nextB hearOf
+    abortedOf producerB consumerB urgesB urgentIn heardIn heardOut heardRecord answersB acceptedOf followedOf validatedOf ruledOf nextB hearOf
     shutdownForbids shutdownOf closeForbids closeOf resetOf closingOf abortOf
     sizesB slotB recordAt openB activeB holdsB lowest findFrom withRecord withLink gaugeAt withGauge linkSet
     sortOf addingB emptyQueue runsOver endsB touched settledOf changeTouch changedOf
-    turnOf requestTurn hearTurn refuses putTurn onDoes hearAt hearDoes openedRecord openRefusal openDoes freeRefusal freeDoes linkDoes
+    turnOf requestTurn hearTurn refuses putTurn onDoes hearAt hearDoes openedRecord openRefusal openDoes freeRefusal freeDoes linkRefusal failsOver linkDoes planOf targetOf goneB movesB tellsB Failover.movedOf Failover.toldOf movedAll messagesOf countOf bufferLeft
     sampleRefusal sampleDoes
     smoothed lateAt sampledOf healthOf add sub mul lt ofInt ofBits
     played found vectors

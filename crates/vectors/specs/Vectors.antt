@@ -34,7 +34,7 @@ use Rattle.connection.specs.declared.Opening.{Opening}
 use Rattle.connection.specs.Connection.{zeroRecord, zeroToken, noPlace, placeAt, noMarks}
 use Rattle.pieces.specs.Pieces.{Piece}
 use Rattle.table.specs.Table.{gaugeAt}
-use Rattle.rules.specs.Rules.{Group, Request, send, gather, urgent, place, read, shutdown, close, abort, openSlot, freeSlot, linkChange}
+use Rattle.rules.specs.Rules.{Group, Request, send, gather, urgent, place, read, shutdown, close, abort, openSlot, freeSlot, linkChange, linkChanged}
 use Rattle.rules.specs.Rules.{sample, Call, on, hear, manage, Says, refusal, accepted, sent, gathered, wasRead, torn, reset, heard}
 use Rattle.rules.specs.Rules.{sampled, linkHeard, linkSent, Answer, answer, next, recordOf, groupOf}
 
@@ -183,8 +183,9 @@ named torn = none
 named (heard moved state) = none
 named reset = none
 named (sampled q) = none
-named (linkHeard fields fate up) = none
-named (linkSent up) = none
+named (linkChanged n) = none
+named (linkHeard fields fate up n) = none
+named (linkSent up n) = none
 
 abbrev pub messageIn : Answer → Option (List ℕ)
 messageIn a = cond (a .made) (some (a .message)) none
@@ -218,9 +219,13 @@ freshGroup n =
 abbrev pub given : ℕ → ℕ → ℕ → Opening
 given own peer size = record { own = own; peer = peer; link = 1; remote = flat size }
 
+-- a buffer for the messages of failover
+abbrev pub lent : List ℕ
+lent = replicate 88 0
+
 abbrev pub upAndOpen : ℕ → ℕ → ℕ → List Line
 upAndOpen own peer size =
-    gives (manage (linkChange 1 true)) accepted none ∷ gives (manage (openSlot 1 (given own peer size))) accepted none ∷ []
+    gives (manage (linkChange 1 true lent)) (linkChanged 0) none ∷ gives (manage (openSlot 1 (given own peer size))) accepted none ∷ []
 
 -- a message heard, and one made
 abbrev pub hears : ℕ → Call
@@ -374,7 +379,7 @@ vectors =
     ∷ [])
     -- 12: an index outside 1 to 255; a last byte past the top of 64 bits, on the own link or on another. Up to the top it is sent
     ∷ plays (freshGroup 8)
-    (gives (manage (linkChange 1 true)) accepted none
+    (gives (manage (linkChange 1 true lent)) (linkChanged 0) none
     ∷ gives (openEdge 0 0 0) (refusal 12) none
     ∷ gives (openEdge 256 0 0) (refusal 12) none
     ∷ gives (openEdge 1 0xFFFFFFFF_FFFFFFF9 0) (refusal 12) none
@@ -463,9 +468,9 @@ vectors =
     -- THE MESSAGE. Every field different and every flag of ours on but R and F
     ∷ plays (aGroup 1 300 (speaker ∷ []) (freshElement 300))
     (gives (on 1 abort) accepted (told 0xFE2C_5566_11223344_0000_89EF_0000ABCD_0000_4567_00000123_E0E0) ∷ [])
-    -- read, with P, F and all that is reserved on: nothing looks at them. R is on and T is C, but U moves P: one message
+    -- read, with P and all that is reserved on: nothing looks at them. R is on and T is C, but U moves P: one message
     ∷ plays (aGroup 1 300 (listener ∷ []) (freshElement 300))
-    (gives (hears 0xFE2C_5566_11223344_FFFF_4568_00000122_FFFF_89EF_0000ABC0_FF9F) (heard 295 AppCloseWait1)
+    (gives (hears 0xFE2C_5566_11223344_FFFF_4568_00000122_FFFF_89EF_0000ABC0_F79F) (heard 295 AppCloseWait1)
     (told 0xFE2C_0001_A1A2A3A4_0000_89EF_0000ABCD_0000_4567_00000123_0000)
     ∷ slot 1 listened
     ∷ [])
@@ -607,10 +612,10 @@ vectors =
     ∷ gives (manage (sample 1 60001)) (refusal 17) none
     ∷ gives (manage (sample 1 60000)) (late 0x40BDA38000000000 0x40ED4C0000000000) none
     ∷ gauge 1 (gauged 0x40BDA38000000000 0x40ED4C0000000000 8 true)
-    ∷ gives (manage (linkChange 3 false)) accepted none
+    ∷ gives (manage (linkChange 3 false lent)) (linkChanged 0) none
     ∷ gauge 3 clearedOf
-    ∷ gives (manage (linkChange 1 false)) accepted none
-    ∷ gives (manage (linkChange 1 true)) accepted none
+    ∷ gives (manage (linkChange 1 false lent)) (linkChanged 0) none
+    ∷ gives (manage (linkChange 1 true lent)) (linkChanged 0) none
     ∷ gives (manage (sample 1 7)) (steady 0x401C000000000000) none
     ∷ [])
     -- each operation rounds once: 0.1 + (8 - 0.1) x 0.125

@@ -58,10 +58,10 @@ pub fn run(plan: &Plan) -> Result<Ended, Trouble> {
         }
         end.wire.flush()?;
         end.wire.fill()?;
-        while let Some(bytes) = end.wire.next() {
-            let (slot, _) = end.hear(&bytes)?;
-            parts[slot as usize - 1].waits = false;
+        while let Some((link, bytes)) = end.wire.next() {
             worked = true;
+            let Some(slot) = end.hear(link, &bytes)? else { continue };
+            parts[slot as usize - 1].waits = false;
             if end.record(slot).marks.heard.closed {
                 receipt(&mut end, slot, plan.part(slot, file.len()).len())?;
             }

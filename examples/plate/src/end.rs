@@ -4,7 +4,10 @@ use crate::links::{self, Keys};
 use crate::plan::{Board, Mark, Plan, Role};
 use crate::system::Map;
 use crate::wire::{self, Wire};
-use fordlinnet::{Closed, Group, Heard, Links, Message, Opening, Placing, RToken, Read, Record, Refusal, Remote, SharedMemory};
+use fordlinnet::{
+    Closed, Fate, Group, LinkFields, LinkKind, Links, Message, Opening, Placing, RToken, Read, Record, Refusal, Remote, Row, SharedMemory,
+    State,
+};
 use std::io;
 use std::ptr;
 
@@ -46,7 +49,7 @@ fn registered(role: Role, link: u8) -> RToken {
     RToken { key: 256 * who + u32::from(link), base: u64::from(who) << 40 | u64::from(link) << 32 }
 }
 
-/// The card: performs placings in the other process's memory, and no others.
+/// The card: performs placings in the other process's memory over active links, and no others.
 struct Card<'a> {
     map: &'a Map,
     start: usize,
@@ -55,9 +58,10 @@ struct Card<'a> {
 }
 
 impl Card<'_> {
-    fn write(&self, placing: &Placing, sent: &[u8]) -> Result<(), Trouble> {
+    fn write(&self, links: &Links, placing: &Placing, sent: &[u8]) -> Result<(), Trouble> {
         let bytes = placing.of(sent);
-        let token = (1..=4).map(|link| registered(self.of, link)).find(|token| token.key == placing.key);
+        let active = (1..=4).filter(|link| links.active[usize::from(link - 1)]);
+        let token = active.map(|link| registered(self.of, link)).find(|token| token.key == placing.key);
         let at = token.and_then(|token| placing.address.checked_sub(token.base));
         match at {
             Some(at) if at as usize <= self.len && bytes.len() <= self.len - at as usize => {
@@ -115,9 +119,10 @@ impl<'a> End<'a> {
         Ok(End { role, group, card, wire: Wire::new(stream)?, board: Board::of(map) })
     }
 
-    fn post(&mut self, message: Option<&Message>) {
+    /// A message goes out on the link that its connection had when it was made.
+    fn post(&mut self, link: u8, message: Option<&Message>) {
         if let Some(message) = message {
-            self.wire.post(message);
+            self.wire.post(link, message.as_bytes());
             let mark = if self.role == Role::Composer { Mark::ComposerMessages } else { Mark::HostMessages };
             self.board.add(mark, 1);
         }
@@ -125,15 +130,17 @@ impl<'a> End<'a> {
 
     /// Sends bytes: the card writes them, then the message may leave.
     pub fn send(&mut self, slot: u32, bytes: &[u8]) -> Result<usize, Trouble> {
+        let link = self.record(slot).id.link;
         let sent = self.group.send(slot, bytes).map_err(|no| Trouble::Refused("send", no))?;
         for placing in &sent.placings {
-            self.card.write(placing, bytes)?;
+            self.card.write(self.group.links(), placing, bytes)?;
         }
-        self.post(sent.message.as_ref());
+        self.post(link, sent.message.as_ref());
         Ok(sent.taken)
     }
 
     pub fn read(&mut self, slot: u32, out: &mut [u8]) -> Result<usize, Trouble> {
+        let link = self.record(slot).id.link;
         let read = self.group.read(slot, out).map_err(|no| Trouble::Refused("read", no))?;
         if let Read::Torn { .. } = read {
             return Err(Trouble::Other(format!("element {slot} is torn")));
@@ -141,27 +148,71 @@ impl<'a> End<'a> {
         if read.message().is_some() {
             self.board.add(Mark::Updates, 1);
         }
-        self.post(read.message());
+        self.post(link, read.message());
         Ok(read.count())
     }
 
-    /// Hears a message; the slot that it is for.
-    pub fn hear(&mut self, bytes: &[u8; 44]) -> Result<(u32, Heard), Trouble> {
-        let own = Message::try_from(&bytes[..]).map_err(|no| Trouble::Refused("hear", no))?.token();
+    /// Hears a message that a link has carried; the slot that it is for, or none for a link message.
+    pub fn hear(&mut self, link: u8, bytes: &[u8; 44]) -> Result<Option<u32>, Trouble> {
+        let Ok(message) = Message::try_from(&bytes[..]) else {
+            self.hear_link(link, bytes)?;
+            return Ok(None);
+        };
+        let slot = message.token() - token(self.role, 0);
+        if message.flags().failover {
+            self.board.add(Mark::FailoversHeard, 1);
+            // both have said C meanwhile: nothing is left to move
+            if !self.record(slot).id.opened {
+                return Ok(None);
+            }
+        }
         let heard = self.group.hear(bytes).map_err(|no| Trouble::Refused("hear", no))?;
-        self.post(heard.message.as_ref());
-        Ok((own - token(self.role, 0), heard))
+        if heard.state == State::PeerAbortWait {
+            return Err(Trouble::Other(format!("slot {slot}: a message is missing")));
+        }
+        self.post(link, heard.message.as_ref());
+        Ok(Some(slot))
+    }
+
+    /// The server's way to take a link down: the client replies, and the link is down at both ends.
+    pub fn delete_link(&mut self, link: u8) -> Result<(), Trouble> {
+        let over = (1..=4).find(|&over| over != link && self.group.links().active[usize::from(over) - 1]);
+        let over = over.ok_or(Trouble::Other("no other link is active".to_string()))?;
+        let delete = LinkFields::new(LinkKind::DeleteLink).with(Row::O, 1).with(Row::Link, link.into());
+        let sent = self.group.link_send(over, &delete).map_err(|no| Trouble::Refused("link send", no))?;
+        self.wire.post(over, &sent.message);
+        Ok(())
+    }
+
+    /// A link message while the file is moved. Where it takes a link down, connections move: all that went over the old link is on the one
+    /// socket before the messages with F, so that these come last at the other end too.
+    fn hear_link(&mut self, link: u8, bytes: &[u8; 44]) -> Result<(), Trouble> {
+        let heard = self.group.link_message(link, bytes).map_err(|no| Trouble::Refused("link message", no))?;
+        if heard.fate != Fate::Taken {
+            return Err(Trouble::Other(format!("a link message was not taken: {heard:?}")));
+        }
+        if let Some(reply) = &heard.reply {
+            self.wire.post(link, reply);
+        }
+        if let Some(target) = self.group.links().lowest_active() {
+            for message in &heard.moved {
+                self.wire.post(target, message.as_bytes());
+                self.board.add(Mark::Moved, 1);
+            }
+        }
+        Ok(())
     }
 
     pub fn shutdown(&mut self, slot: u32) -> Result<(), Trouble> {
         let message = self.group.shutdown(slot).map_err(|no| Trouble::Refused("shutdown", no))?;
-        self.post(Some(&message));
+        self.post(self.record(slot).id.link, Some(&message));
         Ok(())
     }
 
     pub fn close(&mut self, slot: u32) -> Result<(), Trouble> {
+        let link = self.record(slot).id.link;
         let closed = self.group.close(slot).map_err(|no| Trouble::Refused("close", no))?;
-        self.post(Some(closed.message()));
+        self.post(link, Some(closed.message()));
         match closed {
             Closed::InOrder(_) => Ok(()),
             Closed::Reset(_) => Err(Trouble::Other(format!("slot {slot} was closed with unread bytes"))),

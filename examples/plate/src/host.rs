@@ -1,7 +1,7 @@
 //! The plate host: reads each connection's part of the file into the output, sends a receipt, and closes.
 
 use crate::end::{End, Ended, Trouble};
-use crate::plan::{Mark, Plan, Role};
+use crate::plan::{Mark, Plan, Role, FAILING};
 use std::sync::atomic::Ordering;
 use std::time::Instant;
 
@@ -15,14 +15,16 @@ pub fn run(plan: &Plan) -> Result<Ended, Trouble> {
     let mut next: Vec<usize> = slots.clone().map(|slot| plan.part(slot, file.len()).start).collect();
     let mut news = vec![false; plan.connections as usize];
     let mut missing = file.len();
+    let mut fails = plan.failover;
     end.board.begin(Role::Host);
     let start = Instant::now();
 
     while !(end.over() && end.wire.idle()) {
         end.wire.fill()?;
-        while let Some(bytes) = end.wire.next() {
-            let (slot, _) = end.hear(&bytes)?;
-            news[slot as usize - 1] = true;
+        while let Some((link, bytes)) = end.wire.next() {
+            if let Some(slot) = end.hear(link, &bytes)? {
+                news[slot as usize - 1] = true;
+            }
         }
         for slot in slots.clone() {
             if !std::mem::take(&mut news[slot as usize - 1]) || !end.record(slot).id.opened {
@@ -40,6 +42,10 @@ pub fn run(plan: &Plan) -> Result<Ended, Trouble> {
                 end.send(slot, &(part.len() as u64).to_be_bytes())?;
                 end.close(slot)?;
             }
+        }
+        if fails.is_some_and(|at| (file.len() - missing) as u64 * 100 >= at * file.len() as u64) {
+            fails = None;
+            end.delete_link(FAILING)?;
         }
         if missing == 0 && end.board.get(Mark::Nanoseconds) == 0 {
             end.board.set(Mark::Nanoseconds, start.elapsed().as_nanos() as u64);

@@ -11,7 +11,7 @@ mod system;
 mod wire;
 
 use end::{Ended, Trouble};
-use plan::{Board, Mark, Plan, Role};
+use plan::{Board, Mark, Plan, Role, FAILING};
 use std::fs::{self, File};
 use std::io::{self, IsTerminal, Write};
 use std::os::fd::OwnedFd;
@@ -23,11 +23,12 @@ use std::thread;
 use std::time::{Duration, Instant};
 
 const USAGE: &str = "plate [FILE] [--size BYTES] [--connections K] [--element N] [--out PATH] [--rounds R] [--alone]
-      [--kill composer|host] [--at PERCENT] [--pace MICROSECONDS]
+      [--failover] [--kill composer|host] [--at PERCENT] [--pace MICROSECONDS]
 
 Moves FILE (or BYTES made-up bytes) from a composer to a plate host through the proved core, K connections over elements of N bytes, and
-compares what arrives; then the same over a plain Unix socket and by a bare copy through shared memory, unless --alone. With --kill one of
-the two is killed once PERCENT of the file was read; the other aborts, and what was read of each part is compared.";
+compares what arrives; then the same over a plain Unix socket and by a bare copy through shared memory, unless --alone. With --failover
+the host takes link 1 down once PERCENT of the file was read, and its connections go on over link 2. With --kill one of the two is killed
+then; the other aborts, and what was read of each part is compared.";
 
 /// How the file is moved.
 #[derive(Clone, Copy, Debug, PartialEq, Eq)]
@@ -81,6 +82,7 @@ struct Options {
     element: u32,
     rounds: u32,
     alone: bool,
+    failover: bool,
     kill: Option<Role>,
     at: u64,
     pace: u64,
@@ -95,6 +97,7 @@ fn options(words: &[String]) -> Option<Options> {
         element: 65_540,
         rounds: 3,
         alone: false,
+        failover: false,
         kill: None,
         at: 50,
         pace: 0,
@@ -110,6 +113,7 @@ fn options(words: &[String]) -> Option<Options> {
             "--at" => o.at = words.next()?.parse().ok()?,
             "--pace" => o.pace = words.next()?.parse().ok()?,
             "--alone" => o.alone = true,
+            "--failover" => o.failover = true,
             "--kill" => {
                 o.kill = Some(match words.next()?.as_str() {
                     "composer" => Role::Composer,
@@ -192,6 +196,8 @@ struct Run {
     messages: [u64; 2],
     updates: u64,
     blocked: u64,
+    /// Messages with F made and heard.
+    failovers: [u64; 2],
 }
 
 fn bar(read: u64, of: u64, since: Instant, connections: u32) {
@@ -251,6 +257,7 @@ fn run(way: Way, plan: &Plan, len: usize, kill: Option<(Role, u64)>) -> Result<R
         messages: [board.get(Mark::ComposerMessages), board.get(Mark::HostMessages)],
         updates: board.get(Mark::Updates),
         blocked: board.get(Mark::Blocked),
+        failovers: [board.get(Mark::Moved), board.get(Mark::FailoversHeard)],
     })
 }
 
@@ -304,7 +311,8 @@ fn work(o: &Options) -> Result<(), Trouble> {
         None => scratch.file("output", 0)?,
     };
     let shared = scratch.file("shared", 0)?;
-    let plan = Plan { shared, input, output, connections: o.connections, element: o.element, pace: o.pace };
+    let failover = o.failover.then_some(o.at);
+    let plan = Plan { shared, input, output, connections: o.connections, element: o.element, pace: o.pace, failover };
     if let Some(victim) = o.kill {
         return killed(&plan, len, victim, o.at);
     }
@@ -322,6 +330,11 @@ fn work(o: &Options) -> Result<(), Trouble> {
                 println!("{len} bytes over {} connections, elements of {} bytes: the same file arrived", plan.connections, plan.element);
                 println!("messages: {} of the composer, {} of the host", run.messages[0], run.messages[1]);
                 println!("window updates: {}; sends cut short: {}", run.updates, run.blocked);
+                if o.failover {
+                    let [made, heard] = run.failovers;
+                    check(made > 0 && made == heard, "the link went down too late: take a larger file or a lower --at")?;
+                    println!("link {FAILING} went down after {} %: {made} messages with F, all heard, none too early", o.at);
+                }
                 println!("time: {:.4} s", run.seconds);
             }
         }

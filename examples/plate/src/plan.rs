@@ -35,7 +35,12 @@ pub struct Plan {
     pub element: u32,
     /// Microseconds that the composer rests in every round, so that there is time to kill somebody.
     pub pace: u64,
+    /// The percentage of the file after which a link is taken down.
+    pub failover: Option<u64>,
 }
+
+/// The link that is taken down.
+pub const FAILING: u8 = 1;
 
 /// The board: so many counters, in a page of its own.
 const BOARD: usize = 8192;
@@ -44,11 +49,12 @@ impl Plan {
     pub fn words(&self) -> Vec<String> {
         let path = |p: &PathBuf| p.to_string_lossy().into_owned();
         let (connections, element, pace) = (self.connections.to_string(), self.element.to_string(), self.pace.to_string());
-        vec![path(&self.shared), path(&self.input), path(&self.output), connections, element, pace]
+        let failover = self.failover.map_or("never".to_string(), |at| at.to_string());
+        vec![path(&self.shared), path(&self.input), path(&self.output), connections, element, pace, failover]
     }
 
     pub fn from_words(words: &[String]) -> Option<Plan> {
-        let [shared, input, output, connections, element, pace] = words else { return None };
+        let [shared, input, output, connections, element, pace, failover] = words else { return None };
         Some(Plan {
             shared: shared.into(),
             input: input.into(),
@@ -56,6 +62,7 @@ impl Plan {
             connections: connections.parse().ok()?,
             element: element.parse().ok()?,
             pace: pace.parse().ok()?,
+            failover: failover.parse().ok(),
         })
     }
 
@@ -109,6 +116,9 @@ pub enum Mark {
     Updates,
     /// Sends that were cut short.
     Blocked,
+    /// Messages with F that the ends made and heard.
+    Moved,
+    FailoversHeard,
     /// Of the bare copy: bytes written, bytes read.
     Head,
     Tail,

@@ -1,10 +1,13 @@
-//! Messages over a Unix socket: 44 bytes each, nothing else.
+//! Messages over a Unix socket: the number of the link that carries one, then its 44 bytes.
 
 use fordlinnet::Message;
 use std::io::{self, ErrorKind, Read, Write};
 use std::os::fd::{AsFd, AsRawFd};
 use std::os::unix::net::UnixStream;
 use std::sync::atomic::{fence, Ordering};
+
+/// The link's number, and a message.
+const FRAME: usize = 1 + Message::SIZE;
 
 pub struct Wire {
     stream: UnixStream,
@@ -29,8 +32,9 @@ impl Wire {
         Ok(Wire { stream, coming: Vec::new(), taken: 0, going: Vec::new(), written: 0, lost: false })
     }
 
-    pub fn post(&mut self, message: &Message) {
-        self.going.extend_from_slice(message.as_bytes());
+    pub fn post(&mut self, link: u8, message: &[u8; Message::SIZE]) {
+        self.going.push(link);
+        self.going.extend_from_slice(message);
     }
 
     /// Nothing waits to be written.
@@ -59,7 +63,7 @@ impl Wire {
 
     /// Takes in what has come. The fence keeps later reads of the element behind the message that announced its bytes.
     pub fn fill(&mut self) -> io::Result<()> {
-        let mut piece = [0; 44 * 256];
+        let mut piece = [0; FRAME * 256];
         while !self.lost {
             match self.stream.read(&mut piece) {
                 Ok(0) => self.lost = true,
@@ -79,16 +83,16 @@ impl Wire {
         Ok(())
     }
 
-    /// The next message that has come whole.
-    pub fn next(&mut self) -> Option<[u8; 44]> {
+    /// The next message that has come whole, and the link that carried it.
+    pub fn next(&mut self) -> Option<(u8, [u8; Message::SIZE])> {
         let rest = &self.coming[self.taken..];
-        if rest.len() < Message::SIZE {
+        if rest.len() < FRAME {
             self.coming.drain(..self.taken);
             self.taken = 0;
             return None;
         }
-        self.taken += Message::SIZE;
-        rest[..Message::SIZE].try_into().ok()
+        self.taken += FRAME;
+        Some((rest[0], rest[1..FRAME].try_into().ok()?))
     }
 
     pub fn wait(&self) {

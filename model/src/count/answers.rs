@@ -300,6 +300,10 @@ fn count_hear(cells: &mut Cells, bytes: &[u8], heard: &Heard, group: &Group, bef
         cells.hit(&format!("hear: marks {} and A sent", row_name(row(old))));
         return;
     }
+    if message.failover {
+        // Counted by `failover`.
+        return;
+    }
     let mut marked = *old;
     marked.done_heard |= message.done;
     marked.closed_heard |= message.closed;

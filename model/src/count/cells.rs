@@ -1,10 +1,10 @@
 //! The cells and their counts.
 
-use std::collections::BTreeMap;
+use std::collections::{BTreeMap, BTreeSet};
 
 use super::row_name;
 use super::tables::*;
-use crate::replay::BadLine;
+use crate::replay::{BadLine, Line};
 use crate::smcr::*;
 
 /// The cells and their counts, in the order of declaration.
@@ -14,6 +14,10 @@ pub struct Cells {
     cannot: BTreeMap<String, &'static str>,
     faults: Vec<String>,
     pub calls: u64,
+    /// The slots that moved since they were opened or laid, counted from 0.
+    pub(super) moved: BTreeSet<usize>,
+    /// The slot that heard an F message in the last hear.
+    pub(super) last_failover: Option<usize>,
 }
 
 impl Cells {
@@ -24,6 +28,8 @@ impl Cells {
             cannot: BTreeMap::new(),
             faults: Vec::new(),
             calls: 0,
+            moved: BTreeSet::new(),
+            last_failover: None,
         };
         cells.declare_refusals();
         cells.declare_pairs();
@@ -82,6 +88,7 @@ impl Cells {
         super::urgent::declare(&mut cells);
         super::gather::declare(&mut cells);
         super::links::declare(&mut cells);
+        super::failover::declare(&mut cells);
         for name in FURTHER {
             cells.can(name.to_string());
         }
@@ -138,6 +145,18 @@ impl Cells {
     pub(super) fn hit_if(&mut self, on: bool, name: &str) {
         if on {
             self.hit(name);
+        }
+    }
+
+    /// What is laid anew did not move.
+    pub(super) fn forget(&mut self, line: &Line) {
+        self.last_failover = None;
+        match line {
+            Line::Group { .. } => self.moved.clear(),
+            Line::Record { slot, .. } => {
+                self.moved.remove(&(slot - 1));
+            }
+            _ => {}
         }
     }
 

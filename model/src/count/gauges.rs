@@ -84,7 +84,7 @@ pub(super) fn count(
         (Line::Sample { milliseconds, .. }, Answer::Refused(17)) => {
             cells.hit_if(*milliseconds == 60_001, "sample: refused 17, 60,001");
         }
-        (Line::Link { link, up }, Answer::Word(_)) => {
+        (Line::Link { link, up, .. }, Answer::Link(..)) => {
             let index = usize::from(*link) - 1;
             let held = before.gauges[index] != Gauge::default();
             let kept = after.gauges[index] == before.gauges[index];

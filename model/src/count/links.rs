@@ -198,7 +198,7 @@ pub(super) fn count(
         (Line::Role { .. }, _) => cells.hit("role: line"),
         (Line::Exchange { .. }, _) => cells.hit("exchange: line"),
         (Line::Queue { .. }, _) => cells.hit("queue: line"),
-        (Line::LinkMsg { link, bytes }, Answer::Refused(number)) => {
+        (Line::LinkMsg { link, bytes, .. }, Answer::RefusedLink(number, _)) => {
             let adds = before.exchange.adds(*link) && bytes.first() == Some(&CONFIRM_LINK);
             cells.hit_if(
                 *number == 4 && adds && !before.links[usize::from(*link) - 1],
@@ -212,11 +212,11 @@ pub(super) fn count(
                 cells.hit(&format!("linkmsg: refused 14, {name}"));
             }
         }
-        (Line::LinkMsg { link, bytes }, Answer::LinkMsg(heard)) => {
+        (Line::LinkMsg { link, bytes, .. }, Answer::LinkMsg(heard, _)) => {
             count_heard(cells, *link, bytes, heard, before, after);
             count_taken_up(cells, heard.taken_up.as_ref(), before, after);
         }
-        (Line::LinkSend { fields, .. }, Answer::Refused(number)) => {
+        (Line::LinkSend { fields, .. }, Answer::RefusedLink(number, _)) => {
             let kind = fields.kind;
             if *number == 14 {
                 cells.hit(&format!("linksend: refused 14, kind {kind:02X}"));
@@ -227,7 +227,7 @@ pub(super) fn count(
                 cells.hit(&format!("linksend: refused 15, {kind:02X} {what}"));
             }
         }
-        (Line::LinkSend { link, fields }, Answer::LinkSent(sent)) => {
+        (Line::LinkSend { link, fields, .. }, Answer::LinkSent(sent, _)) => {
             count_sent(cells, *link, fields, before, after);
             cells.hit_if(sent.taken_up.is_some(), "taken up after a send");
             count_taken_up(cells, sent.taken_up.as_ref(), before, after);
@@ -417,7 +417,7 @@ fn count_taken_up(cells: &mut Cells, up: Option<&TakenUp>, before: &Details, aft
 }
 
 fn count_links(cells: &mut Cells, line: &Line, answer: &Answer, before: &Details, after: &Group) {
-    if matches!(answer, Answer::Refused(_)) {
+    if answer.refusal().is_some() {
         let same = before.links == after.links
             && before.exchange == after.exchange
             && before.queue == after.queue
@@ -443,7 +443,9 @@ fn count_links(cells: &mut Cells, line: &Line, answer: &Answer, before: &Details
     let queued = before.queue.count > 0;
     let emptied = after.queue == Queue::EMPTY;
     match line {
-        Line::Link { link, up: false } => {
+        Line::Link {
+            link, up: false, ..
+        } => {
             let ends = exchange.runs_over(*link);
             let on_v = *link == exchange.v;
             cells.hit_if(

@@ -7,6 +7,7 @@
 
 mod answers;
 mod cells;
+mod failover;
 mod gather;
 mod gauges;
 mod links;
@@ -25,7 +26,7 @@ use refusals::count_refusal;
 
 use crate::gauge::Gauge;
 use crate::links::{Exchange, Queue, Role};
-use crate::replay::{lines, skipped, Answer, Line, Replay};
+use crate::replay::{lines, skipped, Line, Replay};
 use crate::smcr::*;
 
 fn row_name(row: u16) -> String {
@@ -68,6 +69,7 @@ fn count_call(cells: &mut Cells, replay: &mut Replay, line: &Line) {
     match line {
         Line::Group { .. } | Line::Record { .. } | Line::Poke { .. } => {
             cells.hit(&format!("{word}: line"));
+            cells.forget(line);
             replay.execute(line);
             return;
         }
@@ -92,14 +94,14 @@ fn count_call(cells: &mut Cells, replay: &mut Replay, line: &Line) {
             let answer = replay.execute(line);
             if let Line::Setup { due, bytes } = line {
                 let holding = setup::holding(&before, *due, bytes);
-                count_order(cells, word, &holding, refusal(&answer));
+                count_order(cells, word, &holding, answer.refusal());
             }
             return setup::count(cells, line, &answer, &before);
         }
         Line::Take { .. } | Line::Return { .. } => {
             let before = replay.pool;
             let answer = replay.execute(line);
-            count_order(cells, word, &pool::holding(&before, line), refusal(&answer));
+            count_order(cells, word, &pool::holding(&before, line), answer.refusal());
             return pool::count(cells, line, &answer, &before, &replay.pool);
         }
         _ => {}
@@ -128,7 +130,7 @@ fn count_call(cells: &mut Cells, replay: &mut Replay, line: &Line) {
         element_used,
     };
     let answer = replay.execute(line);
-    let refusal = refusal(&answer);
+    let refusal = answer.refusal();
     count_order(cells, word, &holding, refusal);
     match refusal {
         Some(number) => count_refusal(cells, number, line, &details),
@@ -138,13 +140,7 @@ fn count_call(cells: &mut Cells, replay: &mut Replay, line: &Line) {
     urgent::count(cells, line, &answer, &details, &replay.group);
     gather::count(cells, line, &answer, &details, &replay.group);
     links::count(cells, line, &answer, &details, &replay.group);
-}
-
-fn refusal(answer: &Answer) -> Option<u8> {
-    match answer {
-        Answer::Refused(number) | Answer::RefusedRead(number, _) => Some(*number),
-        _ => None,
-    }
+    failover::count(cells, line, &answer, &details, &replay.group);
 }
 
 /// What stood before the call.
@@ -189,6 +185,7 @@ fn word_of(line: &Line) -> &'static str {
         Line::Setup { .. } => "setup",
         Line::Clc { .. } => "clc",
         Line::LinkSend { .. } => "linksend",
+        Line::Links { .. } => "links",
         Line::Role { .. } => "role",
         Line::Exchange { .. } => "exchange",
         Line::Queue { .. } => "queue",

@@ -3,7 +3,7 @@
 use super::cells::Cells;
 use super::tables::ORDERS;
 use super::{gauges, links};
-use crate::replay::Line;
+use crate::replay::{lent_bytes, Line};
 use crate::smcr::*;
 
 /// The refusals whose condition holds, each judged on its own.
@@ -65,7 +65,7 @@ pub(super) fn holding(group: &Group, line: &Line) -> Vec<u8> {
             hold(!coherent(c, n), 3);
             hold(link_down(c.link), 6);
             if let Some(message) = read_leniently(bytes) {
-                let looked_at = !message.abort && !c.abort_sent;
+                let looked_at = !message.abort && !c.abort_sent && !message.failover;
                 hold(looked_at && not_next(c, &message), 16);
                 hold(looked_at && cursor_rule_broken(c, &message, n), 8);
             }
@@ -81,10 +81,28 @@ pub(super) fn holding(group: &Group, line: &Line) -> Vec<u8> {
             hold(link_down(opening.link), 6);
             hold(group.token_held_elsewhere(opening.own_token, slot), 11);
         }
-        Line::Link { link, .. } => hold(!link_in_range(*link), 13),
+        Line::Link { link, room, .. } => {
+            hold(
+                group.sizes_or_buffer_wrong(lent_bytes(group.elements, *room)),
+                1,
+            );
+            hold(!link_in_range(*link), 13);
+        }
         Line::Sample { link, milliseconds } => return gauges::holding(group, *link, *milliseconds),
-        Line::LinkMsg { link, bytes } => return links::holding_heard(group, *link, bytes),
-        Line::LinkSend { link, fields } => return links::holding_sent(group, *link, fields),
+        Line::LinkMsg { link, bytes, room } => {
+            hold(
+                group.sizes_or_buffer_wrong(lent_bytes(group.elements, *room)),
+                1,
+            );
+            holds.extend(links::holding_heard(group, *link, bytes));
+        }
+        Line::LinkSend { link, fields, room } => {
+            hold(
+                group.sizes_or_buffer_wrong(lent_bytes(group.elements, *room)),
+                1,
+            );
+            holds.extend(links::holding_sent(group, *link, fields));
+        }
         _ => {}
     }
     holds

@@ -13,9 +13,9 @@ pub(super) const ORDERS: &[(&str, &[u8])] = &[
     ("abort", &[1, 2, 3, 6, 7]),
     ("open", &[1, 2, 10, 12, 13, 6, 11]),
     ("free", &[1, 2, 3, 7]),
-    ("link", &[13]),
-    ("linkmsg", &[13, 6, 4, 14, 15]),
-    ("linksend", &[13, 6, 14, 15]),
+    ("link", &[1, 13]),
+    ("linkmsg", &[1, 13, 6, 4, 14, 15]),
+    ("linksend", &[1, 13, 6, 14, 15]),
     ("sample", &[13, 6, 17]),
     ("take", &[3, 18, 19]),
     ("return", &[3, 20]),
@@ -27,10 +27,7 @@ pub(super) const BESIDE: &[&str] = &["take", "return", "setup"];
 
 /// Why a call on the group that does not test a number never gives it.
 pub(super) const NOT_TESTED: &[(u8, &str)] = &[
-    (
-        1,
-        "the calls on links do not look at S, N, LEN or the table",
-    ),
+    (1, "sample does not look at S, N, LEN or the table"),
     (2, "hear and the calls on links name no slot"),
     (
         3,

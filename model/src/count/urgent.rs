@@ -168,7 +168,7 @@ fn count_heard(
 ) {
     let places = old.urgent_sent.is_some() || old.urgent_heard.is_some();
     cells.hit_if(places && !new.open, "slot closed with a place");
-    if message.abort || old.abort_sent {
+    if message.abort || old.abort_sent || message.failover {
         return;
     }
     if let Some(place) = old.urgent_sent {

@@ -1,9 +1,9 @@
 //! What can be gone through one by one: every row of the close marks, every
 //! first byte of a link message, every reserved bit, the soundings of document
 //! 01, the examples of section 4.5.1, scenarios 1 to 6 of section 4.7, the pool,
-//! the gauges, the messages of set-up and those of links.
+//! the gauges, the messages of set-up and those of links, failover.
 
-use super::{gauges, links, message_of, offset_of, pool, setup, writes_of, List};
+use super::{failover, gauges, links, message_of, offset_of, pool, setup, writes_of, List};
 use crate::llc::{LLC_REPLY, TEST_LINK};
 use crate::random::Random;
 use crate::replay::{set_marks, Answer};
@@ -33,6 +33,7 @@ pub fn list(seed: u64) -> Vec<u8> {
     gauges::exhaust(&mut list, &mut random);
     setup::exhaust(&mut list, &mut random);
     links::exhaust(&mut list, &mut random);
+    failover::exhaust(&mut list, &mut random);
     list.text
 }
 
@@ -197,7 +198,7 @@ fn link_message_reserved_bits(list: &mut List, random: &mut Random) {
     list.link_message(3, reply);
 }
 
-/// Each reserved bit of a heard message, and each flag that is not looked at.
+/// Each reserved bit of a heard message, and the flags P, U and F.
 fn cdc_reserved_bits(list: &mut List, random: &mut Random) {
     list.comment("each reserved bit of a heard message");
     list.group(1, 20);

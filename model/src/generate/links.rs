@@ -12,7 +12,11 @@ use crate::smcr::{Bytes44, LENGTH_BYTE, MESSAGE_BYTES};
 
 impl List {
     pub fn link_send(&mut self, link: u8, fields: Fields) -> Answer {
-        self.add(Line::LinkSend { link, fields })
+        self.add(Line::LinkSend {
+            link,
+            fields,
+            room: None,
+        })
     }
 
     pub fn role(&mut self, role: Role) {
@@ -452,7 +456,9 @@ fn ending(exchange: Exchange) -> (u8, Fields) {
 /// queued.
 fn links_going_down(list: &mut List, random: &mut Random) {
     list.comment("link messages: links that go down");
-    list.group(1, 8);
+    list.group(2, 8);
+    list.link(1, true);
+    list.open(1, 5, 6, 1, 8);
     let waiting = place(3, &Fields::zero(DELETE_LINK).with("link", 3));
     for stage in [0, 2, 5, 6] {
         for link in 1..=4 {
@@ -529,7 +535,13 @@ fn links_going_down(list: &mut List, random: &mut Random) {
 
 /// Any exchange, queue and role laid; messages heard and sent by the dozen.
 pub fn hostile(list: &mut List, random: &mut Random) {
-    list.group(1, 8);
+    // Connections on all links, so that what goes down moves some.
+    let slots = random.between(1, 6) as u32;
+    list.group(slots, 8);
+    list.all_links_up();
+    for slot in 1..=slots {
+        list.open(slot, slot, 7, random.between(1, 4) as u8, 8);
+    }
     for _ in 0..90 {
         if random.chance(1, 4) {
             list.role(*random.pick(&Role::ALL));
@@ -673,7 +685,8 @@ impl Ends {
     /// its way over it is lost.
     pub fn change_both(&mut self, list: &mut List, link: u8, up: bool) {
         for far in [false, true] {
-            self.call(list, far, Line::Link { link, up });
+            let room = None;
+            self.call(list, far, Line::Link { link, up, room });
             self.flights[usize::from(far)][usize::from(link) - 1].clear();
         }
     }
@@ -692,8 +705,9 @@ impl Ends {
         let line = Line::LinkMsg {
             link,
             bytes: bytes.to_vec(),
+            room: None,
         };
-        if let Answer::LinkMsg(answer) = self.call(list, far, line) {
+        if let Answer::LinkMsg(answer, _) = self.call(list, far, line) {
             self.flights[usize::from(!far)][place].extend(answer.reply);
         }
     }
@@ -766,7 +780,12 @@ impl Ends {
                 (over, fields)
             }
         };
-        if let Answer::LinkSent(sent) = self.call(list, far, Line::LinkSend { link, fields }) {
+        let line = Line::LinkSend {
+            link,
+            fields,
+            room: None,
+        };
+        if let Answer::LinkSent(sent, _) = self.call(list, far, line) {
             let place = usize::from(link) - 1;
             self.flights[usize::from(!far)][place].push_back(sent.bytes);
         }

@@ -1,6 +1,7 @@
 //! Lists of calls, made from a seed.
 
 pub mod exhaust;
+pub mod failover;
 pub mod gauges;
 pub mod hostile;
 pub mod links;
@@ -20,6 +21,8 @@ pub struct List {
     pub text: Vec<u8>,
     pub replay: Replay,
     pub count: usize,
+    /// The F messages that calls on links made; who carries them takes them out.
+    pub told: Vec<Bytes44>,
 }
 
 impl Default for List {
@@ -34,6 +37,7 @@ impl List {
             text: Vec::new(),
             replay: Replay::new(),
             count: 0,
+            told: Vec::new(),
         }
     }
 
@@ -41,7 +45,9 @@ impl List {
         print_line(&mut self.text, &line);
         self.text.push(b'\n');
         self.count += 1;
-        self.replay.execute(&line)
+        let answer = self.replay.execute(&line);
+        self.told.extend(told_in(&answer));
+        answer
     }
 
     /// A line as it stands, which may be bad.
@@ -89,12 +95,25 @@ impl List {
         }
     }
 
+    /// Lays the four states in, which is no call.
+    pub fn lay_links(&mut self, active: [bool; LINKS]) {
+        self.add(Line::Links { active });
+    }
+
     pub fn link(&mut self, link: u8, up: bool) -> Answer {
-        self.add(Line::Link { link, up })
+        self.add(Line::Link {
+            link,
+            up,
+            room: None,
+        })
     }
 
     pub fn link_message(&mut self, link: u8, bytes: Vec<u8>) -> Answer {
-        self.add(Line::LinkMsg { link, bytes })
+        self.add(Line::LinkMsg {
+            link,
+            bytes,
+            room: None,
+        })
     }
 
     /// An open of an element at base 0, where an address is the offset.
@@ -223,6 +242,24 @@ pub fn writes_of(answer: &Answer, offered: &[u8]) -> Vec<(u64, Vec<u8>)> {
             .collect(),
         _ => Vec::new(),
     }
+}
+
+/// The F messages that a call on a link counts, in slot order.
+pub fn told_in(answer: &Answer) -> Vec<Bytes44> {
+    let (count, buffer) = match answer {
+        Answer::Link(count, buffer) => (*count, buffer),
+        Answer::LinkMsg(answer, buffer) => (answer.count, buffer),
+        Answer::LinkSent(sent, buffer) => (sent.count, buffer),
+        _ => return Vec::new(),
+    };
+    let messages = buffer.chunks_exact(MESSAGE_BYTES).take(count);
+    messages
+        .map(|bytes| {
+            let mut message = [0; MESSAGE_BYTES];
+            message.copy_from_slice(bytes);
+            message
+        })
+        .collect()
 }
 
 /// The message that an answer carries, if any.

@@ -5,8 +5,9 @@
 
 use std::collections::VecDeque;
 
-use super::{gauges, links, message_of, pool, setup, writes_of, List};
-use crate::llc::TEST_LINK;
+use super::{gauges, links, message_of, pool, setup, told_in, writes_of, List};
+use crate::links::Role;
+use crate::llc::{Fields, DELETE_LINK, TEST_LINK};
 use crate::random::Random;
 use crate::replay::{Answer, Line, Replay};
 use crate::smcr::*;
@@ -23,10 +24,15 @@ struct End {
     slot: u32,
 }
 
-/// What is on its way to an end.
+/// What is on its way to an end. A write keeps the link that its address is for,
+/// whatever moves meanwhile.
 #[derive(Clone, Debug)]
 enum Flight {
-    Write { address: u64, bytes: Vec<u8> },
+    Write {
+        link: u8,
+        address: u64,
+        bytes: Vec<u8>,
+    },
     Message(Bytes44),
 }
 
@@ -187,9 +193,16 @@ impl World {
     }
 
     pub fn act(&mut self) {
+        self.act_once();
+        self.carry_failovers();
+    }
+
+    fn act_once(&mut self) {
         match self.random.below(400) {
-            0..=1 => self.flap_link(),
-            2..=3 => self.test_link(),
+            0..=3 | 61..=64 => self.flap_link(),
+            65 => self.strand(),
+            66..=67 => self.test_link(),
+            68..=70 => self.delete_link(),
             4..=5 => self.bring_links_up(),
             6 if self.habits.looks => self.list.table(),
             7 if self.habits.looks => self.look_at_memory(),
@@ -388,10 +401,15 @@ impl World {
                 bytes: bytes.clone(),
             },
         };
+        let link = self.record_of(end).link;
         let answer = self.call(end, line);
         let flights = &mut self.pairs[which].flights[1 - side];
         for (address, bytes) in writes_of(&answer, &bytes) {
-            flights.push_back(Flight::Write { address, bytes });
+            flights.push_back(Flight::Write {
+                link,
+                address,
+                bytes,
+            });
         }
         if let Some(message) = message_of(&answer) {
             flights.push_back(Flight::Message(message));
@@ -408,10 +426,14 @@ impl World {
                 return;
             };
             let (answer, is_message) = match &flight {
-                Flight::Write { address, bytes } => {
+                Flight::Write {
+                    link,
+                    address,
+                    bytes,
+                } => {
                     let line = Line::Place {
                         slot: end.slot,
-                        offset: self.offset_at(end, *address),
+                        offset: self.offset_at(end, *link, *address),
                         bytes: bytes.clone(),
                     };
                     (self.call_at(which, side, line), false)
@@ -432,9 +454,8 @@ impl World {
         }
     }
 
-    /// Where in an end's element an address of its memory lies.
-    fn offset_at(&self, end: End, address: u64) -> u32 {
-        let link = self.record_of(end).link.max(1);
+    /// Where in an end's element an address of its memory lies, by a link.
+    fn offset_at(&self, end: End, link: u8, address: u64) -> u32 {
         let base = self.registered[usize::from(end.far)].bases[usize::from(link) - 1];
         let element = u64::from(end.slot - 1) * u64::from(self.group_of(end).size);
         address.wrapping_sub(base).wrapping_sub(element) as u32
@@ -460,7 +481,7 @@ impl World {
             message[24] ^= FLAG_BLOCKED;
         }
         if self.random.chance(1, 40) {
-            message[24] |= self.random.draw() as u8 & 0x6F;
+            message[24] |= self.random.draw() as u8 & 0x67;
             message[25] |= self.random.draw() as u8 & 0x1F;
             for at in [8, 9, 16, 17].into_iter().chain(26..44) {
                 message[at] = self.random.draw() as u8;
@@ -527,12 +548,129 @@ impl World {
     fn flap_link(&mut self) {
         let link = self.random.between(1, 4) as u8;
         let up = !self.list.replay.group.links[usize::from(link) - 1] || self.random.chance(1, 4);
-        self.links.change_both(&mut self.list, link, up);
+        self.change_link(link, up);
         if !up {
             for _ in 0..self.random.between(0, 12) {
                 self.act_on_pair();
             }
-            self.links.change_both(&mut self.list, link, true);
+            if self.random.chance(2, 3) {
+                self.change_link(link, true);
+            }
+        }
+    }
+
+    /// Changes a link in the group, and mostly in the far one too; now and then
+    /// with a buffer that is longer than need be, or too short at first.
+    fn change_link(&mut self, link: u8, up: bool) {
+        let right = MESSAGE_BYTES * self.list.replay.group.table.len();
+        let odd = match self.random.below(8) {
+            0 => Some(right - 1 - self.random.below(right as u64) as usize),
+            1 => Some(right + self.random.below(100) as usize),
+            _ => None,
+        };
+        if let Some(room) = odd {
+            let room = Some(room);
+            self.list.add(Line::Link { link, up, room });
+        }
+        self.links.change_both(&mut self.list, link, up);
+        self.carry_failovers();
+        if self.random.chance(3, 4) {
+            let room = None;
+            let answer = self.far.execute(&Line::Link { link, up, room });
+            self.carry(true, told_in(&answer));
+        }
+    }
+
+    /// The server deletes a link, heard at a client or sent and answered, over
+    /// another one mostly; it comes up again after a while.
+    fn delete_link(&mut self) {
+        let group = &self.list.replay.group;
+        let active: Vec<u8> = (1..=4).filter(|&link| !group.link_down(link)).collect();
+        if active.is_empty() {
+            return;
+        }
+        let (role, idle) = (group.role, group.exchange.stage == 0);
+        let (link, over) = (*self.random.pick(&active), *self.random.pick(&active));
+        let delete = Fields::zero(DELETE_LINK).with("link", u64::from(link));
+        match role {
+            Role::Client => {
+                self.list.link_message(over, delete.write().to_vec());
+            }
+            Role::Server => {
+                if idle {
+                    self.list.link_send(over, delete.clone());
+                }
+                let reply = delete.with("R", 1).write().to_vec();
+                self.list.link_message(over, reply);
+            }
+        }
+        self.carry_failovers();
+        for _ in 0..self.random.between(0, 12) {
+            self.act_on_pair();
+        }
+        if self.random.chance(2, 3) {
+            self.change_link(link, true);
+        }
+    }
+
+    /// All links go down one after the other, which strands the connections on the
+    /// last; others come up first.
+    fn strand(&mut self) {
+        let mut order = [1, 2, 3, 4];
+        self.random.shuffle(&mut order);
+        for link in order {
+            self.change_link(link, false);
+        }
+        for _ in 0..self.random.between(0, 8) {
+            self.act_on_pair();
+        }
+        for link in order {
+            self.change_link(link, true);
+            for _ in 0..self.random.between(0, 6) {
+                self.act_on_pair();
+            }
+        }
+    }
+
+    /// Takes the F messages that the list's calls made to those who hear them.
+    fn carry_failovers(&mut self) {
+        let told = std::mem::take(&mut self.list.told);
+        self.carry(false, told);
+    }
+
+    /// F messages go behind what is on its way, mostly. One that overtakes, or
+    /// before which something was lost, costs the connection.
+    fn carry(&mut self, from_far: bool, told: Vec<Bytes44>) {
+        for bytes in told {
+            let Some(message) = Message::read(&bytes) else {
+                continue;
+            };
+            let found = (0..self.pairs.len())
+                .flat_map(|which| [(which, 0), (which, 1)])
+                .find(|&(which, side)| {
+                    let ends = self.pairs[which].ends;
+                    let c = self.record_of(ends[side]);
+                    ends[1 - side].far == from_far && c.open && c.own_token == message.token
+                });
+            let Some((which, side)) = found else {
+                continue;
+            };
+            let fate = self.random.below(30);
+            let flights = &mut self.pairs[which].flights[side];
+            match fate {
+                0 => flights.retain(|flight| matches!(flight, Flight::Write { .. })),
+                1 => {
+                    flights.pop_front();
+                }
+                2..=3 => continue,
+                _ => {}
+            }
+            let flight = Flight::Message(bytes);
+            match fate {
+                4..=5 => flights.push_front(flight),
+                6..=8 => flights.extend([flight.clone(), flight]),
+                _ => flights.push_back(flight),
+            }
         }
     }
 
@@ -540,7 +678,7 @@ impl World {
     fn bring_links_up(&mut self) {
         for link in 1..=4 {
             if !self.list.replay.group.links[usize::from(link) - 1] && self.random.chance(3, 4) {
-                self.links.change_both(&mut self.list, link, true);
+                self.change_link(link, true);
             }
         }
     }

@@ -47,6 +47,7 @@ const RED: &str = "#b3261e";
 const BLUE: &str = "#1f5f99";
 const BROWN: &str = "#8a6d1d";
 const VIOLET: &str = "#5b3fa0";
+const GREEN: &str = "#1d6b3a";
 
 /// Where the columns stand.
 struct Layout {
@@ -128,15 +129,7 @@ fn shown(step: &Step, side: usize, shot: &Shot, previous: Option<&Shot>) -> Show
         _ => 0..0,
     };
     let looked = matches!(&step.what, What::Bytes { side: at, .. } if *at == side);
-    let reading = |c: &Connection| {
-        (
-            c.open,
-            c.peer_producer,
-            c.consumer,
-            c.told,
-            c.urgent_heard,
-        )
-    };
+    let reading = |c: &Connection| (c.open, c.peer_producer, c.consumer, c.told, c.urgent_heard);
     let writing = |c: &Connection| {
         (
             c.open,
@@ -144,6 +137,7 @@ fn shown(step: &Step, side: usize, shot: &Shot, previous: Option<&Shot>) -> Show
             c.peer_consumer,
             c.blocked,
             c.urgent_sent,
+            c.link,
         )
     };
     let (c, before) = (&shot.record, previous.map(|shot| &shot.record));
@@ -181,6 +175,7 @@ fn heights(rows: &[Row]) -> Vec<f64> {
 fn ladder_height(what: &What) -> f64 {
     match what {
         What::Middle { .. } => BAND_HEIGHT,
+        What::Move { .. } => 54.0,
         What::Call { .. } => 34.0,
         What::Arrow { .. } => 36.0,
         What::Bytes { hex, .. } => 20.0 + 14.0 * hex.len() as f64,
@@ -298,13 +293,37 @@ fn draw_caption(svg: &mut Svg, layout: &Layout, text: &str, y: f64) {
 
 // The ladder.
 
+/// Whether a text of the group has room in a row.
+pub fn fits(text: &str) -> bool {
+    middle_pen(PALE).width(text) <= LADDER - 16.0
+}
+
+fn middle_pen(colour: &'static str) -> Pen {
+    Pen::new(12.0, colour, Anchor::Middle)
+}
+
 fn draw_what(svg: &mut Svg, layout: &Layout, what: &What, y: f64) {
     let ink = |refused: bool, otherwise: &'static str| if refused { RED } else { otherwise };
     match what {
         What::Middle { text, refused } => {
-            let pen = Pen::new(12.0, ink(*refused, PALE), Anchor::Middle);
+            let pen = middle_pen(ink(*refused, PALE));
             let text = pen.fitted(text, LADDER - 16.0);
             svg.write(layout.middle(), y + 4.0, pen, &text);
+        }
+        What::Move { text, sides } => {
+            let pen = middle_pen(GREEN).bold();
+            let text = pen.fitted(text, LADDER - 16.0);
+            svg.write(layout.middle(), y + 4.0, pen, &text);
+            for side in 0..2 {
+                let Some((goes, tells)) = &sides[side] else {
+                    continue;
+                };
+                let (x, anchor) = beside(svg, layout, side, y + 22.0, GREEN);
+                let pen = Pen::new(13.0, GREEN, anchor).bold();
+                svg.write(x, y + 26.0, pen, goes);
+                let pen = Pen::new(12.0, PALE, anchor);
+                svg.write(x, y + 42.0, pen, tells);
+            }
         }
         What::Call {
             side,
@@ -388,7 +407,7 @@ fn draw_end(svg: &mut Svg, shot: &Shot, x: f64, y: f64, shown: Shown) {
         }
     }
     if shown.strip {
-        strip(svg, &shot.record, x, bottom + 8.0);
+        strip(svg, shot, x, bottom + 8.0);
     }
 }
 
@@ -578,7 +597,9 @@ impl Band {
 }
 
 /// The peer's element as this end knows it: from R to Q it may be unread.
-fn strip(svg: &mut Svg, c: &Connection, x: f64, y: f64) {
+/// An end that moved says by which link.
+fn strip(svg: &mut Svg, shot: &Shot, x: f64, y: f64) {
+    let c = &shot.record;
     let size = c.n_peer();
     let at = |offset: i64| x + STRIP * offset.clamp(0, size) as f64 / size.max(1) as f64;
     let length = distance(c.peer_consumer, c.producer, size);
@@ -597,7 +618,7 @@ fn strip(svg: &mut Svg, c: &Connection, x: f64, y: f64) {
     svg.frame(x, y, STRIP, STRIP_HEIGHT, PALE, false);
     let pen = Pen::new(11.0, VIOLET, Anchor::Start);
     let (red, room) = (Pen::new(11.0, RED, Anchor::Start).bold(), c.room());
-    let notes = [
+    let mut notes = vec![
         (pen, format!("R {}", pair(c.peer_consumer))),
         (pen, format!("Q {}", pair(c.producer))),
         match (good(length, size), c.urgent_sent.is_some(), c.blocked) {
@@ -607,6 +628,10 @@ fn strip(svg: &mut Svg, c: &Connection, x: f64, y: f64) {
             (true, false, false) => (pen, format!("room {room}")),
         },
     ];
+    if shot.moved {
+        let pen = Pen::new(11.0, GREEN, Anchor::Start).bold();
+        notes.push((pen, format!("link {}", c.link)));
+    }
     let mut at = x + STRIP + 9.0;
     for (pen, note) in notes {
         svg.write(at, y + STRIP_HEIGHT, pen, &note);

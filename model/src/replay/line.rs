@@ -27,10 +27,13 @@ pub enum Line {
     Link {
         link: u8,
         up: bool,
+        /// ROOM where the line names it, here and in the next one and in link send.
+        room: Option<usize>,
     },
     LinkMsg {
         link: u8,
         bytes: Vec<u8>,
+        room: Option<usize>,
     },
     Send {
         slot: u32,
@@ -115,6 +118,10 @@ pub enum Line {
     LinkSend {
         link: u8,
         fields: Fields,
+        room: Option<usize>,
+    },
+    Links {
+        active: [bool; LINKS],
     },
     Role {
         role: Role,
@@ -185,13 +192,31 @@ pub enum Answer {
     Read(ReadAnswer, Vec<u8>),
     Heard(Heard),
     Made(&'static str, Bytes44),
-    LinkMsg(LinkAnswer),
-    LinkSent(LinkSent),
+    /// A link change: the count, and the buffer after it, as in the next three.
+    Link(usize, Vec<u8>),
+    LinkMsg(LinkAnswer, Vec<u8>),
+    LinkSent(LinkSent, Vec<u8>),
+    RefusedLink(u8, Vec<u8>),
     Table,
-    Memory { at: usize, count: usize },
+    Memory {
+        at: usize,
+        count: usize,
+    },
     Taken(u32),
     Books,
     Health(&'static str, Health),
     SetUp(SetUp),
     Clc(Result<Clc, NoMessage>),
+}
+
+impl Answer {
+    /// The number of a refused call.
+    pub fn refusal(&self) -> Option<u8> {
+        match self {
+            Answer::Refused(number)
+            | Answer::RefusedRead(number, _)
+            | Answer::RefusedLink(number, _) => Some(*number),
+            _ => None,
+        }
+    }
 }

@@ -17,7 +17,7 @@ use crate::setup::{set_up, Settings};
 use crate::smcr::*;
 use std::io::{self, BufRead, Write};
 
-/// Every byte of an out buffer before a read.
+/// Every byte of an out buffer before a read, and of the three link calls' buffer.
 pub const OUT_FILL: u8 = 0xA5;
 
 /// The most records that a table is lent with.
@@ -26,6 +26,17 @@ pub const MAX_RECORDS: usize = 300;
 /// "`group S N LEN` lends a table of S records (of 300 where S is above 300)."
 pub fn usual_records(elements: u32) -> usize {
     (elements as usize).min(MAX_RECORDS)
+}
+
+/// "`link`, `linkmsg` and `linksend` lend 44 x S bytes of buffer (S above 300 as
+/// 300); with a last word ROOM [...] they lend ROOM bytes."
+pub fn lent_bytes(elements: u32, room: Option<usize>) -> usize {
+    room.unwrap_or(MESSAGE_BYTES * usual_records(elements))
+}
+
+/// "Every byte is A5 before the call."
+fn lent_buffer(group: &Group, room: Option<usize>) -> Vec<u8> {
+    vec![OUT_FILL; lent_bytes(group.elements, room)]
 }
 
 /// What the lines work on: a group, and beside it what `group` leaves alone.
@@ -69,9 +80,19 @@ impl Replay {
             }
             Line::Open { opening } => done("open", group.open(opening)),
             Line::Free { slot } => done("free", group.free(*slot)),
-            Line::Link { link, up } => done("link", group.link_change(*link, *up)),
-            Line::LinkMsg { link, bytes } => {
-                answered(group.link_message(*link, bytes), Answer::LinkMsg)
+            Line::Link { link, up, room } => {
+                let mut buffer = lent_buffer(group, *room);
+                match group.link_change(*link, *up, &mut buffer) {
+                    Ok(count) => Answer::Link(count, buffer),
+                    Err(number) => Answer::RefusedLink(number, buffer),
+                }
+            }
+            Line::LinkMsg { link, bytes, room } => {
+                let mut buffer = lent_buffer(group, *room);
+                match group.link_message(*link, bytes, &mut buffer) {
+                    Ok(answer) => Answer::LinkMsg(answer, buffer),
+                    Err(number) => Answer::RefusedLink(number, buffer),
+                }
             }
             Line::Send { slot, bytes } => answered(group.send(*slot, bytes), Answer::Sent),
             Line::Urgent { slot, bytes } => answered(group.urgent(*slot, bytes), Answer::Urgent),
@@ -136,8 +157,16 @@ impl Replay {
                 answered(set_up(&self.settings, *due, bytes), Answer::SetUp)
             }
             Line::Clc { bytes } => Answer::Clc(Clc::read(bytes)),
-            Line::LinkSend { link, fields } => {
-                answered(group.link_send(*link, fields), Answer::LinkSent)
+            Line::LinkSend { link, fields, room } => {
+                let mut buffer = lent_buffer(group, *room);
+                match group.link_send(*link, fields, &mut buffer) {
+                    Ok(sent) => Answer::LinkSent(sent, buffer),
+                    Err(number) => Answer::RefusedLink(number, buffer),
+                }
+            }
+            Line::Links { active } => {
+                group.links = *active;
+                Answer::Word("links")
             }
             Line::Role { role } => {
                 group.role = *role;

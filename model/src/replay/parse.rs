@@ -110,8 +110,8 @@ const WORDS: &[(&str, &[usize])] = &[
     ("group", &[4, 5]),
     ("open", &[15]),
     ("free", &[2]),
-    ("link", &[3]),
-    ("linkmsg", &[3]),
+    ("link", &[3, 4]),
+    ("linkmsg", &[3, 4]),
     ("send", &[3]),
     ("urgent", &[3]),
     ("gather", &[4]),
@@ -135,7 +135,8 @@ const WORDS: &[(&str, &[usize])] = &[
     ("settings", &[26]),
     ("setup", &[3]),
     ("clc", &[2]),
-    ("linksend", &[3]),
+    ("linksend", &[3, 4]),
+    ("links", &[5]),
     ("role", &[2]),
     ("exchange", &[4]),
     ("queue", &[10]),
@@ -175,10 +176,12 @@ impl Replay {
             b"link" => Line::Link {
                 link: number8(words[1])?,
                 up: zero_or_one(words[2])?,
+                room: room(words.get(3))?,
             },
             b"linkmsg" => Line::LinkMsg {
                 link: number8(words[1])?,
                 bytes: hex(words[2])?,
+                room: room(words.get(3))?,
             },
             b"send" => Line::Send {
                 slot: number32(words[1])?,
@@ -260,7 +263,15 @@ impl Replay {
             b"linksend" => Line::LinkSend {
                 link: number8(words[1])?,
                 fields: fields(words[2])?,
+                room: room(words.get(3))?,
             },
+            b"links" => {
+                let mut active = [false; LINKS];
+                for link in 0..LINKS {
+                    active[link] = zero_or_one(words[1 + link])?;
+                }
+                Line::Links { active }
+            }
             b"role" => Line::Role {
                 role: role(words[1])?,
             },
@@ -289,6 +300,14 @@ impl Replay {
             },
             _ => return Err(BadLine::Word),
         })
+    }
+}
+
+/// "With a last word ROOM, 0 to 65,600, they lend ROOM bytes."
+fn room(word: Option<&&[u8]>) -> Result<Option<usize>, BadLine> {
+    match word {
+        Some(word) => Ok(Some(number(word, MAX_ROOM)? as usize)),
+        None => Ok(None),
     }
 }
 

@@ -1,7 +1,7 @@
 //! Writing lines and answers.
 
 use super::parse::marks;
-use super::{Answer, Line, Replay};
+use super::{Answer, Line, Replay, OUT_FILL};
 use crate::clc::{Clc, Ends, NoMessage, Prefix};
 use crate::gauge::{Gauge, Health};
 use crate::links::{Exchange, Queue, TakenUp};
@@ -297,9 +297,35 @@ fn push_taken_up(out: &mut Vec<u8>, taken_up: Option<&TakenUp>) {
     }
 }
 
+/// "HEX is the buffer after the call without the A5 bytes at its end, `-` if none
+/// is left."
+fn push_buffer(out: &mut Vec<u8>, buffer: &[u8]) {
+    let last = buffer.iter().rposition(|&byte| byte != OUT_FILL);
+    push(out, " out");
+    push_hex_word(out, &buffer[..last.map_or(0, |last| last + 1)]);
+}
+
+fn push_count(out: &mut Vec<u8>, count: usize, buffer: &[u8]) {
+    push(out, &format!(" count {count}"));
+    push_buffer(out, buffer);
+}
+
+fn push_room(out: &mut Vec<u8>, room: Option<usize>) {
+    if let Some(room) = room {
+        push(out, &format!(" {room}"));
+    }
+}
+
 fn push_exchange(out: &mut Vec<u8>, exchange: &Exchange) {
     let Exchange { stage, v, w } = exchange;
     push(out, &format!("exchange {stage} {v} {w}"));
+}
+
+fn push_links(out: &mut Vec<u8>, links: &[bool; LINKS]) {
+    push(out, "links");
+    for active in links {
+        push(out, if *active { " 1" } else { " 0" });
+    }
 }
 
 fn push_queue(out: &mut Vec<u8>, queue: &Queue) {
@@ -350,17 +376,27 @@ impl Replay {
                 push(out, " message ");
                 push_hex(out, message);
             }
-            Answer::LinkMsg(answer) => {
+            Answer::Link(count, buffer) => {
+                push(out, "link");
+                push_count(out, *count, buffer);
+            }
+            Answer::RefusedLink(number, buffer) => {
+                push(out, &format!("refused {number}"));
+                push_buffer(out, buffer);
+            }
+            Answer::LinkMsg(answer, buffer) => {
                 push(out, "linkmsg ");
                 push_fields(out, answer.fields.as_ref());
                 push(out, &format!(" {} reply ", answer.fate.name()));
                 push_message(out, answer.reply.as_ref());
                 push_taken_up(out, answer.taken_up.as_ref());
+                push_count(out, answer.count, buffer);
             }
-            Answer::LinkSent(sent) => {
+            Answer::LinkSent(sent, buffer) => {
                 push(out, "linksend ");
                 push_hex(out, &sent.bytes);
                 push_taken_up(out, sent.taken_up.as_ref());
+                push_count(out, sent.count, buffer);
             }
             Answer::Table => {
                 for (index, record) in group.table.iter().enumerate() {
@@ -368,10 +404,7 @@ impl Replay {
                     push_record(out, record);
                     out.push(b'\n');
                 }
-                push(out, "links");
-                for active in group.links {
-                    push(out, if active { " 1" } else { " 0" });
-                }
+                push_links(out, &group.links);
                 for (index, gauge) in group.gauges.iter().enumerate() {
                     out.push(b'\n');
                     push_gauge(out, index + 1, gauge);
@@ -417,10 +450,14 @@ pub fn print_line(out: &mut Vec<u8>, line: &Line) {
             push_words(out, &opening_numbers(opening));
         }
         Line::Free { slot } => push(out, &format!("free {slot}")),
-        Line::Link { link, up } => push(out, &format!("link {link} {}", u8::from(*up))),
-        Line::LinkMsg { link, bytes } => {
+        Line::Link { link, up, room } => {
+            push(out, &format!("link {link} {}", u8::from(*up)));
+            push_room(out, *room);
+        }
+        Line::LinkMsg { link, bytes, room } => {
             push(out, &format!("linkmsg {link} "));
             push_hex(out, bytes);
+            push_room(out, *room);
         }
         Line::Send { slot, bytes } => {
             push(out, &format!("send {slot} "));
@@ -480,10 +517,12 @@ pub fn print_line(out: &mut Vec<u8>, line: &Line) {
         }
         Line::Sample { link, milliseconds } => push(out, &format!("sample {link} {milliseconds}")),
         Line::Health { link } => push(out, &format!("health {link}")),
-        Line::LinkSend { link, fields } => {
+        Line::LinkSend { link, fields, room } => {
             push(out, &format!("linksend {link} "));
             push_fields(out, Some(fields));
+            push_room(out, *room);
         }
+        Line::Links { active } => push_links(out, active),
         Line::Role { role } => push(out, &format!("role {}", role.name())),
         Line::Exchange { exchange } => push_exchange(out, exchange),
         Line::Queue { queue } => push_queue(out, queue),

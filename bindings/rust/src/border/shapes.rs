@@ -2,8 +2,8 @@
 //! fills arrives with each number in its field.
 
 use super::{
-    Answer, Arguments, Command, GatheredAnswer, HearAnswer, LinkStates, PoolAnswer, RawBooks, RawFields, RawLinkAnswer, RawPiece,
-    RawSettings, RawTakenUp, ReadAnswer, SendAnswer, SetupAnswer, View,
+    Answer, Arguments, Command, GatheredAnswer, HearAnswer, LinkCommand, LinkStates, PoolAnswer, RawBooks, RawFields, RawLinkAnswer,
+    RawPiece, RawSettings, RawTakenUp, ReadAnswer, SendAnswer, SetupAnswer, View,
 };
 use crate::{
     Cursor, Exchange, Gauge, Identity, Inbound, Links, Marks, Opening, Outbound, Placing, Queue, RToken, Record, Remote, Role, Side,
@@ -37,7 +37,7 @@ fn layouts() {
     layout!(Queue, 181, 1, count 0, places 1);
     layout!(Links, 296, 8, active 0, gauges 8, role 104, exchange 105, queue 108);
     layout!(Opening, 88, 8, own 0, peer 4, link 8, remote 16);
-    layout!(Command, 112, 8, number 0, slot 4, offset 8, ms 12, link 16, up 17, opening 24);
+    layout!(Command, 112, 8, number 0, slot 4, offset 8, ms 12, link 16, opening 24);
     layout!(Placing, 24, 8, key 0, address 8, start 16, len 20);
     layout!(
         Answer, 440, 8, said 0, refusal 4, n 8, state 12, moved 16, health 24, placings 28, both 32, mean 80, worst 88, made 96, message 97,
@@ -50,7 +50,8 @@ fn layouts() {
     layout!(GatheredAnswer, 608, 8, answer 0, found 440);
     layout!(RawFields, 104, 8, kind 0, values 8);
     layout!(RawTakenUp, 112, 8, some 0, link 1, fate 4, fields 8);
-    layout!(RawLinkAnswer, 576, 8, said 0, refusal 4, fate 8, fields 16, up 120, made 232, message 233, links 280);
+    layout!(LinkCommand, 112, 8, number 0, link 4, up 5, fields 8);
+    layout!(RawLinkAnswer, 584, 8, said 0, refusal 4, fate 8, fields 16, up 120, count 232, made 236, message 237, links 288);
     layout!(RawPiece, 24, 8, buffer 0, start 4, len 8, key 12, address 16);
     layout!(View, 24, 8, health 0, shown 4, mean 8, worst 16);
     layout!(RawBooks, 64, 1, sizes 0);
@@ -72,7 +73,8 @@ fn layouts() {
 extern "C" {
     fn fordlinnet_shape_record(one: u32) -> Record;
     fn fordlinnet_shape_links(one: u32) -> Links;
-    fn fordlinnet_shape_command(one: u32) -> Command;
+    fn fordlinnet_shape_command() -> Command;
+    fn fordlinnet_shape_link_command(one: u32) -> LinkCommand;
     fn fordlinnet_shape_answer(one: u32) -> Answer;
     fn fordlinnet_shape_gathered(one: u32) -> GatheredAnswer;
     fn fordlinnet_shape_link_answer(one: u32) -> RawLinkAnswer;
@@ -173,7 +175,7 @@ shape! {
     Queue { count, places: each }
     Links { active: each, gauges: each, role, exchange, queue }
     Opening { own, peer, link, remote }
-    Command { number, slot, offset, ms, link, up, opening }
+    Command { number, slot, offset, ms, link, opening }
     Placing { key, address, start, len }
     Answer { said, refusal, n, state, moved, health, placings, both: each, mean, worst, made, message: bytes, links }
     LinkStates { active: each }
@@ -182,7 +184,8 @@ shape! {
     HearAnswer { refusal, made, state, moved }
     RawFields { kind, values: each }
     RawTakenUp { some, link, fate, fields }
-    RawLinkAnswer { said, refusal, fate, fields, up, made, message: bytes, links }
+    LinkCommand { number, link, up, fields }
+    RawLinkAnswer { said, refusal, fate, fields, up, count, made, message: bytes, links }
     RawPiece { buffer, start, len, key, address }
     View { health, shown, mean, worst }
     RawBooks { sizes: bytes }
@@ -219,7 +222,7 @@ fn same<T: Shape + PartialEq + std::fmt::Debug>(theirs: unsafe extern "C" fn(u32
 fn filled_structs() {
     same(fordlinnet_shape_record);
     same(fordlinnet_shape_links);
-    same(fordlinnet_shape_command);
+    same(fordlinnet_shape_link_command);
     same(fordlinnet_shape_answer);
     same(fordlinnet_shape_gathered);
     same(fordlinnet_shape_link_answer);
@@ -231,6 +234,7 @@ fn filled_structs() {
     same(fordlinnet_shape_setup_answer);
     // SAFETY: values alone.
     unsafe {
+        assert_eq!(fordlinnet_shape_command(), filled(0));
         assert_eq!(fordlinnet_shape_piece(), filled(0));
         assert_eq!(fordlinnet_shape_view(), filled(0));
         assert_eq!(fordlinnet_shape_pool_answer(), filled(0));

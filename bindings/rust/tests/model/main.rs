@@ -8,7 +8,7 @@ use fordlinnet::{Exchange, LinkKind, Refusal};
 use model::generate::{self, exhaust, hostile, traffic, List};
 use model::links::{self, Fate};
 use model::random::Random;
-use model::replay::{lines, skipped, Answer, Replay};
+use model::replay::{lines, skipped, Answer, Line, Replay};
 use model::{llc, smcr};
 use ours::Ours;
 
@@ -20,6 +20,10 @@ struct Tally {
     calls: usize,
     gathers: usize,
     refusals: [usize; 21],
+    /// Messages with F made; those heard that were the last, and those that were not.
+    moved: usize,
+    last: usize,
+    missed: usize,
     /// Kinds and fates of link messages heard, kinds sent, and fates of those taken up.
     heard: [usize; 10],
     fates: [usize; 4],
@@ -28,19 +32,24 @@ struct Tally {
 }
 
 impl Tally {
-    fn add(&mut self, answer: &Answer) {
+    fn add(&mut self, call: &Line, answer: &Answer) {
         self.calls += 1;
+        if let Some(number) = answer.refusal() {
+            self.refusals[usize::from(number)] += 1;
+        }
         let taken_up = match answer {
-            Answer::Refused(k) | Answer::RefusedRead(k, _) => {
-                self.refusals[usize::from(*k)] += 1;
+            Answer::Heard(heard) => {
+                let flags = matches!(call, Line::Hear { bytes } if bytes[24] & 0x08 != 0 && bytes[25] & 0x20 == 0);
+                self.last += usize::from(flags && heard.message.is_none());
+                self.missed += usize::from(flags && heard.message.is_some());
                 None
             }
-            Answer::LinkMsg(heard) => {
+            Answer::LinkMsg(heard, _) => {
                 self.heard[heard.fields.as_ref().map_or(0, |fields| usize::from(fields.kind))] += 1;
                 self.fates[heard.fate as usize] += 1;
                 heard.taken_up.as_ref()
             }
-            Answer::LinkSent(sent) => {
+            Answer::LinkSent(sent, _) => {
                 self.sent[usize::from(sent.bytes[0])] += 1;
                 sent.taken_up.as_ref()
             }
@@ -70,9 +79,10 @@ fn compare(name: &str, list: &[u8], tally: &mut Tally) {
         };
         assert!(same, "{name}, line {}: {text}\nthe crate: {given:?}\nthe model: {wanted:?}", number + 1);
         assert!(ours.same_as(&theirs), "{name}, line {}: {text}: the tables or the memory differ", number + 1);
-        tally.add(&given);
+        tally.add(&call, &given);
     }
     tally.gathers += ours.gathers;
+    tally.moved += ours.moved;
 }
 
 /// Link messages and link sends over any role, exchange and queue, and between two ends.
@@ -104,6 +114,8 @@ fn a_hundred_thousand_calls() {
     }
     let (heard, sent) = (tally.heard.iter().sum::<usize>(), tally.sent.iter().sum::<usize>());
     println!("{} calls and {} gathers, no difference; {heard} link messages and {sent} link sends", tally.calls, tally.gathers);
+    println!("{} messages with F made, {} heard as the last, {} as another", tally.moved, tally.last, tally.missed);
+    assert!(tally.moved > 0 && tally.last > 0 && tally.missed > 0, "no connection moved, or no F was heard");
     for refusal in Refusal::ALL {
         assert!(tally.refusals[usize::from(refusal.number())] > 0, "{refusal} was not reached");
     }

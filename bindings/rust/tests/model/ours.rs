@@ -2,10 +2,10 @@
 
 use fordlinnet::{
     set_up, Books, Closed, Cursor, Due, Exchange, Fate, Gauge, Group, Health, Identity, Inbound, LinkFields, LinkKind, Links, Marks,
-    Opening, Outbound, Prefix, Queue, RToken, Read, Record, Refusal, Remote, Role, Sent, Settings, Side, TakenUp, Urgent, Waiting,
+    Message, Opening, Outbound, Prefix, Queue, RToken, Read, Record, Refusal, Remote, Role, Sent, Settings, Side, TakenUp, Urgent, Waiting,
 };
 use model::random::Random;
-use model::replay::{Answer, Line, Replay, OUT_FILL};
+use model::replay::{lent_bytes, Answer, Line, Replay, OUT_FILL};
 use model::{gauge, links, llc, setup, smcr};
 
 fn cursor(c: smcr::Cursor) -> Cursor {
@@ -115,6 +115,8 @@ pub struct Ours {
     settings: Settings,
     random: Random,
     pub gathers: usize,
+    /// Messages with F that calls on links made.
+    pub moved: usize,
 }
 
 /// The model's answers are what both sides are turned into.
@@ -122,7 +124,7 @@ impl Ours {
     pub fn new() -> Ours {
         let group = Group::fresh(1, 8).expect("sizes in range");
         let settings = settings(&setup::Settings::default());
-        Ours { group, books: Books::free(), settings, random: Random::new(7), gathers: 0 }
+        Ours { group, books: Books::free(), settings, random: Random::new(7), gathers: 0, moved: 0 }
     }
 
     pub fn execute(&mut self, line: &Line) -> Option<Answer> {
@@ -138,21 +140,50 @@ impl Ours {
                 answered(group.open(slot, &opening), |()| Answer::Word("open"))
             }
             Line::Free { slot } => answered(group.free(*slot), |()| Answer::Word("free")),
-            Line::Link { link, up } => answered(group.link_change(*link, *up), |()| Answer::Word("link")),
-            Line::LinkMsg { link, bytes } => answered(group.link_message(*link, bytes), |heard| {
-                Answer::LinkMsg(links::LinkAnswer {
-                    fields: heard.fields.as_ref().map(fields),
-                    fate: fate(heard.fate),
-                    reply: heard.reply,
-                    taken_up: heard.taken_up.as_ref().map(taken_up),
-                })
-            }),
-            Line::LinkSend { link, fields: f } => {
+            Line::Link { link, up, room } => {
+                let mut own = self.group.clone();
+                let (changed, out) = self.lending(*room, |group, out| group.link_change_into(*link, *up, out));
+                self.own_room(*room, &changed, own.link_change(*link, *up), own);
+                match changed {
+                    Ok(changed) => Answer::Link(self.in_front(&changed.moved, &out), out),
+                    Err(refusal) => Answer::RefusedLink(refusal.number(), out),
+                }
+            }
+            Line::LinkMsg { link, bytes, room } => {
+                let mut own = self.group.clone();
+                let (heard, out) = self.lending(*room, |group, out| group.link_message_into(*link, bytes, out));
+                self.own_room(*room, &heard, own.link_message(*link, bytes), own);
+                match heard {
+                    Ok(heard) => {
+                        let answer = links::LinkAnswer {
+                            fields: heard.fields.as_ref().map(fields),
+                            fate: fate(heard.fate),
+                            reply: heard.reply,
+                            taken_up: heard.taken_up.as_ref().map(taken_up),
+                            count: self.in_front(&heard.moved, &out),
+                        };
+                        Answer::LinkMsg(answer, out)
+                    }
+                    Err(refusal) => Answer::RefusedLink(refusal.number(), out),
+                }
+            }
+            Line::LinkSend { link, fields: f, room } => {
                 let kind = LinkKind::from_code(f.kind).expect("a named kind");
                 let fields = LinkFields::of(kind, &f.values);
-                answered(group.link_send(*link, &fields), |sent| {
-                    Answer::LinkSent(links::LinkSent { bytes: sent.message, taken_up: sent.taken_up.as_ref().map(taken_up) })
-                })
+                let mut own = self.group.clone();
+                let (sent, out) = self.lending(*room, |group, out| group.link_send_into(*link, &fields, out));
+                self.own_room(*room, &sent, own.link_send(*link, &fields), own);
+                match sent {
+                    Ok(sent) => {
+                        let (bytes, taken_up) = (sent.message, sent.taken_up.as_ref().map(taken_up));
+                        Answer::LinkSent(links::LinkSent { bytes, taken_up, count: self.in_front(&sent.moved, &out) }, out)
+                    }
+                    Err(refusal) => Answer::RefusedLink(refusal.number(), out),
+                }
+            }
+            Line::Links { active } => {
+                group.links_mut().active = *active;
+                Answer::Word("links")
             }
             Line::Role { role: r } => {
                 group.links_mut().role = role(*r);
@@ -256,6 +287,33 @@ impl Ours {
             // what only looks, and the text of a set-up message
             Line::Table | Line::Memory { .. } | Line::BooksShown | Line::Clc { .. } => return None,
         })
+    }
+
+    /// Makes a call on links with a buffer as the line asks for it; what it leaves there comes back too.
+    fn lending<A>(&mut self, room: Option<usize>, call: impl FnOnce(&mut Group, &mut [u8]) -> A) -> (A, Vec<u8>) {
+        let mut out = vec![OUT_FILL; lent_bytes(self.group.elements(), room)];
+        (call(&mut self.group, &mut out), out)
+    }
+
+    /// With the group's own buffer the call answers and leaves the same, but where the line's is too short.
+    fn own_room<A: std::fmt::Debug + PartialEq>(
+        &self,
+        room: Option<usize>,
+        lent: &Result<A, Refusal>,
+        own: Result<A, Refusal>,
+        left: Group,
+    ) {
+        if room.is_none_or(|room| Message::SIZE * self.group.elements() as usize <= room) {
+            assert!(*lent == own && self.group == left, "with the group's own buffer: {own:?}, with the line's: {lent:?}");
+        }
+    }
+
+    /// The messages with F stand at the front of the buffer; how many.
+    fn in_front(&mut self, moved: &[Message], out: &[u8]) -> usize {
+        let bytes: Vec<u8> = moved.iter().flat_map(|message| *message.as_bytes()).collect();
+        assert!(out.starts_with(&bytes) && moved.iter().all(|message| message.flags().failover));
+        self.moved += moved.len();
+        moved.len()
     }
 
     /// A head and a body on a copy of the group: all as a plain send of the joined bytes, and the pieces are those bytes.

@@ -65,26 +65,22 @@ use Rattle.direct_hear.proofs.take_at as f-take-at
 use Rattle.direct_hear.proofs.take_at.Symbol as f-take-at-def
 use Rattle.direct_hear.proofs.take_at.Symbol.{name as #f-take-at}
 use Rattle.direct_hear.proofs.take_at.Met as f-take-at-thm
-use Rattle.direct_hear.proofs.shutting as f-shutting
-use Rattle.direct_hear.proofs.shutting.Symbol as f-shutting-def
-use Rattle.direct_hear.proofs.shutting.Symbol.{name as #f-shutting}
-use Rattle.direct_hear.proofs.shutting.Met as f-shutting-thm
-use Rattle.connection.proofs.zero_record as f-zero-record
-use Rattle.connection.proofs.zero_record.Symbol as f-zero-record-def
-use Rattle.connection.proofs.zero_record.Symbol.{name as #f-zero-record}
-use Rattle.connection.proofs.zero_record.Met as f-zero-record-thm
-use Rattle.slots.proofs.put_record as f-put-record
-use Rattle.slots.proofs.put_record.Symbol as f-put-record-def
-use Rattle.slots.proofs.put_record.Symbol.{name as #f-put-record}
-use Rattle.slots.proofs.put_record.Met as f-put-record-thm
+use Rattle.direct_hear.proofs.ending as f-ending
+use Rattle.direct_hear.proofs.ending.Symbol as f-ending-def
+use Rattle.direct_hear.proofs.ending.Symbol.{name as #f-ending}
+use Rattle.direct_hear.proofs.ending.Met as f-ending-thm
+use Rattle.direct_hear.proofs.end_at as f-end-at
+use Rattle.direct_hear.proofs.end_at.Symbol as f-end-at-def
+use Rattle.direct_hear.proofs.end_at.Symbol.{name as #f-end-at}
+use Rattle.direct_hear.proofs.end_at.Met as f-end-at-thm
 use Rattle.direct_hear.proofs.put.Key.{name as #call}
 use Rattle.direct_hear.proofs.put as call
 use Rattle.direct_hear.proofs.put.Statement as stated
 use Rattle.direct_hear.proofs.put.Code as code
-use Rattle.connection.specs.Connection.{zeroRecord}
 use Rattle.direct_hear.specs.TableLeft.{slotIf, tableLeft}
-use Rattle.hearing.specs.Hearing.{recordLeft}
+use Rattle.hearing.specs.Hearing.{endedOf, recordLeft}
 use Rattle.table.specs.Table.{recordAt, withRecord}
+use mathlib.Core.Bool.{_||_}
 use Rattle.direct_hear.proofs.Laws.{put-returns}
 
 -- what is left of a body after its first k statements
@@ -121,23 +117,17 @@ module _ {M : Type 1} (𝓤 : URA M) (H : Heap 𝓤) (A : Atoms 𝓤) (mem : Mem
   abbrev to-f-take-at : (κ0 : Lft) (q0 : Share) (x0 : RefT (List Record)) (v0 : Val) (x1 : ℕ) (v1 : Val) (x2 : Message) (v2 : Val) (x3 : Hearing) (v3 : Val) → C-f-take-at .Ghost
   to-f-take-at κ0 q0 x0 v0 x1 v1 x2 v2 x3 v3 = (((κ0, tt), (q0, tt), tt, (x0, (x1, (x2, (x3, tt)))), (v0 ∷ [], (v1 ∷ [], (v2 ∷ [], (v3 ∷ [], tt))))), tt)
 
-  abbrev C-f-shutting : Contract 𝓤
-  C-f-shutting = tripleOf 𝓤 H A f-shutting.signature (f-shutting.spec 𝓤 H A mem run)
+  abbrev C-f-ending : Contract 𝓤
+  C-f-ending = tripleOf 𝓤 H A f-ending.signature (f-ending.spec 𝓤 H A mem run)
 
-  abbrev to-f-shutting : (x0 : Hearing) (v0 : Val) (x1 : ℕ) (v1 : Val) → C-f-shutting .Ghost
-  to-f-shutting x0 v0 x1 v1 = ((tt, tt, tt, (x0, (x1, tt)), (v0 ∷ [], (v1 ∷ [], tt))), tt)
+  abbrev to-f-ending : (x0 : Hearing) (v0 : Val) (x1 : ℕ) (v1 : Val) → C-f-ending .Ghost
+  to-f-ending x0 v0 x1 v1 = ((tt, tt, tt, (x0, (x1, tt)), (v0 ∷ [], (v1 ∷ [], tt))), tt)
 
-  abbrev C-f-zero-record : Contract 𝓤
-  C-f-zero-record = tripleOf 𝓤 H A f-zero-record.signature (f-zero-record.spec 𝓤 H A mem run)
+  abbrev C-f-end-at : Contract 𝓤
+  C-f-end-at = tripleOf 𝓤 H A f-end-at.signature (f-end-at.spec 𝓤 H A mem run)
 
-  abbrev to-f-zero-record : C-f-zero-record .Ghost
-  to-f-zero-record = ((tt, tt, tt, tt, tt), tt)
-
-  abbrev C-f-put-record : Contract 𝓤
-  C-f-put-record = tripleOf 𝓤 H A f-put-record.signature (f-put-record.spec 𝓤 H A mem run)
-
-  abbrev to-f-put-record : (κ0 : Lft) (q0 : Share) (x0 : RefT (List Record)) (v0 : Val) (x1 : ℕ) (v1 : Val) (x2 : Record) (v2 : Val) → C-f-put-record .Ghost
-  to-f-put-record κ0 q0 x0 v0 x1 v1 x2 v2 = (((κ0, tt), (q0, tt), tt, (x0, (x1, (x2, tt))), (v0 ∷ [], (v1 ∷ [], (v2 ∷ [], tt)))), tt)
+  abbrev to-f-end-at : (κ0 : Lft) (q0 : Share) (x0 : RefT (List Record)) (v0 : Val) (x1 : ℕ) (v1 : Val) (x2 : Hearing) (v2 : Val) → C-f-end-at .Ghost
+  to-f-end-at κ0 q0 x0 v0 x1 v1 x2 v2 = (((κ0, tt), (q0, tt), tt, (x0, (x1, (x2, tt))), (v0 ∷ [], (v1 ∷ [], (v2 ∷ [], tt)))), tt)
 
 module _ {M : Type 1} (𝓤 : URA M) (H : Heap 𝓤) (A : Atoms 𝓤) (W : Given 𝓤 H A) (mem : Memory → SProp 𝓤) (run : Routine → Fun 𝓤) where
   goes-f-taking : (x0 : Hearing) (v0 : Val) (x1 : ℕ) (v1 : Val) (i0 : Is HearingT.the-row x0 (v0 ∷ [])) (i1 : Is usize x1 (v1 ∷ [])) → ent 𝓤 (emp 𝓤) (C-f-taking 𝓤 H A mem run .pre (to-f-taking 𝓤 H A mem run x0 v0 x1 v1))
@@ -148,17 +138,13 @@ module _ {M : Type 1} (𝓤 : URA M) (H : Heap 𝓤) (A : Atoms 𝓤) (W : Given
   goes-f-take-at κ0 q0 x0 v0 x1 v1 x2 v2 x3 v3 i1 i2 i3 =
       qed W ((‵ (flft κ0 q0) ⊛ ‵ (MutSlice (named 0) κ0 RecordT.the-row .own x0 (v0 ∷ [])) ⊛ ‵ ftrue) ∷ []) ∵ split ! $ move ! (1 ∷ []) $ split ! $ move ! (1 ∷ []) $ drop ! $ nothing ! $ owned ! HearingT.the-row (Is HearingT.the-row) (LL.makes HearingT.the-type HearingL.the-plain 𝓤 H A) x3 _ i3 $ fjoin ! $ owned ! MessageT.the-row (Is MessageT.the-row) (LL.makes MessageT.the-type MessageL.the-plain 𝓤 H A) x2 _ i2 $ fjoin ! $ owned ! usize (Is usize) (uint-makes 𝓤 H A W w64) x1 _ i1 $ fjoin ! $ move ! (1 ∷ 0 ∷ []) $ fjoin ! $ nothing ! $ move ! (2 ∷ 0 ∷ []) $ join ! $ join ! $ frame ! $ done !
 
-  goes-f-shutting : (x0 : Hearing) (v0 : Val) (x1 : ℕ) (v1 : Val) (i0 : Is HearingT.the-row x0 (v0 ∷ [])) (i1 : Is usize x1 (v1 ∷ [])) → ent 𝓤 (emp 𝓤) (C-f-shutting 𝓤 H A mem run .pre (to-f-shutting 𝓤 H A mem run x0 v0 x1 v1))
-  goes-f-shutting x0 v0 x1 v1 i0 i1 =
+  goes-f-ending : (x0 : Hearing) (v0 : Val) (x1 : ℕ) (v1 : Val) (i0 : Is HearingT.the-row x0 (v0 ∷ [])) (i1 : Is usize x1 (v1 ∷ [])) → ent 𝓤 (emp 𝓤) (C-f-ending 𝓤 H A mem run .pre (to-f-ending 𝓤 H A mem run x0 v0 x1 v1))
+  goes-f-ending x0 v0 x1 v1 i0 i1 =
       qed W ([]) ∵ nothing ! $ owned ! usize (Is usize) (uint-makes 𝓤 H A W w64) x1 _ i1 $ fjoin ! $ owned ! HearingT.the-row (Is HearingT.the-row) (LL.makes HearingT.the-type HearingL.the-plain 𝓤 H A) x0 _ i0 $ fjoin ! $ nothing ! $ join ! $ frame ! $ done !
 
-  goes-f-zero-record : ent 𝓤 (emp 𝓤) (C-f-zero-record 𝓤 H A mem run .pre (to-f-zero-record 𝓤 H A mem run))
-  goes-f-zero-record =
-      qed W ([]) ∵ nothing ! $ nothing ! $ join ! $ frame ! $ done !
-
-  goes-f-put-record : (κ0 : Lft) (q0 : Share) (x0 : RefT (List Record)) (v0 : Val) (x1 : ℕ) (v1 : Val) (x2 : Record) (v2 : Val) (i1 : Is usize x1 (v1 ∷ [])) (i2 : Is RecordT.the-row x2 (v2 ∷ [])) → ent 𝓤 (mean 𝓤 H A (‵ (flft κ0 q0) ⊛ ‵ (MutSlice (named 0) κ0 RecordT.the-row .own x0 (v0 ∷ [])) ⊛ ‵ ftrue)) (C-f-put-record 𝓤 H A mem run .pre (to-f-put-record 𝓤 H A mem run κ0 q0 x0 v0 x1 v1 x2 v2))
-  goes-f-put-record κ0 q0 x0 v0 x1 v1 x2 v2 i1 i2 =
-      qed W ((‵ (flft κ0 q0) ⊛ ‵ (MutSlice (named 0) κ0 RecordT.the-row .own x0 (v0 ∷ [])) ⊛ ‵ ftrue) ∷ []) ∵ split ! $ move ! (1 ∷ []) $ split ! $ move ! (1 ∷ []) $ drop ! $ nothing ! $ owned ! RecordT.the-row (Is RecordT.the-row) (LL.makes RecordT.the-type RecordL.the-plain 𝓤 H A) x2 _ i2 $ fjoin ! $ owned ! usize (Is usize) (uint-makes 𝓤 H A W w64) x1 _ i1 $ fjoin ! $ move ! (1 ∷ 0 ∷ []) $ fjoin ! $ nothing ! $ move ! (2 ∷ 0 ∷ []) $ join ! $ join ! $ frame ! $ done !
+  goes-f-end-at : (κ0 : Lft) (q0 : Share) (x0 : RefT (List Record)) (v0 : Val) (x1 : ℕ) (v1 : Val) (x2 : Hearing) (v2 : Val) (i1 : Is usize x1 (v1 ∷ [])) (i2 : Is HearingT.the-row x2 (v2 ∷ [])) → ent 𝓤 (mean 𝓤 H A (‵ (flft κ0 q0) ⊛ ‵ (MutSlice (named 0) κ0 RecordT.the-row .own x0 (v0 ∷ [])) ⊛ ‵ ftrue)) (C-f-end-at 𝓤 H A mem run .pre (to-f-end-at 𝓤 H A mem run κ0 q0 x0 v0 x1 v1 x2 v2))
+  goes-f-end-at κ0 q0 x0 v0 x1 v1 x2 v2 i1 i2 =
+      qed W ((‵ (flft κ0 q0) ⊛ ‵ (MutSlice (named 0) κ0 RecordT.the-row .own x0 (v0 ∷ [])) ⊛ ‵ ftrue) ∷ []) ∵ split ! $ move ! (1 ∷ []) $ split ! $ move ! (1 ∷ []) $ drop ! $ nothing ! $ owned ! HearingT.the-row (Is HearingT.the-row) (LL.makes HearingT.the-type HearingL.the-plain 𝓤 H A) x2 _ i2 $ fjoin ! $ owned ! usize (Is usize) (uint-makes 𝓤 H A W w64) x1 _ i1 $ fjoin ! $ move ! (1 ∷ 0 ∷ []) $ fjoin ! $ nothing ! $ move ! (2 ∷ 0 ∷ []) $ join ! $ join ! $ frame ! $ done !
 
 module _ {M : Type 1} (𝓤 : URA M) (H : Heap 𝓤) (A : Atoms 𝓤) (W : Given 𝓤 H A) (mem : Memory → SProp 𝓤) (run : Routine → Fun 𝓤) (κ₀ : Lft) (q₀ : Share)
     (b-table o-table : ℕ) (γ-table : GName) (ys-table : List Record) (slot : ℕ) (m : Message) (v-m : Val) (t : Hearing) (v-t : Val)
@@ -193,98 +179,85 @@ module _ {M : Type 1} (𝓤 : URA M) (H : Heap 𝓤) (A : Atoms 𝓤) (W : Given
       qed W (‵ (flft κ₀ q₀) ∷ ‵ (finally RecordT.the-row γ-table w-table) ∷ []) ∵ suffices ! _ (ends-at 𝓤 H A call.ended stayed (call.clauses 𝓤 H A mem run) W ((κs, qs, tt, x, at), tt) vunit tt (w-table, (tt, (tt, (tt, tt)))) (l-table, (tt, (tt, (tt, tt))))) $
       says ! e $ nothing ! $ move ! (1 ∷ 0 ∷ []) $ join ! $ frame ! $ nothing ! $ nothing ! $ fjoin ! $ nothing ! $ fjoin ! $ nothing ! $ fjoin ! $ move ! (1 ∷ 0 ∷ []) $ fjoin ! $ frame ! $ feqI ! (List Val) (vunit ∷ []) (vunit ∷ []) refl $ done !
 
-  module _ (C : Calls 𝓤 H) (Λ : Loops 𝓤 H) (fm : FmC 𝓤 H (W .laws) C) (known-f-taking : Triple 𝓤 (C #f-taking) (C-f-taking 𝓤 H A mem run)) (known-f-take-at : Triple 𝓤 (C #f-take-at) (C-f-take-at 𝓤 H A mem run)) (known-f-shutting : Triple 𝓤 (C #f-shutting) (C-f-shutting 𝓤 H A mem run)) (known-f-zero-record : Triple 𝓤 (C #f-zero-record) (C-f-zero-record 𝓤 H A mem run)) (known-f-put-record : Triple 𝓤 (C #f-put-record) (C-f-put-record 𝓤 H A mem run)) where
+  module _ (C : Calls 𝓤 H) (Λ : Loops 𝓤 H) (fm : FmC 𝓤 H (W .laws) C) (known-f-taking : Triple 𝓤 (C #f-taking) (C-f-taking 𝓤 H A mem run)) (known-f-take-at : Triple 𝓤 (C #f-take-at) (C-f-take-at 𝓤 H A mem run)) (known-f-ending : Triple 𝓤 (C #f-ending) (C-f-ending 𝓤 H A mem run)) (known-f-end-at : Triple 𝓤 (C #f-end-at) (C-f-end-at 𝓤 H A mem run)) where
     unit-typed : (w : Val) → (w ∷ []) ≡ (vunit ∷ []) → Holds (hasTy tyUnit w) × WT w
     unit-typed w e = subst (λ (u : Val). Holds (hasTy tyUnit u) × WT u) (sym (ap only e)) (tt, tt)
 
-    abbrev locals : ℕ → ℕ → ℕ → ℕ → ℕ → ℕ → ℕ → ℕ → ℕ → ℕ → ℕ → ℕ → ℕ → Env 𝓤 H
-    locals l₀ l₁ l₂ l₃ l₄ l₅ l₆ l₇ l₈ l₉ l₁₀ l₁₁ l₁₂ = (tyUnit, l₀) ∷ ((sliceTy (tyRef (named 0) mut (pointee (RecordT.the-row .written)))), l₁) ∷ ((tyInt w64), l₂) ∷ (MessageL.mir, l₃) ∷ (HearingL.mir, l₄) ∷ ((tyInt w64), l₅) ∷ ((tyInt w64), l₆) ∷ (RecordL.mir, l₇) ∷ (tyUnit, l₈) ∷ ((tyRef erased mut (pointee (RecordT.the-row .written))), l₉) ∷ ((sliceTy (tyRef erased mut (pointee (RecordT.the-row .written)))), l₁₀) ∷ ((tyRef erased mut (pointee (RecordT.the-row .written))), l₁₁) ∷ ((sliceTy (tyRef erased mut (pointee (RecordT.the-row .written)))), l₁₂) ∷ []
+    abbrev locals : ℕ → ℕ → ℕ → ℕ → ℕ → ℕ → ℕ → ℕ → ℕ → ℕ → ℕ → ℕ → Env 𝓤 H
+    locals l₀ l₁ l₂ l₃ l₄ l₅ l₆ l₇ l₈ l₉ l₁₀ l₁₁ = (tyUnit, l₀) ∷ ((sliceTy (tyRef (named 0) mut (pointee (RecordT.the-row .written)))), l₁) ∷ ((tyInt w64), l₂) ∷ (MessageL.mir, l₃) ∷ (HearingL.mir, l₄) ∷ ((tyInt w64), l₅) ∷ ((tyInt w64), l₆) ∷ (tyUnit, l₇) ∷ ((tyRef erased mut (pointee (RecordT.the-row .written))), l₈) ∷ ((sliceTy (tyRef erased mut (pointee (RecordT.the-row .written)))), l₉) ∷ ((tyRef erased mut (pointee (RecordT.the-row .written))), l₁₀) ∷ ((sliceTy (tyRef erased mut (pointee (RecordT.the-row .written)))), l₁₁) ∷ []
 
-    part-4 : (l₀ l₁ l₂ l₃ l₄ l₅ l₆ l₇ l₈ l₉ l₁₀ l₁₁ l₁₂ : ℕ) (w : Val) (r : ℕ) (ws : Unit {0} × (Unit {0} × Unit {0})) (e : r ≡ slotIf (t .takes) slot) (is : Is usize r (w ∷ [])) (w₂ : Val) (r₂ : Unit {0}) (ws₂ : List Record × (Unit {0} × (Unit {0} × (Unit {0} × Unit {0})))) (e₂ : ws₂ .0 ≡ withRecord (ys-table) r (recordLeft (recordAt (ys-table) r) m t)) (len : length (ws₂ .0) ≡ length ys-table) (is₂ : (w₂ ∷ []) ≡ (vunit ∷ [])) (w₃ : Val) (r₃ : ℕ) (ws₃ : Unit {0} × (Unit {0} × Unit {0})) (e₃ : r₃ ≡ slotIf (t .closes) slot) (is₃ : Is usize r₃ (w₃ ∷ [])) (w₄ : Val) (r₄ : Record) (ws₄ : Unit {0}) (e₄ : r₄ ≡ zeroRecord) (is₄ : Is RecordT.the-row r₄ (w₄ ∷ [])) → Sq W (‵ (fobs γ-table (codedHoleys RecordT.the-row .code (heres RecordT.the-row (ws₂ .0)))) ∷ ‵ (fbor κ₀ (Held RecordT.the-row (length (ws₂ .0)) b-table o-table γ-table)) ∷ ‵ (flft κ₀ q₀) ∷ ‵ (froom (sliceTy (tyRef erased mut (pointee (RecordT.the-row .written)))) l₁₂ 0) ∷ ‵ (fdies (sliceTy (tyRef erased mut (pointee (RecordT.the-row .written)))) l₁₂) ∷ ‵ (froom (tyRef erased mut (pointee (RecordT.the-row .written))) l₁₁ 0) ∷ ‵ (fdies (tyRef erased mut (pointee (RecordT.the-row .written))) l₁₁) ∷ ‵ (fat fullShare (sliceTy (tyRef erased mut (pointee (RecordT.the-row .written)))) l₁₀ 0 (s-table)) ∷ ‵ (fdies (sliceTy (tyRef erased mut (pointee (RecordT.the-row .written)))) l₁₀) ∷ ‵ (fat fullShare (tyRef erased mut (pointee (RecordT.the-row .written))) l₉ 0 (vptr b-table o-table)) ∷ ‵ (fdies (tyRef erased mut (pointee (RecordT.the-row .written))) l₉) ∷ ‵ (fat fullShare tyUnit l₈ 0 (w₂)) ∷ ‵ (fdies tyUnit l₈) ∷ ‵ (fat fullShare RecordL.mir l₇ 0 (w₄)) ∷ ‵ (fdies RecordL.mir l₇) ∷ ‵ (fat fullShare (tyInt w64) l₆ 0 (vint w64 r₃)) ∷ ‵ (fdies (tyInt w64) l₆) ∷ ‵ (fat fullShare (tyInt w64) l₅ 0 (vint w64 r)) ∷ ‵ (fdies (tyInt w64) l₅) ∷ ‵ (fat fullShare HearingL.mir l₄ 0 (v-t)) ∷ ‵ (fdies HearingL.mir l₄) ∷ ‵ (fat fullShare MessageL.mir l₃ 0 (v-m)) ∷ ‵ (fdies MessageL.mir l₃) ∷ ‵ (fat fullShare (tyInt w64) l₂ 0 (vint w64 slot)) ∷ ‵ (fdies (tyInt w64) l₂) ∷ ‵ (fat fullShare (sliceTy (tyRef (named 0) mut (pointee (RecordT.the-row .written)))) l₁ 0 (s-table)) ∷ ‵ (fdies (sliceTy (tyRef (named 0) mut (pointee (RecordT.the-row .written)))) l₁) ∷ ‵ (froom tyUnit l₀ 0) ∷ ‵ (fdies tyUnit l₀) ∷ []) (runs C Λ (locals l₀ l₁ l₂ l₃ l₄ l₅ l₆ l₇ l₈ l₉ l₁₀ l₁₁ l₁₂) (after 6 (code.function .body)) (atRet (locals l₀ l₁ l₂ l₃ l₄ l₅ l₆ l₇ l₈ l₉ l₁₀ l₁₁ l₁₂) Post))
-    part-4 l₀ l₁ l₂ l₃ l₄ l₅ l₆ l₇ l₈ l₉ l₁₀ l₁₁ l₁₂ w r ws e is w₂ r₂ ws₂ e₂ len is₂ w₃ r₃ ws₃ e₃ is₃ w₄ r₄ ws₄ e₄ is₄ =
-        assigns ! (addr ! (from ! (fld ! refl (hop ! (look-in ! 25 (sub ! 0 refl (whole !))) (stop !))))) (from ! (stop !)) (init ! 5 refl (tt, tt)) $
-        assigns ! (agg ! (and-then ! (load ! (from ! (stop !)) (look ! 5 refl)) (and-then ! (load ! (from ! (fld ! refl (stop !))) (look-in ! 25 (sub ! 1 refl (whole !)))) (no-more !)))) (from ! (stop !)) (init ! 3 refl (tt, (tt, (record { fits = g-table .0 }, tt)))) $
-        rewrite ! 3 (λ (m : ℕ). ‵ (fat fullShare (sliceTy (tyRef erased mut (pointee (RecordT.the-row .written)))) l₁₂ 0 (sliceVal (b-table, o-table) m))) (sym len) refl $ opens-slice ! tt RecordT.the-row (ws₂ .0) b-table o-table $ use1 W (‵ (cells (cellOf RecordT.the-row) (ws₂ .0) b-table o-table)) (whole-in 𝓤 H A W RecordT.the-row (ws₂ .0) b-table o-table) $ lft-new ! tt (λ ν₂. move ! (1 ∷ []) $ use1 W (later (some (λ (δ₂ : GName). ‵ (MutSlice (named 0) (ν₂ ∷ []) RecordT.the-row .own (record { ptr = (b-table, o-table); name = δ₂; now = (ws₂ .0) }) ((sliceVal (b-table, o-table) (length (ws₂ .0))) ∷ [])) ⊛ ‵ (flent (ν₂ ∷ []) (Held RecordT.the-row (length (ws₂ .0)) b-table o-table δ₂))))) (lends-slice 𝓤 H A W RecordT.the-row (named 0) (ν₂ ∷ []) (ws₂ .0) b-table o-table (subst (Room RecordT.the-row) (sym len) g-table)) $ await ! tt $ pick ! (λ δ₂. split ! $
-        nothing ! $ move ! (1 ∷ 0 ∷ []) $ join ! $ move ! (2 ∷ 0 ∷ []) $ join ! $ use1 W (raw (C-f-put-record 𝓤 H A mem run .pre (to-f-put-record 𝓤 H A mem run (ν₂ ∷ []) fullShare (record { ptr = (b-table, o-table); name = δ₂; now = (ws₂ .0) }) (sliceVal (b-table, o-table) (length (ws₂ .0))) r₃ (vint w64 r₃) r₄ (w₄)))) (goes-f-put-record 𝓤 H A W mem run (ν₂ ∷ []) fullShare (record { ptr = (b-table, o-table); name = δ₂; now = (ws₂ .0) }) (sliceVal (b-table, o-table) (length (ws₂ .0))) r₃ (vint w64 r₃) r₄ (w₄) (refl, (is₃ .1)) is₄) $
-        calls-at ! fm (C-f-put-record 𝓤 H A mem run) known-f-put-record (to-f-put-record 𝓤 H A mem run (ν₂ ∷ []) fullShare (record { ptr = (b-table, o-table); name = δ₂; now = (ws₂ .0) }) (sliceVal (b-table, o-table) (length (ws₂ .0))) r₃ (vint w64 r₃) r₄ (w₄)) (and-then ! (load ! (from ! (stop !)) (look ! 5 refl)) (and-then ! (load ! (from ! (stop !)) (look ! 17 refl)) (and-then ! (load ! (from ! (stop !)) (look ! 15 refl)) (no-more !)))) (λ w₅.
-        use1 W (later (some (λ (r₅ : Unit {0}). ((‵ (flft (ν₂ ∷ []) fullShare) ⊛ ‵ ftrue) ⊛ ‵ (unit .own r₅ (w₅ ∷ []))) ⊛ raw (ensured 𝓤 H A f-put-record.ended (f-put-record.clauses 𝓤 H A mem run) ((ν₂ ∷ []), tt) ((record { ptr = (b-table, o-table); name = δ₂; now = (ws₂ .0) }), (r₃, (r₄, tt))) tt r₅)))) (id⊢ 𝓤 _) $ await ! tt $ pick ! (λ r₅.
-        split ! $ move ! (1 ∷ []) $ use1 W (some (λ (ws₅ : List Record × (Unit {0} × (Unit {0} × Unit {0}))). ‵ (lasts f-put-record.ended ((ν₂ ∷ []), tt) ((record { ptr = (b-table, o-table); name = δ₂; now = (ws₂ .0) }), (r₃, (r₄, tt))) ws₅) ⊛ raw (fact 𝓤 (ws₅ .0 ≡ withRecord ((ws₂ .0)) r₃ r₄)))) (id⊢ 𝓤 _) $ pick ! (λ ws₅.
-        split ! $ move ! (1 ∷ []) $ heard ! (ws₅ .0 ≡ withRecord ((ws₂ .0)) r₃ r₄) (λ e₅.
-        fsplit ! $ fsplit ! $ move ! (1 ∷ []) $ feqL ! (λ len₂. move ! (1 ∷ []) $ fsplit ! $ drop ! $ fsplit ! $ drop ! $ drop ! $ move ! (1 ∷ []) $ split ! $
-        move ! (1 ∷ []) $ feqL ! (λ is₅. land ! (from ! (stop !)) (store ! 14 refl (unit-typed w₅ is₅)) $
-        split ! $ move ! (1 ∷ []) $ drop ! $ lft-end ! tt $ move ! (0 ∷ 2 ∷ 1 ∷ []) $ use3 W (later (‵ (Arr (cellOf RecordT.the-row) (length (ws₂ .0)) .lies (ws₅ .0) b-table o-table))) (slice-back 𝓤 H A W RecordT.the-row (ν₂ ∷ []) δ₂ (ws₅ .0) (length (ws₂ .0)) b-table o-table) $ await ! tt $ fsplit ! $ drop ! $ use1 W (‵ (row RecordT.the-row fullShare (ws₅ .0) b-table o-table)) (whole-out 𝓤 H A W RecordT.the-row (ws₅ .0) b-table o-table) $ closes-slice ! tt RecordT.the-row (ws₂ .0) (ws₅ .0) len₂ b-table o-table $
-        assigns ! (of-opd ! (unit-lit !)) (from ! (stop !)) (init ! 27 refl (tt, tt)) $
-        returns ! (look ! 27 refl) $ forget ! 3 refl $ forget ! 5 refl $ forget ! 7 refl $ forget ! 9 refl $ forget ! 11 refl $ forget ! 13 refl $ forget ! 15 refl $ forget ! 17 refl $ forget ! 19 refl $ forget ! 21 refl $ forget ! 23 refl $ forget ! 25 refl $ forget ! 27 refl $
-        move ! (27 ∷ 28 ∷ []) $ free1 ! $ move ! (25 ∷ 26 ∷ []) $ free1 ! $ move ! (23 ∷ 24 ∷ []) $ free1 ! $ move ! (21 ∷ 22 ∷ []) $ free1 ! $ move ! (19 ∷ 20 ∷ []) $ free1 ! $ move ! (17 ∷ 18 ∷ []) $ free1 ! $ move ! (15 ∷ 16 ∷ []) $ free1 ! $ move ! (13 ∷ 14 ∷ []) $ free1 ! $ move ! (11 ∷ 12 ∷ []) $ free1 ! $ move ! (9 ∷ 10 ∷ []) $ free1 ! $ move ! (7 ∷ 8 ∷ []) $ free1 ! $ move ! (5 ∷ 6 ∷ []) $ free1 ! $ move ! (3 ∷ 4 ∷ []) $ free1 ! $ free0 ! $
-        use1 W (‵ (fres γ-table (codedHoleys RecordT.the-row .code (heres RecordT.the-row (ws₅ .0))))) (W .names .obs-res γ-table (codedHoleys RecordT.the-row .code (heres RecordT.the-row (ws₅ .0)))) $ use1 W (‵ (finally RecordT.the-row γ-table (ws₅ .0))) (res-finally 𝓤 H A W (named 0) κ₀ RecordT.the-row γ-table (ws₅ .0)) $
-        keep ! (2 ∷ 0 ∷ []) $ by ! (exits (ws₅ .0) (len₂ ∙ len) (put-returns ys-table slot m t r e r₂ (ws₂ .0) e₂ r₃ e₃ r₄ e₄ r₅ (ws₅ .0) e₅))))))))))
-
-    part-3 : (l₀ l₁ l₂ l₃ l₄ l₅ l₆ l₇ l₈ l₉ l₁₀ l₁₁ l₁₂ : ℕ) (w : Val) (r : ℕ) (ws : Unit {0} × (Unit {0} × Unit {0})) (e : r ≡ slotIf (t .takes) slot) (is : Is usize r (w ∷ [])) (w₂ : Val) (r₂ : Unit {0}) (ws₂ : List Record × (Unit {0} × (Unit {0} × (Unit {0} × Unit {0})))) (e₂ : ws₂ .0 ≡ withRecord (ys-table) r (recordLeft (recordAt (ys-table) r) m t)) (len : length (ws₂ .0) ≡ length ys-table) (is₂ : (w₂ ∷ []) ≡ (vunit ∷ [])) → Sq W (‵ (fobs γ-table (codedHoleys RecordT.the-row .code (heres RecordT.the-row (ws₂ .0)))) ∷ ‵ (fbor κ₀ (Held RecordT.the-row (length (ws₂ .0)) b-table o-table γ-table)) ∷ ‵ (flft κ₀ q₀) ∷ ‵ (froom (sliceTy (tyRef erased mut (pointee (RecordT.the-row .written)))) l₁₂ 0) ∷ ‵ (fdies (sliceTy (tyRef erased mut (pointee (RecordT.the-row .written)))) l₁₂) ∷ ‵ (froom (tyRef erased mut (pointee (RecordT.the-row .written))) l₁₁ 0) ∷ ‵ (fdies (tyRef erased mut (pointee (RecordT.the-row .written))) l₁₁) ∷ ‵ (fat fullShare (sliceTy (tyRef erased mut (pointee (RecordT.the-row .written)))) l₁₀ 0 (s-table)) ∷ ‵ (fdies (sliceTy (tyRef erased mut (pointee (RecordT.the-row .written)))) l₁₀) ∷ ‵ (fat fullShare (tyRef erased mut (pointee (RecordT.the-row .written))) l₉ 0 (vptr b-table o-table)) ∷ ‵ (fdies (tyRef erased mut (pointee (RecordT.the-row .written))) l₉) ∷ ‵ (fat fullShare tyUnit l₈ 0 (w₂)) ∷ ‵ (fdies tyUnit l₈) ∷ ‵ (froom RecordL.mir l₇ 0) ∷ ‵ (fdies RecordL.mir l₇) ∷ ‵ (froom (tyInt w64) l₆ 0) ∷ ‵ (fdies (tyInt w64) l₆) ∷ ‵ (fat fullShare (tyInt w64) l₅ 0 (vint w64 r)) ∷ ‵ (fdies (tyInt w64) l₅) ∷ ‵ (fat fullShare HearingL.mir l₄ 0 (v-t)) ∷ ‵ (fdies HearingL.mir l₄) ∷ ‵ (fat fullShare MessageL.mir l₃ 0 (v-m)) ∷ ‵ (fdies MessageL.mir l₃) ∷ ‵ (fat fullShare (tyInt w64) l₂ 0 (vint w64 slot)) ∷ ‵ (fdies (tyInt w64) l₂) ∷ ‵ (fat fullShare (sliceTy (tyRef (named 0) mut (pointee (RecordT.the-row .written)))) l₁ 0 (s-table)) ∷ ‵ (fdies (sliceTy (tyRef (named 0) mut (pointee (RecordT.the-row .written)))) l₁) ∷ ‵ (froom tyUnit l₀ 0) ∷ ‵ (fdies tyUnit l₀) ∷ []) (runs C Λ (locals l₀ l₁ l₂ l₃ l₄ l₅ l₆ l₇ l₈ l₉ l₁₀ l₁₁ l₁₂) (after 4 (code.function .body)) (atRet (locals l₀ l₁ l₂ l₃ l₄ l₅ l₆ l₇ l₈ l₉ l₁₀ l₁₁ l₁₂) Post))
-    part-3 l₀ l₁ l₂ l₃ l₄ l₅ l₆ l₇ l₈ l₉ l₁₀ l₁₁ l₁₂ w r ws e is w₂ r₂ ws₂ e₂ len is₂ =
-        use0 W (raw (C-f-shutting 𝓤 H A mem run .pre (to-f-shutting 𝓤 H A mem run t (v-t) slot (vint w64 slot)))) (goes-f-shutting 𝓤 H A W mem run t (v-t) slot (vint w64 slot) g-t (refl, g-slot)) $
-        calls-at ! fm (C-f-shutting 𝓤 H A mem run) known-f-shutting (to-f-shutting 𝓤 H A mem run t (v-t) slot (vint w64 slot)) (and-then ! (load ! (from ! (stop !)) (look ! 20 refl)) (and-then ! (load ! (from ! (stop !)) (look ! 24 refl)) (no-more !))) (λ w₃.
-        use1 W (later (some (λ (r₃ : ℕ). ((‵ ftrue) ⊛ ‵ (usize .own r₃ (w₃ ∷ []))) ⊛ raw (ensured 𝓤 H A f-shutting.ended (f-shutting.clauses 𝓤 H A mem run) tt (t, (slot, tt)) tt r₃)))) (id⊢ 𝓤 _) $ await ! tt $ pick ! (λ r₃.
-        split ! $ move ! (1 ∷ []) $ use1 W (some (λ (ws₃ : Unit {0} × (Unit {0} × Unit {0})). ‵ (lasts f-shutting.ended tt (t, (slot, tt)) ws₃) ⊛ raw (fact 𝓤 (r₃ ≡ slotIf (t .closes) slot)))) (id⊢ 𝓤 _) $ pick ! (λ ws₃.
-        split ! $ move ! (1 ∷ []) $ heard ! (r₃ ≡ slotIf (t .closes) slot) (λ e₃.
+    part-3 : (l₀ l₁ l₂ l₃ l₄ l₅ l₆ l₇ l₈ l₉ l₁₀ l₁₁ : ℕ) (w : Val) (r : ℕ) (ws : Unit {0} × (Unit {0} × Unit {0})) (e : r ≡ slotIf (t .takes) slot) (is : Is usize r (w ∷ [])) (w₂ : Val) (r₂ : Unit {0}) (ws₂ : List Record × (Unit {0} × (Unit {0} × (Unit {0} × Unit {0})))) (e₂ : ws₂ .0 ≡ withRecord (ys-table) r (recordLeft (recordAt (ys-table) r) m t)) (len : length (ws₂ .0) ≡ length ys-table) (is₂ : (w₂ ∷ []) ≡ (vunit ∷ [])) → Sq W (‵ (fobs γ-table (codedHoleys RecordT.the-row .code (heres RecordT.the-row (ws₂ .0)))) ∷ ‵ (fbor κ₀ (Held RecordT.the-row (length (ws₂ .0)) b-table o-table γ-table)) ∷ ‵ (flft κ₀ q₀) ∷ ‵ (froom (sliceTy (tyRef erased mut (pointee (RecordT.the-row .written)))) l₁₁ 0) ∷ ‵ (fdies (sliceTy (tyRef erased mut (pointee (RecordT.the-row .written)))) l₁₁) ∷ ‵ (froom (tyRef erased mut (pointee (RecordT.the-row .written))) l₁₀ 0) ∷ ‵ (fdies (tyRef erased mut (pointee (RecordT.the-row .written))) l₁₀) ∷ ‵ (fat fullShare (sliceTy (tyRef erased mut (pointee (RecordT.the-row .written)))) l₉ 0 (s-table)) ∷ ‵ (fdies (sliceTy (tyRef erased mut (pointee (RecordT.the-row .written)))) l₉) ∷ ‵ (fat fullShare (tyRef erased mut (pointee (RecordT.the-row .written))) l₈ 0 (vptr b-table o-table)) ∷ ‵ (fdies (tyRef erased mut (pointee (RecordT.the-row .written))) l₈) ∷ ‵ (fat fullShare tyUnit l₇ 0 (w₂)) ∷ ‵ (fdies tyUnit l₇) ∷ ‵ (froom (tyInt w64) l₆ 0) ∷ ‵ (fdies (tyInt w64) l₆) ∷ ‵ (fat fullShare (tyInt w64) l₅ 0 (vint w64 r)) ∷ ‵ (fdies (tyInt w64) l₅) ∷ ‵ (fat fullShare HearingL.mir l₄ 0 (v-t)) ∷ ‵ (fdies HearingL.mir l₄) ∷ ‵ (fat fullShare MessageL.mir l₃ 0 (v-m)) ∷ ‵ (fdies MessageL.mir l₃) ∷ ‵ (fat fullShare (tyInt w64) l₂ 0 (vint w64 slot)) ∷ ‵ (fdies (tyInt w64) l₂) ∷ ‵ (fat fullShare (sliceTy (tyRef (named 0) mut (pointee (RecordT.the-row .written)))) l₁ 0 (s-table)) ∷ ‵ (fdies (sliceTy (tyRef (named 0) mut (pointee (RecordT.the-row .written)))) l₁) ∷ ‵ (froom tyUnit l₀ 0) ∷ ‵ (fdies tyUnit l₀) ∷ []) (runs C Λ (locals l₀ l₁ l₂ l₃ l₄ l₅ l₆ l₇ l₈ l₉ l₁₀ l₁₁) (after 4 (code.function .body)) (atRet (locals l₀ l₁ l₂ l₃ l₄ l₅ l₆ l₇ l₈ l₉ l₁₀ l₁₁) Post))
+    part-3 l₀ l₁ l₂ l₃ l₄ l₅ l₆ l₇ l₈ l₉ l₁₀ l₁₁ w r ws e is w₂ r₂ ws₂ e₂ len is₂ =
+        use0 W (raw (C-f-ending 𝓤 H A mem run .pre (to-f-ending 𝓤 H A mem run t (v-t) slot (vint w64 slot)))) (goes-f-ending 𝓤 H A W mem run t (v-t) slot (vint w64 slot) g-t (refl, g-slot)) $
+        calls-at ! fm (C-f-ending 𝓤 H A mem run) known-f-ending (to-f-ending 𝓤 H A mem run t (v-t) slot (vint w64 slot)) (and-then ! (load ! (from ! (stop !)) (look ! 18 refl)) (and-then ! (load ! (from ! (stop !)) (look ! 22 refl)) (no-more !))) (λ w₃.
+        use1 W (later (some (λ (r₃ : ℕ). ((‵ ftrue) ⊛ ‵ (usize .own r₃ (w₃ ∷ []))) ⊛ raw (ensured 𝓤 H A f-ending.ended (f-ending.clauses 𝓤 H A mem run) tt (t, (slot, tt)) tt r₃)))) (id⊢ 𝓤 _) $ await ! tt $ pick ! (λ r₃.
+        split ! $ move ! (1 ∷ []) $ use1 W (some (λ (ws₃ : Unit {0} × (Unit {0} × Unit {0})). ‵ (lasts f-ending.ended tt (t, (slot, tt)) ws₃) ⊛ raw (fact 𝓤 (r₃ ≡ slotIf (t .closes || t .aborts) slot)))) (id⊢ 𝓤 _) $ pick ! (λ ws₃.
+        split ! $ move ! (1 ∷ []) $ heard ! (r₃ ≡ slotIf (t .closes || t .aborts) slot) (λ e₃.
         fsplit ! $ drop ! $ fsplit ! $ drop ! $ drop ! $ split ! $
         move ! (1 ∷ []) $ peeks ! usize (Is usize) (shows 𝓤 H A usize) r₃ (w₃ ∷ []) (λ is₃. drop ! $
-        land ! (from ! (stop !)) (init ! 16 refl (uint-lawful 𝓤 H A W w64 .typed r₃ _ is₃ .0)) $ rewrite ! 16 (λ (u : Val). ‵ (fat fullShare (tyInt w64) l₆ 0 u)) (ap only (is₃ .0)) refl $
+        land ! (from ! (stop !)) (init ! 14 refl (uint-lawful 𝓤 H A W w64 .typed r₃ _ is₃ .0)) $ rewrite ! 14 (λ (u : Val). ‵ (fat fullShare (tyInt w64) l₆ 0 u)) (ap only (is₃ .0)) refl $
         drop ! $
-        use0 W (raw (C-f-zero-record 𝓤 H A mem run .pre (to-f-zero-record 𝓤 H A mem run))) (goes-f-zero-record 𝓤 H A W mem run) $
-        calls-at ! fm (C-f-zero-record 𝓤 H A mem run) known-f-zero-record (to-f-zero-record 𝓤 H A mem run) (no-more !) (λ w₄.
-        use1 W (later (some (λ (r₄ : Record). ((‵ ftrue) ⊛ ‵ (RecordT.the-row .own r₄ (w₄ ∷ []))) ⊛ raw (ensured 𝓤 H A f-zero-record.ended (f-zero-record.clauses 𝓤 H A mem run) tt tt tt r₄)))) (id⊢ 𝓤 _) $ await ! tt $ pick ! (λ r₄.
-        split ! $ move ! (1 ∷ []) $ use1 W (some (λ (ws₄ : Unit {0}). ‵ (lasts f-zero-record.ended tt tt ws₄) ⊛ raw (fact 𝓤 (r₄ ≡ zeroRecord)))) (id⊢ 𝓤 _) $ pick ! (λ ws₄.
-        split ! $ move ! (1 ∷ []) $ heard ! (r₄ ≡ zeroRecord) (λ e₄.
-        drop ! $ split ! $
-        move ! (1 ∷ []) $ peeks ! RecordT.the-row (Is RecordT.the-row) (shows 𝓤 H A RecordT.the-row) r₄ (w₄ ∷ []) (λ is₄. drop ! $
-        land ! (from ! (stop !)) (init ! 14 refl (LL.lawful RecordT.the-type RecordL.the-laws 𝓤 H A W .typed r₄ _ is₄ .0)) $
-        drop ! $
-        part-4 l₀ l₁ l₂ l₃ l₄ l₅ l₆ l₇ l₈ l₉ l₁₀ l₁₁ l₁₂ w r ws e is w₂ r₂ ws₂ e₂ len is₂ w₃ r₃ ws₃ e₃ is₃ w₄ r₄ ws₄ e₄ is₄))))))))))
+        assigns ! (addr ! (from ! (fld ! refl (hop ! (look-in ! 23 (sub ! 0 refl (whole !))) (stop !))))) (from ! (stop !)) (init ! 5 refl (tt, tt)) $
+        assigns ! (agg ! (and-then ! (load ! (from ! (stop !)) (look ! 5 refl)) (and-then ! (load ! (from ! (fld ! refl (stop !))) (look-in ! 23 (sub ! 1 refl (whole !)))) (no-more !)))) (from ! (stop !)) (init ! 3 refl (tt, (tt, (record { fits = g-table .0 }, tt)))) $
+        rewrite ! 3 (λ (m : ℕ). ‵ (fat fullShare (sliceTy (tyRef erased mut (pointee (RecordT.the-row .written)))) l₁₁ 0 (sliceVal (b-table, o-table) m))) (sym len) refl $ opens-slice ! tt RecordT.the-row (ws₂ .0) b-table o-table $ use1 W (‵ (cells (cellOf RecordT.the-row) (ws₂ .0) b-table o-table)) (whole-in 𝓤 H A W RecordT.the-row (ws₂ .0) b-table o-table) $ lft-new ! tt (λ ν₂. move ! (1 ∷ []) $ use1 W (later (some (λ (δ₂ : GName). ‵ (MutSlice (named 0) (ν₂ ∷ []) RecordT.the-row .own (record { ptr = (b-table, o-table); name = δ₂; now = (ws₂ .0) }) ((sliceVal (b-table, o-table) (length (ws₂ .0))) ∷ [])) ⊛ ‵ (flent (ν₂ ∷ []) (Held RecordT.the-row (length (ws₂ .0)) b-table o-table δ₂))))) (lends-slice 𝓤 H A W RecordT.the-row (named 0) (ν₂ ∷ []) (ws₂ .0) b-table o-table (subst (Room RecordT.the-row) (sym len) g-table)) $ await ! tt $ pick ! (λ δ₂. split ! $
+        nothing ! $ move ! (1 ∷ 0 ∷ []) $ join ! $ move ! (2 ∷ 0 ∷ []) $ join ! $ use1 W (raw (C-f-end-at 𝓤 H A mem run .pre (to-f-end-at 𝓤 H A mem run (ν₂ ∷ []) fullShare (record { ptr = (b-table, o-table); name = δ₂; now = (ws₂ .0) }) (sliceVal (b-table, o-table) (length (ws₂ .0))) r₃ (vint w64 r₃) t (v-t)))) (goes-f-end-at 𝓤 H A W mem run (ν₂ ∷ []) fullShare (record { ptr = (b-table, o-table); name = δ₂; now = (ws₂ .0) }) (sliceVal (b-table, o-table) (length (ws₂ .0))) r₃ (vint w64 r₃) t (v-t) (refl, (is₃ .1)) g-t) $
+        calls-at ! fm (C-f-end-at 𝓤 H A mem run) known-f-end-at (to-f-end-at 𝓤 H A mem run (ν₂ ∷ []) fullShare (record { ptr = (b-table, o-table); name = δ₂; now = (ws₂ .0) }) (sliceVal (b-table, o-table) (length (ws₂ .0))) r₃ (vint w64 r₃) t (v-t)) (and-then ! (load ! (from ! (stop !)) (look ! 5 refl)) (and-then ! (load ! (from ! (stop !)) (look ! 15 refl)) (and-then ! (load ! (from ! (stop !)) (look ! 19 refl)) (no-more !)))) (λ w₄.
+        use1 W (later (some (λ (r₄ : Unit {0}). ((‵ (flft (ν₂ ∷ []) fullShare) ⊛ ‵ ftrue) ⊛ ‵ (unit .own r₄ (w₄ ∷ []))) ⊛ raw (ensured 𝓤 H A f-end-at.ended (f-end-at.clauses 𝓤 H A mem run) ((ν₂ ∷ []), tt) ((record { ptr = (b-table, o-table); name = δ₂; now = (ws₂ .0) }), (r₃, (t, tt))) tt r₄)))) (id⊢ 𝓤 _) $ await ! tt $ pick ! (λ r₄.
+        split ! $ move ! (1 ∷ []) $ use1 W (some (λ (ws₄ : List Record × (Unit {0} × (Unit {0} × Unit {0}))). ‵ (lasts f-end-at.ended ((ν₂ ∷ []), tt) ((record { ptr = (b-table, o-table); name = δ₂; now = (ws₂ .0) }), (r₃, (t, tt))) ws₄) ⊛ raw (fact 𝓤 (ws₄ .0 ≡ withRecord ((ws₂ .0)) r₃ (endedOf (recordAt ((ws₂ .0)) r₃) t))))) (id⊢ 𝓤 _) $ pick ! (λ ws₄.
+        split ! $ move ! (1 ∷ []) $ heard ! (ws₄ .0 ≡ withRecord ((ws₂ .0)) r₃ (endedOf (recordAt ((ws₂ .0)) r₃) t)) (λ e₄.
+        fsplit ! $ fsplit ! $ move ! (1 ∷ []) $ feqL ! (λ len₂. move ! (1 ∷ []) $ fsplit ! $ drop ! $ fsplit ! $ drop ! $ drop ! $ move ! (1 ∷ []) $ split ! $
+        move ! (1 ∷ []) $ feqL ! (λ is₄. land ! (from ! (stop !)) (store ! 14 refl (unit-typed w₄ is₄)) $
+        split ! $ move ! (1 ∷ []) $ drop ! $ lft-end ! tt $ move ! (0 ∷ 2 ∷ 1 ∷ []) $ use3 W (later (‵ (Arr (cellOf RecordT.the-row) (length (ws₂ .0)) .lies (ws₄ .0) b-table o-table))) (slice-back 𝓤 H A W RecordT.the-row (ν₂ ∷ []) δ₂ (ws₄ .0) (length (ws₂ .0)) b-table o-table) $ await ! tt $ fsplit ! $ drop ! $ use1 W (‵ (row RecordT.the-row fullShare (ws₄ .0) b-table o-table)) (whole-out 𝓤 H A W RecordT.the-row (ws₄ .0) b-table o-table) $ closes-slice ! tt RecordT.the-row (ws₂ .0) (ws₄ .0) len₂ b-table o-table $
+        assigns ! (of-opd ! (unit-lit !)) (from ! (stop !)) (init ! 25 refl (tt, tt)) $
+        returns ! (look ! 25 refl) $ forget ! 3 refl $ forget ! 5 refl $ forget ! 7 refl $ forget ! 9 refl $ forget ! 11 refl $ forget ! 13 refl $ forget ! 15 refl $ forget ! 17 refl $ forget ! 19 refl $ forget ! 21 refl $ forget ! 23 refl $ forget ! 25 refl $
+        move ! (25 ∷ 26 ∷ []) $ free1 ! $ move ! (23 ∷ 24 ∷ []) $ free1 ! $ move ! (21 ∷ 22 ∷ []) $ free1 ! $ move ! (19 ∷ 20 ∷ []) $ free1 ! $ move ! (17 ∷ 18 ∷ []) $ free1 ! $ move ! (15 ∷ 16 ∷ []) $ free1 ! $ move ! (13 ∷ 14 ∷ []) $ free1 ! $ move ! (11 ∷ 12 ∷ []) $ free1 ! $ move ! (9 ∷ 10 ∷ []) $ free1 ! $ move ! (7 ∷ 8 ∷ []) $ free1 ! $ move ! (5 ∷ 6 ∷ []) $ free1 ! $ move ! (3 ∷ 4 ∷ []) $ free1 ! $ free0 ! $
+        use1 W (‵ (fres γ-table (codedHoleys RecordT.the-row .code (heres RecordT.the-row (ws₄ .0))))) (W .names .obs-res γ-table (codedHoleys RecordT.the-row .code (heres RecordT.the-row (ws₄ .0)))) $ use1 W (‵ (finally RecordT.the-row γ-table (ws₄ .0))) (res-finally 𝓤 H A W (named 0) κ₀ RecordT.the-row γ-table (ws₄ .0)) $
+        keep ! (2 ∷ 0 ∷ []) $ by ! (exits (ws₄ .0) (len₂ ∙ len) (put-returns ys-table slot m t r e r₂ (ws₂ .0) e₂ r₃ e₃ r₄ (ws₄ .0) e₄)))))))))))))))
 
-    part-2 : (l₀ l₁ l₂ l₃ l₄ l₅ l₆ l₇ l₈ l₉ l₁₀ l₁₁ l₁₂ : ℕ) → Sq W (‵ (flft κ₀ q₀) ∷ ‵ Own-table ∷ ‵ (froom (sliceTy (tyRef erased mut (pointee (RecordT.the-row .written)))) l₁₂ 0) ∷ ‵ (fdies (sliceTy (tyRef erased mut (pointee (RecordT.the-row .written)))) l₁₂) ∷ ‵ (froom (tyRef erased mut (pointee (RecordT.the-row .written))) l₁₁ 0) ∷ ‵ (fdies (tyRef erased mut (pointee (RecordT.the-row .written))) l₁₁) ∷ ‵ (froom (sliceTy (tyRef erased mut (pointee (RecordT.the-row .written)))) l₁₀ 0) ∷ ‵ (fdies (sliceTy (tyRef erased mut (pointee (RecordT.the-row .written)))) l₁₀) ∷ ‵ (froom (tyRef erased mut (pointee (RecordT.the-row .written))) l₉ 0) ∷ ‵ (fdies (tyRef erased mut (pointee (RecordT.the-row .written))) l₉) ∷ ‵ (froom tyUnit l₈ 0) ∷ ‵ (fdies tyUnit l₈) ∷ ‵ (froom RecordL.mir l₇ 0) ∷ ‵ (fdies RecordL.mir l₇) ∷ ‵ (froom (tyInt w64) l₆ 0) ∷ ‵ (fdies (tyInt w64) l₆) ∷ ‵ (froom (tyInt w64) l₅ 0) ∷ ‵ (fdies (tyInt w64) l₅) ∷ ‵ (fat fullShare HearingL.mir l₄ 0 (v-t)) ∷ ‵ (fdies HearingL.mir l₄) ∷ ‵ (fat fullShare MessageL.mir l₃ 0 (v-m)) ∷ ‵ (fdies MessageL.mir l₃) ∷ ‵ (fat fullShare (tyInt w64) l₂ 0 (vint w64 slot)) ∷ ‵ (fdies (tyInt w64) l₂) ∷ ‵ (fat fullShare (sliceTy (tyRef (named 0) mut (pointee (RecordT.the-row .written)))) l₁ 0 (s-table)) ∷ ‵ (fdies (sliceTy (tyRef (named 0) mut (pointee (RecordT.the-row .written)))) l₁) ∷ ‵ (froom tyUnit l₀ 0) ∷ ‵ (fdies tyUnit l₀) ∷ []) (runs C Λ (locals l₀ l₁ l₂ l₃ l₄ l₅ l₆ l₇ l₈ l₉ l₁₀ l₁₁ l₁₂) (after 0 (code.function .body)) (atRet (locals l₀ l₁ l₂ l₃ l₄ l₅ l₆ l₇ l₈ l₉ l₁₀ l₁₁ l₁₂) Post))
-    part-2 l₀ l₁ l₂ l₃ l₄ l₅ l₆ l₇ l₈ l₉ l₁₀ l₁₁ l₁₂ =
+    part-2 : (l₀ l₁ l₂ l₃ l₄ l₅ l₆ l₇ l₈ l₉ l₁₀ l₁₁ : ℕ) → Sq W (‵ (flft κ₀ q₀) ∷ ‵ Own-table ∷ ‵ (froom (sliceTy (tyRef erased mut (pointee (RecordT.the-row .written)))) l₁₁ 0) ∷ ‵ (fdies (sliceTy (tyRef erased mut (pointee (RecordT.the-row .written)))) l₁₁) ∷ ‵ (froom (tyRef erased mut (pointee (RecordT.the-row .written))) l₁₀ 0) ∷ ‵ (fdies (tyRef erased mut (pointee (RecordT.the-row .written))) l₁₀) ∷ ‵ (froom (sliceTy (tyRef erased mut (pointee (RecordT.the-row .written)))) l₉ 0) ∷ ‵ (fdies (sliceTy (tyRef erased mut (pointee (RecordT.the-row .written)))) l₉) ∷ ‵ (froom (tyRef erased mut (pointee (RecordT.the-row .written))) l₈ 0) ∷ ‵ (fdies (tyRef erased mut (pointee (RecordT.the-row .written))) l₈) ∷ ‵ (froom tyUnit l₇ 0) ∷ ‵ (fdies tyUnit l₇) ∷ ‵ (froom (tyInt w64) l₆ 0) ∷ ‵ (fdies (tyInt w64) l₆) ∷ ‵ (froom (tyInt w64) l₅ 0) ∷ ‵ (fdies (tyInt w64) l₅) ∷ ‵ (fat fullShare HearingL.mir l₄ 0 (v-t)) ∷ ‵ (fdies HearingL.mir l₄) ∷ ‵ (fat fullShare MessageL.mir l₃ 0 (v-m)) ∷ ‵ (fdies MessageL.mir l₃) ∷ ‵ (fat fullShare (tyInt w64) l₂ 0 (vint w64 slot)) ∷ ‵ (fdies (tyInt w64) l₂) ∷ ‵ (fat fullShare (sliceTy (tyRef (named 0) mut (pointee (RecordT.the-row .written)))) l₁ 0 (s-table)) ∷ ‵ (fdies (sliceTy (tyRef (named 0) mut (pointee (RecordT.the-row .written)))) l₁) ∷ ‵ (froom tyUnit l₀ 0) ∷ ‵ (fdies tyUnit l₀) ∷ []) (runs C Λ (locals l₀ l₁ l₂ l₃ l₄ l₅ l₆ l₇ l₈ l₉ l₁₀ l₁₁) (after 0 (code.function .body)) (atRet (locals l₀ l₁ l₂ l₃ l₄ l₅ l₆ l₇ l₈ l₉ l₁₀ l₁₁) Post))
+    part-2 l₀ l₁ l₂ l₃ l₄ l₅ l₆ l₇ l₈ l₉ l₁₀ l₁₁ =
         use0 W (raw (C-f-taking 𝓤 H A mem run .pre (to-f-taking 𝓤 H A mem run t (v-t) slot (vint w64 slot)))) (goes-f-taking 𝓤 H A W mem run t (v-t) slot (vint w64 slot) g-t (refl, g-slot)) $
-        calls-at ! fm (C-f-taking 𝓤 H A mem run) known-f-taking (to-f-taking 𝓤 H A mem run t (v-t) slot (vint w64 slot)) (and-then ! (load ! (from ! (stop !)) (look ! 19 refl)) (and-then ! (load ! (from ! (stop !)) (look ! 23 refl)) (no-more !))) (λ w.
+        calls-at ! fm (C-f-taking 𝓤 H A mem run) known-f-taking (to-f-taking 𝓤 H A mem run t (v-t) slot (vint w64 slot)) (and-then ! (load ! (from ! (stop !)) (look ! 17 refl)) (and-then ! (load ! (from ! (stop !)) (look ! 21 refl)) (no-more !))) (λ w.
         use1 W (later (some (λ (r : ℕ). ((‵ ftrue) ⊛ ‵ (usize .own r (w ∷ []))) ⊛ raw (ensured 𝓤 H A f-taking.ended (f-taking.clauses 𝓤 H A mem run) tt (t, (slot, tt)) tt r)))) (id⊢ 𝓤 _) $ await ! tt $ pick ! (λ r.
         split ! $ move ! (1 ∷ []) $ use1 W (some (λ (ws : Unit {0} × (Unit {0} × Unit {0})). ‵ (lasts f-taking.ended tt (t, (slot, tt)) ws) ⊛ raw (fact 𝓤 (r ≡ slotIf (t .takes) slot)))) (id⊢ 𝓤 _) $ pick ! (λ ws.
         split ! $ move ! (1 ∷ []) $ heard ! (r ≡ slotIf (t .takes) slot) (λ e.
         fsplit ! $ drop ! $ fsplit ! $ drop ! $ drop ! $ split ! $
         move ! (1 ∷ []) $ peeks ! usize (Is usize) (shows 𝓤 H A usize) r (w ∷ []) (λ is. drop ! $
-        land ! (from ! (stop !)) (init ! 17 refl (uint-lawful 𝓤 H A W w64 .typed r _ is .0)) $ rewrite ! 17 (λ (u : Val). ‵ (fat fullShare (tyInt w64) l₅ 0 u)) (ap only (is .0)) refl $
+        land ! (from ! (stop !)) (init ! 15 refl (uint-lawful 𝓤 H A W w64 .typed r _ is .0)) $ rewrite ! 15 (λ (u : Val). ‵ (fat fullShare (tyInt w64) l₅ 0 u)) (ap only (is .0)) refl $
         drop ! $
-        assigns ! (addr ! (from ! (fld ! refl (hop ! (look-in ! 24 (sub ! 0 refl (whole !))) (stop !))))) (from ! (stop !)) (init ! 8 refl (tt, tt)) $
-        assigns ! (agg ! (and-then ! (load ! (from ! (stop !)) (look ! 8 refl)) (and-then ! (load ! (from ! (fld ! refl (stop !))) (look-in ! 24 (sub ! 1 refl (whole !)))) (no-more !)))) (from ! (stop !)) (init ! 6 refl (tt, (tt, (record { fits = g-table .0 }, tt)))) $
+        assigns ! (addr ! (from ! (fld ! refl (hop ! (look-in ! 22 (sub ! 0 refl (whole !))) (stop !))))) (from ! (stop !)) (init ! 8 refl (tt, tt)) $
+        assigns ! (agg ! (and-then ! (load ! (from ! (stop !)) (look ! 8 refl)) (and-then ! (load ! (from ! (fld ! refl (stop !))) (look-in ! 22 (sub ! 1 refl (whole !)))) (no-more !)))) (from ! (stop !)) (init ! 6 refl (tt, (tt, (record { fits = g-table .0 }, tt)))) $
         move ! (1 ∷ []) $ fsplit ! $ drop ! $ fsplit ! $ opens-slice ! tt RecordT.the-row ys-table b-table o-table $ use1 W (‵ (cells (cellOf RecordT.the-row) ys-table b-table o-table)) (whole-in 𝓤 H A W RecordT.the-row ys-table b-table o-table) $ lft-new ! tt (λ ν. move ! (1 ∷ []) $ use1 W (later (some (λ (δ : GName). ‵ (MutSlice (named 0) (ν ∷ []) RecordT.the-row .own (record { ptr = (b-table, o-table); name = δ; now = ys-table }) ((sliceVal (b-table, o-table) (length ys-table)) ∷ [])) ⊛ ‵ (flent (ν ∷ []) (Held RecordT.the-row (length ys-table) b-table o-table δ))))) (lends-slice 𝓤 H A W RecordT.the-row (named 0) (ν ∷ []) ys-table b-table o-table g-table) $ await ! tt $ pick ! (λ δ. split ! $
         nothing ! $ move ! (1 ∷ 0 ∷ []) $ join ! $ move ! (2 ∷ 0 ∷ []) $ join ! $ use1 W (raw (C-f-take-at 𝓤 H A mem run .pre (to-f-take-at 𝓤 H A mem run (ν ∷ []) fullShare (record { ptr = (b-table, o-table); name = δ; now = ys-table }) (sliceVal (b-table, o-table) (length ys-table)) r (vint w64 r) m (v-m) t (v-t)))) (goes-f-take-at 𝓤 H A W mem run (ν ∷ []) fullShare (record { ptr = (b-table, o-table); name = δ; now = ys-table }) (sliceVal (b-table, o-table) (length ys-table)) r (vint w64 r) m (v-m) t (v-t) (refl, (is .1)) g-m g-t) $
-        calls-at ! fm (C-f-take-at 𝓤 H A mem run) known-f-take-at (to-f-take-at 𝓤 H A mem run (ν ∷ []) fullShare (record { ptr = (b-table, o-table); name = δ; now = ys-table }) (sliceVal (b-table, o-table) (length ys-table)) r (vint w64 r) m (v-m) t (v-t)) (and-then ! (load ! (from ! (stop !)) (look ! 9 refl)) (and-then ! (load ! (from ! (stop !)) (look ! 19 refl)) (and-then ! (load ! (from ! (stop !)) (look ! 23 refl)) (and-then ! (load ! (from ! (stop !)) (look ! 21 refl)) (no-more !))))) (λ w₂.
+        calls-at ! fm (C-f-take-at 𝓤 H A mem run) known-f-take-at (to-f-take-at 𝓤 H A mem run (ν ∷ []) fullShare (record { ptr = (b-table, o-table); name = δ; now = ys-table }) (sliceVal (b-table, o-table) (length ys-table)) r (vint w64 r) m (v-m) t (v-t)) (and-then ! (load ! (from ! (stop !)) (look ! 9 refl)) (and-then ! (load ! (from ! (stop !)) (look ! 17 refl)) (and-then ! (load ! (from ! (stop !)) (look ! 21 refl)) (and-then ! (load ! (from ! (stop !)) (look ! 19 refl)) (no-more !))))) (λ w₂.
         use1 W (later (some (λ (r₂ : Unit {0}). ((‵ (flft (ν ∷ []) fullShare) ⊛ ‵ ftrue) ⊛ ‵ (unit .own r₂ (w₂ ∷ []))) ⊛ raw (ensured 𝓤 H A f-take-at.ended (f-take-at.clauses 𝓤 H A mem run) ((ν ∷ []), tt) ((record { ptr = (b-table, o-table); name = δ; now = ys-table }), (r, (m, (t, tt)))) tt r₂)))) (id⊢ 𝓤 _) $ await ! tt $ pick ! (λ r₂.
         split ! $ move ! (1 ∷ []) $ use1 W (some (λ (ws₂ : List Record × (Unit {0} × (Unit {0} × (Unit {0} × Unit {0})))). ‵ (lasts f-take-at.ended ((ν ∷ []), tt) ((record { ptr = (b-table, o-table); name = δ; now = ys-table }), (r, (m, (t, tt)))) ws₂) ⊛ raw (fact 𝓤 (ws₂ .0 ≡ withRecord (ys-table) r (recordLeft (recordAt (ys-table) r) m t))))) (id⊢ 𝓤 _) $ pick ! (λ ws₂.
         split ! $ move ! (1 ∷ []) $ heard ! (ws₂ .0 ≡ withRecord (ys-table) r (recordLeft (recordAt (ys-table) r) m t)) (λ e₂.
         fsplit ! $ fsplit ! $ move ! (1 ∷ []) $ feqL ! (λ len. move ! (1 ∷ []) $ fsplit ! $ drop ! $ fsplit ! $ drop ! $ fsplit ! $ drop ! $ drop ! $ move ! (1 ∷ []) $ split ! $
         move ! (1 ∷ []) $ feqL ! (λ is₂. land ! (from ! (stop !)) (init ! 14 refl (unit-typed w₂ is₂)) $
         split ! $ move ! (1 ∷ []) $ drop ! $ lft-end ! tt $ move ! (0 ∷ 2 ∷ 1 ∷ []) $ use3 W (later (‵ (Arr (cellOf RecordT.the-row) (length ys-table) .lies (ws₂ .0) b-table o-table))) (slice-back 𝓤 H A W RecordT.the-row (ν ∷ []) δ (ws₂ .0) (length ys-table) b-table o-table) $ await ! tt $ fsplit ! $ drop ! $ use1 W (‵ (row RecordT.the-row fullShare (ws₂ .0) b-table o-table)) (whole-out 𝓤 H A W RecordT.the-row (ws₂ .0) b-table o-table) $ closes-slice ! tt RecordT.the-row ys-table (ws₂ .0) len b-table o-table $
-        part-3 l₀ l₁ l₂ l₃ l₄ l₅ l₆ l₇ l₈ l₉ l₁₀ l₁₁ l₁₂ w r ws e is w₂ r₂ ws₂ e₂ len is₂)))))))))))))
+        part-3 l₀ l₁ l₂ l₃ l₄ l₅ l₆ l₇ l₈ l₉ l₁₀ l₁₁ w r ws e is w₂ r₂ ws₂ e₂ len is₂)))))))))))))
 
     walk : ent 𝓤 (onEntry 𝓤 H A call.signature κs qs x at) (WpFn 𝓤 H C Λ code.function (s-table ∷ vint w64 slot ∷ v-m ∷ v-t ∷ []) Post)
     walk =
         qed W ((‵ (flft κ₀ q₀) ⊛ ‵ ftrue) ∷ ‵ (owns (MutSlice (named 0) κ₀ RecordT.the-row ∷ usize ∷ MessageT.the-row ∷ HearingT.the-row ∷ []) x at) ∷ []) ∵ enter ! C Λ code.function (s-table ∷ vint w64 slot ∷ v-m ∷ v-t ∷ []) _ $
-        alloc1 ! (λ l₀. alloc1 ! (λ l₁. alloc1 ! (λ l₂. alloc1 ! (λ l₃. alloc1 ! (λ l₄. alloc1 ! (λ l₅. alloc1 ! (λ l₆. alloc1 ! (λ l₇. alloc1 ! (λ l₈. alloc1 ! (λ l₉. alloc1 ! (λ l₁₀. alloc1 ! (λ l₁₁. alloc1 ! (λ l₁₂. alloc0 ! $ params1 ! $
-        pass1 ! (init ! 22 refl (tt, (tt, (record { fits = g-table .0 }, tt)))) $ pass1 ! (init ! 20 refl (tt, record { fits = g-slot })) $ pass1 ! (init ! 18 refl (LL.lawful MessageT.the-type MessageL.the-laws 𝓤 H A W .typed m _ g-m .0)) $ pass1 ! (init ! 16 refl (LL.lawful HearingT.the-type HearingL.the-laws 𝓤 H A W .typed t _ g-t .0)) $ pass0 ! $
-        move ! (27 ∷ []) $ fsplit ! $ move ! (1 ∷ []) $ fsplit ! $ drop ! $ fsplit ! $ drop ! $ fsplit ! $ drop ! $ drop ! $ move ! (27 ∷ []) $ split ! $ move ! (1 ∷ []) $ drop ! $
-        part-2 l₀ l₁ l₂ l₃ l₄ l₅ l₆ l₇ l₈ l₉ l₁₀ l₁₁ l₁₂)))))))))))))
+        alloc1 ! (λ l₀. alloc1 ! (λ l₁. alloc1 ! (λ l₂. alloc1 ! (λ l₃. alloc1 ! (λ l₄. alloc1 ! (λ l₅. alloc1 ! (λ l₆. alloc1 ! (λ l₇. alloc1 ! (λ l₈. alloc1 ! (λ l₉. alloc1 ! (λ l₁₀. alloc1 ! (λ l₁₁. alloc0 ! $ params1 ! $
+        pass1 ! (init ! 20 refl (tt, (tt, (record { fits = g-table .0 }, tt)))) $ pass1 ! (init ! 18 refl (tt, record { fits = g-slot })) $ pass1 ! (init ! 16 refl (LL.lawful MessageT.the-type MessageL.the-laws 𝓤 H A W .typed m _ g-m .0)) $ pass1 ! (init ! 14 refl (LL.lawful HearingT.the-type HearingL.the-laws 𝓤 H A W .typed t _ g-t .0)) $ pass0 ! $
+        move ! (25 ∷ []) $ fsplit ! $ move ! (1 ∷ []) $ fsplit ! $ drop ! $ fsplit ! $ drop ! $ fsplit ! $ drop ! $ drop ! $ move ! (25 ∷ []) $ split ! $ move ! (1 ∷ []) $ drop ! $
+        part-2 l₀ l₁ l₂ l₃ l₄ l₅ l₆ l₇ l₈ l₉ l₁₀ l₁₁))))))))))))
 
 module _ {M : Type 1} (𝓤 : URA M) (H : Heap 𝓤) (A : Atoms 𝓤) (W : Given 𝓤 H A) (mem : Memory → SProp 𝓤) (run : Routine → Fun 𝓤) where
-  call-walks : (C : Calls 𝓤 H) (Λ : Loops 𝓤 H) → FmC 𝓤 H (W .laws) C → Triple 𝓤 (C #f-taking) (C-f-taking 𝓤 H A mem run) → Triple 𝓤 (C #f-take-at) (C-f-take-at 𝓤 H A mem run) → Triple 𝓤 (C #f-shutting) (C-f-shutting 𝓤 H A mem run) → Triple 𝓤 (C #f-zero-record) (C-f-zero-record 𝓤 H A mem run) → Triple 𝓤 (C #f-put-record) (C-f-put-record 𝓤 H A mem run) → Walks 𝓤 H A call.ended stayed (WpFn 𝓤 H C Λ code.function) (call.clauses 𝓤 H A mem run)
-  call-walks C Λ fm known-f-taking known-f-take-at known-f-shutting known-f-zero-record known-f-put-record = walked 𝓤 H A call.ended stayed (call.clauses 𝓤 H A mem run) (WpFn 𝓤 H C Λ code.function)
+  call-walks : (C : Calls 𝓤 H) (Λ : Loops 𝓤 H) → FmC 𝓤 H (W .laws) C → Triple 𝓤 (C #f-taking) (C-f-taking 𝓤 H A mem run) → Triple 𝓤 (C #f-take-at) (C-f-take-at 𝓤 H A mem run) → Triple 𝓤 (C #f-ending) (C-f-ending 𝓤 H A mem run) → Triple 𝓤 (C #f-end-at) (C-f-end-at 𝓤 H A mem run) → Walks 𝓤 H A call.ended stayed (WpFn 𝓤 H C Λ code.function) (call.clauses 𝓤 H A mem run)
+  call-walks C Λ fm known-f-taking known-f-take-at known-f-ending known-f-end-at = walked 𝓤 H A call.ended stayed (call.clauses 𝓤 H A mem run) (WpFn 𝓤 H C Λ code.function)
       (λ κs. (slice-vals, ((uint-vals w64), ((LL.vals MessageT.the-type MessageL.the-laws), ((LL.vals HearingT.the-type HearingL.the-laws), tt))))) (λ κs. (mut-slice-tells (named 0) (κs .0) RecordT.the-row, ((uint-tells w64), ((LL.tells MessageT.the-type MessageL.the-laws), ((LL.tells HearingT.the-type HearingL.the-laws), tt)))))
-      (λ κs qs bounds a g are. via 𝓤 _ (fst∗ 𝓤 _ (emp 𝓤)) (walk 𝓤 H A W mem run (κs .0) (qs .0) (a .0 .ptr .0) (a .0 .ptr .1) (a .0 .name) (a .0 .now) (a .1 .0) (a .1 .1 .0) (LL.val MessageT.the-type MessageL.the-laws (a .1 .1 .0)) (a .1 .1 .1 .0) (LL.val HearingT.the-type HearingL.the-laws (a .1 .1 .1 .0)) (are .0 .0 .1) (are .1 .0 .1) (are .1 .1 .0) (are .1 .1 .1 .0) C Λ fm known-f-taking known-f-take-at known-f-shutting known-f-zero-record known-f-put-record))
+      (λ κs qs bounds a g are. via 𝓤 _ (fst∗ 𝓤 _ (emp 𝓤)) (walk 𝓤 H A W mem run (κs .0) (qs .0) (a .0 .ptr .0) (a .0 .ptr .1) (a .0 .name) (a .0 .now) (a .1 .0) (a .1 .1 .0) (LL.val MessageT.the-type MessageL.the-laws (a .1 .1 .0)) (a .1 .1 .1 .0) (LL.val HearingT.the-type HearingL.the-laws (a .1 .1 .1 .0)) (are .0 .0 .1) (are .1 .0 .1) (are .1 .1 .0) (are .1 .1 .1 .0) C Λ fm known-f-taking known-f-take-at known-f-ending known-f-end-at))
 
-call-meets : {M : Type 1} (𝓤 : URA M) (H : Heap 𝓤) (A : Atoms 𝓤) → Given 𝓤 H A → (mem : Memory → SProp 𝓤) (run : Routine → Fun 𝓤) (𝓣 : Tables 𝓤 H) → Triple 𝓤 (𝓣 .C #f-taking) (C-f-taking 𝓤 H A mem run) → Triple 𝓤 (𝓣 .C #f-take-at) (C-f-take-at 𝓤 H A mem run) → Triple 𝓤 (𝓣 .C #f-shutting) (C-f-shutting 𝓤 H A mem run) → Triple 𝓤 (𝓣 .C #f-zero-record) (C-f-zero-record 𝓤 H A mem run) → Triple 𝓤 (𝓣 .C #f-put-record) (C-f-put-record 𝓤 H A mem run)
+call-meets : {M : Type 1} (𝓤 : URA M) (H : Heap 𝓤) (A : Atoms 𝓤) → Given 𝓤 H A → (mem : Memory → SProp 𝓤) (run : Routine → Fun 𝓤) (𝓣 : Tables 𝓤 H) → Triple 𝓤 (𝓣 .C #f-taking) (C-f-taking 𝓤 H A mem run) → Triple 𝓤 (𝓣 .C #f-take-at) (C-f-take-at 𝓤 H A mem run) → Triple 𝓤 (𝓣 .C #f-ending) (C-f-ending 𝓤 H A mem run) → Triple 𝓤 (𝓣 .C #f-end-at) (C-f-end-at 𝓤 H A mem run)
     → Meets 𝓤 H A call.signature (WpFn 𝓤 H (𝓣 .C) (𝓣 .Λ) code.function) (call.spec 𝓤 H A mem run)
-call-meets 𝓤 H A W mem run 𝓣 known-f-taking known-f-take-at known-f-shutting known-f-zero-record known-f-put-record =
+call-meets 𝓤 H A W mem run 𝓣 known-f-taking known-f-take-at known-f-ending known-f-end-at =
     walk-meets 𝓤 H A call.ended stayed W
     (goes-gave-slice 𝓤 H A W 1 0 tt (plain (λ _. RecordT.the-row)), (goes-dropped 𝓤 H A W 1 (plain (λ _. usize)) yes (λ κs x f. refl), (goes-dropped 𝓤 H A W 1 (plain (λ _. MessageT.the-row)) yes (λ κs x f. refl), (goes-dropped 𝓤 H A W 1 (plain (λ _. HearingT.the-row)) yes (λ κs x f. refl), tt))))
-    (call.clauses 𝓤 H A mem run) (WpFn 𝓤 H (𝓣 .C) (𝓣 .Λ) code.function) (WpFn-mono 𝓤 H (W .laws) 𝓣 code.function) (call-walks 𝓤 H A W mem run (𝓣 .C) (𝓣 .Λ) (fmOf 𝓤 H (W .laws) 𝓣) known-f-taking known-f-take-at known-f-shutting known-f-zero-record known-f-put-record)
+    (call.clauses 𝓤 H A mem run) (WpFn 𝓤 H (𝓣 .C) (𝓣 .Λ) code.function) (WpFn-mono 𝓤 H (W .laws) 𝓣 code.function) (call-walks 𝓤 H A W mem run (𝓣 .C) (𝓣 .Λ) (fmOf 𝓤 H (W .laws) 𝓣) known-f-taking known-f-take-at known-f-ending known-f-end-at)
 
 pub put-spec : {M : Type 1} → stated.statement M
 unfolding code.routine tablesOf
@@ -294,6 +267,5 @@ put-spec 𝓤 H 𝓜 𝓖 𝓡 =
     (call-meets 𝓤 H (𝓖 .A) (givenOf 𝓤 H 𝓜 𝓖) (𝓜 .mem) (𝓡 .run) (tablesOf 𝓤 H 𝓜 (tables 𝓤 H 𝓜 𝓡 code.env))
     (cited 𝓤 H (C-f-taking 𝓤 H (𝓖 .A) (𝓜 .mem) (𝓡 .run)) 𝓜 𝓡 code.env #f-taking f-taking-def.routine code.calls-direct-hear·taking (f-taking-thm.met 𝓤 H 𝓜 𝓖 𝓡))
     (cited 𝓤 H (C-f-take-at 𝓤 H (𝓖 .A) (𝓜 .mem) (𝓡 .run)) 𝓜 𝓡 code.env #f-take-at f-take-at-def.routine code.calls-direct-hear·take-at (f-take-at-thm.met 𝓤 H 𝓜 𝓖 𝓡))
-    (cited 𝓤 H (C-f-shutting 𝓤 H (𝓖 .A) (𝓜 .mem) (𝓡 .run)) 𝓜 𝓡 code.env #f-shutting f-shutting-def.routine code.calls-direct-hear·shutting (f-shutting-thm.met 𝓤 H 𝓜 𝓖 𝓡))
-    (cited 𝓤 H (C-f-zero-record 𝓤 H (𝓖 .A) (𝓜 .mem) (𝓡 .run)) 𝓜 𝓡 code.env #f-zero-record f-zero-record-def.routine code.calls-connection·zero-record (f-zero-record-thm.met 𝓤 H 𝓜 𝓖 𝓡))
-    (cited 𝓤 H (C-f-put-record 𝓤 H (𝓖 .A) (𝓜 .mem) (𝓡 .run)) 𝓜 𝓡 code.env #f-put-record f-put-record-def.routine code.calls-slots·put-record (f-put-record-thm.met 𝓤 H 𝓜 𝓖 𝓡)))
+    (cited 𝓤 H (C-f-ending 𝓤 H (𝓖 .A) (𝓜 .mem) (𝓡 .run)) 𝓜 𝓡 code.env #f-ending f-ending-def.routine code.calls-direct-hear·ending (f-ending-thm.met 𝓤 H 𝓜 𝓖 𝓡))
+    (cited 𝓤 H (C-f-end-at 𝓤 H (𝓖 .A) (𝓜 .mem) (𝓡 .run)) 𝓜 𝓡 code.env #f-end-at f-end-at-def.routine code.calls-direct-hear·end-at (f-end-at-thm.met 𝓤 H 𝓜 𝓖 𝓡)))

@@ -46,16 +46,11 @@ returns-10 c = simp (c .match .keys10)
 
 returns-11 : tie.Need-returns-11
 unfolding namedOf
-returns-11 c = simp (c .match .keys11)
-
-returns-12 : tie.Need-returns-12
-unfolding namedOf
-returns-12 c =
+returns-11 c =
     let r = c .match .rest in
     simp (
-      ne-eqb _ 1 (r .0 .0 .0 .0 .0 .0 .0 .0 .0 .0 .1),
-      ne-eqb _ 2 (r .0 .0 .0 .0 .0 .0 .0 .0 .0 .1),
-      ne-eqb _ 3 (r .0 .0 .0 .0 .0 .0 .0 .0 .1),
+      ne-eqb _ 1 (r .0 .0 .0 .0 .0 .0 .0 .0 .0 .1),
+      ne-eqb _ 2 (r .0 .0 .0 .0 .0 .0 .0 .0 .1),
       ne-eqb _ 4 (r .0 .0 .0 .0 .0 .0 .0 .1),
       ne-eqb _ 5 (r .0 .0 .0 .0 .0 .0 .1),
       ne-eqb _ 6 (r .0 .0 .0 .0 .0 .1),
@@ -67,4 +62,4 @@ returns-12 c =
     )
 
 pub named-spec : {M : Type 1} → statement M
-named-spec = tie.close (tie.spec returns returns-2 returns-3 returns-4 returns-5 returns-6 returns-7 returns-8 returns-9 returns-10 returns-11 returns-12)
+named-spec = tie.close (tie.spec returns returns-2 returns-3 returns-4 returns-5 returns-6 returns-7 returns-8 returns-9 returns-10 returns-11)

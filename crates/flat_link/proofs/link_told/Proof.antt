@@ -5,22 +5,45 @@ use Rattle.flat_link.specs.FlatLink.{linkTold}
 use Rattle.flat_link.proofs.link_told.Statement.{statement}
 use Rattle.flat_link.proofs.link_told.Tie as tie
 
-answer-of-requires : tie.Need-answer-of-requires
-answer-of-requires c κs = search needs
+flat-links-requires : tie.Need-flat-links-requires
+flat-links-requires c κs = search needs
 
-link-named-requires : tie.Need-link-named-requires
-link-named-requires c κs = search needs
+said-number-requires : tie.Need-said-number-requires
+said-number-requires c κs = search needs
+
+refusal-number-requires : tie.Need-refusal-number-requires
+refusal-number-requires c κs = search needs
+
+cast-count : tie.Need-cast-count
+cast-count c = search needs
+
+accepted-requires : tie.Need-accepted-requires
+accepted-requires c κs = search needs
 
 link-bare-requires : tie.Need-link-bare-requires
 link-bare-requires c κs = search needs
 
 returns : tie.Need-returns
 unfolding linkTold
-returns c = simp (c .link-named .ensures, ← (c .before .before .before .before .before .answer-of .ensures), eq-eqb _ _ (c .before .if1 .taken))
+returns c =
+    let b = c .before in
+    let n = b .before .before in
+    simp (c .accepted .ensures, ← (n .before .said-number .ensures), ← (n .before .before .flat-links .ensures), eq-eqb _ _ (b .if1 .taken))
 
 returns-2 : tie.Need-returns-2
 unfolding linkTold
-returns-2 c = simp (c .link-bare .ensures, ← (c .before .before .before .before .before .answer-of .ensures), ne-eqb _ _ (c .before .if1 .left))
+returns-2 c =
+    let b = c .before in
+    let n = b .before .before in
+    simp (
+      c .link-bare .ensures,
+      ← (n .refusal-number .ensures),
+      ← (n .before .said-number .ensures),
+      ← (n .before .before .flat-links .ensures),
+      ne-eqb _ _ (b .if1 .left),
+    )
 
 pub link-told-spec : {M : Type 1} → statement M
-link-told-spec = tie.close (tie.spec answer-of-requires link-named-requires link-bare-requires returns returns-2)
+link-told-spec =
+    tie.close
+    (tie.spec flat-links-requires said-number-requires refusal-number-requires cast-count accepted-requires link-bare-requires returns returns-2)

@@ -1,6 +1,6 @@
 -- `hearing::hear_record` meets its contract. Assumes nothing.
 use borrow.Author.Needs.{needs}
-use Rattle.hearing.proofs.Steps.{hear-before, hear-refused, hear-aborted, hear-waits, hear-ruled, hear-other}
+use Rattle.hearing.proofs.Steps.{hear-before, hear-refused, hear-aborted, hear-waits, hear-validated, hear-ruled, hear-other}
 use Rattle.hearing.proofs.hear_record.Statement.{statement}
 use Rattle.hearing.proofs.hear_record.Tie as tie
 
@@ -39,8 +39,8 @@ returns-3 c =
     hear-aborted _ _ _ _ _ _ (l .before .if1 .left) _ (l .link-active .ensures) _ (n .refusal .ensures) (t .if2 .left) (a .if3 .taken)
     (c .aborted .ensures)
 
-waiting-requires : tie.Need-waiting-requires
-waiting-requires c κs = search needs
+kept-requires : tie.Need-kept-requires
+kept-requires c κs = search needs
 
 returns-4 : tie.Need-returns-4
 returns-4 c =
@@ -50,7 +50,21 @@ returns-4 c =
     let n = t .before in
     let l = n .before in
     hear-waits _ _ _ _ _ _ (l .before .if1 .left) _ (l .link-active .ensures) _ (n .refusal .ensures) (t .if2 .left) (a .if3 .left)
-    (s .if4 .taken) (c .waiting .ensures)
+    (s .if4 .taken) (c .kept .ensures)
+
+validated-requires : tie.Need-validated-requires
+validated-requires c κs = search needs
+
+returns-5 : tie.Need-returns-5
+returns-5 c =
+    let v = c .before in
+    let s = v .before in
+    let a = s .before in
+    let t = a .before in
+    let n = t .before in
+    let l = n .before in
+    hear-validated _ _ _ _ _ _ (l .before .if1 .left) _ (l .link-active .ensures) _ (n .refusal .ensures) (t .if2 .left) (a .if3 .left)
+    (s .if4 .left) (v .if5 .taken) (c .validated .ensures)
 
 is-next-requires : tie.Need-is-next-requires
 is-next-requires c κs = search needs
@@ -58,30 +72,32 @@ is-next-requires c κs = search needs
 ruled-requires : tie.Need-ruled-requires
 ruled-requires c κs = search needs
 
-returns-5 : tie.Need-returns-5
-returns-5 c =
+returns-6 : tie.Need-returns-6
+returns-6 c =
     let x = c .before .before in
-    let s = x .before in
+    let v = x .before in
+    let s = v .before in
     let a = s .before in
     let t = a .before in
     let n = t .before in
     let l = n .before in
     hear-ruled _ _ _ _ _ _ (l .before .if1 .left) _ (l .link-active .ensures) _ (n .refusal .ensures) (t .if2 .left) (a .if3 .left)
-    (s .if4 .left) _ (x .is-next .ensures) (c .before .if5 .taken) (c .ruled .ensures)
+    (s .if4 .left) (v .if5 .left) _ (x .is-next .ensures) (c .before .if6 .taken) (c .ruled .ensures)
 
 refused-requires-3 : tie.Need-refused-requires-3
 refused-requires-3 c κs = search needs
 
-returns-6 : tie.Need-returns-6
-returns-6 c =
+returns-7 : tie.Need-returns-7
+returns-7 c =
     let x = c .before .before in
-    let s = x .before in
+    let v = x .before in
+    let s = v .before in
     let a = s .before in
     let t = a .before in
     let n = t .before in
     let l = n .before in
     hear-other _ _ _ _ _ _ (l .before .if1 .left) _ (l .link-active .ensures) _ (n .refusal .ensures) (t .if2 .left) (a .if3 .left)
-    (s .if4 .left) _ (x .is-next .ensures) (c .before .if5 .left) (c .refused3 .ensures)
+    (s .if4 .left) (v .if5 .left) _ (x .is-next .ensures) (c .before .if6 .left) (c .refused3 .ensures)
 
 pub hear-record-spec : {M : Type 1} → statement M
 hear-record-spec =
@@ -95,10 +111,12 @@ hear-record-spec =
     returns-2
     aborted-requires
     returns-3
-    waiting-requires
+    kept-requires
     returns-4
+    validated-requires
+    returns-5
     is-next-requires
     ruled-requires
-    returns-5
+    returns-6
     refused-requires-3
-    returns-6)
+    returns-7)

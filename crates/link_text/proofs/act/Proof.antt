@@ -1,6 +1,4 @@
 -- `link_text::act` meets its contract. Assumes nothing.
-use Rattle.link_text.proofs.Laws.{hear-taken}
-use denote.Ref.{now}
 use borrow.Author.Needs.{needs}
 use Rattle.link_text.proofs.act.Statement.{statement}
 use Rattle.link_text.proofs.act.Tie as tie
@@ -14,29 +12,11 @@ lay-role-requires c κs = search needs
 enum-known-line-2 : tie.Need-enum-known-line-2
 enum-known-line-2 c = search needs
 
-least-requires : tie.Need-least-requires
-least-requires c κs = search needs
-
-sub-hear : tie.Need-sub-hear
-sub-hear c = search needs
-
-part-hear-start : tie.Need-part-hear-start
-part-hear-start c = search needs
-
-part-hear-end : tie.Need-part-hear-end
-part-hear-end c = search needs
-
-hear-requires : tie.Need-hear-requires
-hear-requires c κs = search needs
+lay-states-requires : tie.Need-lay-states-requires
+lay-states-requires c κs = search needs
 
 enum-known-line-3 : tie.Need-enum-known-line-3
 enum-known-line-3 c = search needs
-
-send-requires : tie.Need-send-requires
-send-requires c κs = search needs
-
-enum-known-line-4 : tie.Need-enum-known-line-4
-enum-known-line-4 c = search needs
 
 lay-exchange-requires : tie.Need-lay-exchange-requires
 lay-exchange-requires c κs = search needs
@@ -51,19 +31,13 @@ returns : tie.Need-returns
 returns c = let told = c .before .before .before .line .given .1 in (c .lay-role .ensures .0, rw told (c .lay-role .ensures .1))
 
 returns-2 : tie.Need-returns-2
-returns-2 c =
-    let told = c .before .before .before .before .before .line2 .given .1 in
-    let a = c .before .before .before .before .before .before .before .before .args in
-    (c .hear .ensures .0, rw told (hear-taken _ _ (now (a .given)) _ _ _ (c .before .before .before .least .ensures .0) (c .hear .ensures .1)))
+returns-2 c = let told = c .before .before .before .line2 .given .1 in (c .lay-states .ensures .0, rw told (c .lay-states .ensures .1))
 
 returns-3 : tie.Need-returns-3
-returns-3 c = let told = c .before .before .before .line3 .given .1 in (c .send .ensures .0, rw told (c .send .ensures .1))
+returns-3 c = let told = c .before .before .before .line3 .given .1 in (c .lay-exchange .ensures .0, rw told (c .lay-exchange .ensures .1))
 
 returns-4 : tie.Need-returns-4
-returns-4 c = let told = c .before .before .before .line4 .given .1 in (c .lay-exchange .ensures .0, rw told (c .lay-exchange .ensures .1))
-
-returns-5 : tie.Need-returns-5
-returns-5 c = let told = c .before .before .enum-told .given .1 in (c .lay-queue .ensures .0, rw told (c .lay-queue .ensures .1))
+returns-4 c = let told = c .before .before .enum-told .given .1 in (c .lay-queue .ensures .0, rw told (c .lay-queue .ensures .1))
 
 pub act-spec : {M : Type 1} → statement M
 act-spec =
@@ -72,19 +46,12 @@ act-spec =
     enum-known-line
     lay-role-requires
     enum-known-line-2
-    least-requires
-    sub-hear
-    part-hear-start
-    part-hear-end
-    hear-requires
+    lay-states-requires
     enum-known-line-3
-    send-requires
-    enum-known-line-4
     lay-exchange-requires
     enum-told
     lay-queue-requires
     returns
     returns-2
     returns-3
-    returns-4
-    returns-5)
+    returns-4)

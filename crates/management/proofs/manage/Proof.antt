@@ -20,20 +20,11 @@ free-requires c κs = search needs
 enum-known-call-3 : tie.Need-enum-known-call-3
 enum-known-call-3 c = search needs
 
-link-change-requires : tie.Need-link-change-requires
-link-change-requires c κs = search needs
-
-kept-requires : tie.Need-kept-requires
-kept-requires c κs = search needs
-
-enum-known-call-4 : tie.Need-enum-known-call-4
-enum-known-call-4 c = search needs
-
 sample-requires : tie.Need-sample-requires
 sample-requires c κs = search needs
 
-kept-requires-2 : tie.Need-kept-requires-2
-kept-requires-2 c κs = search needs
+kept-requires : tie.Need-kept-requires
+kept-requires c κs = search needs
 
 same-length : tie.Need-same-length
 same-length c = search needs
@@ -58,14 +49,7 @@ returns-3 c =
     let a = c .before .before .before .before .before .before .args in
     by-management (c .before .before .before .call3 .given .1) (a .s) (a .n) (now (a .mem)) (now (a .mem)) (a .count) (a .links) (a .holder) (a .rec)
     (c .kept .result)
-    (links-did _ _ _ _ _ _ _ _ _ _ (c .before .link-change .ensures) _ (c .kept .ensures))
-
-returns-4 : tie.Need-returns-4
-returns-4 c =
-    let a = c .before .before .before .before .before .before .args in
-    by-management (c .before .before .before .call4 .given .1) (a .s) (a .n) (now (a .mem)) (now (a .mem)) (a .count) (a .links) (a .holder) (a .rec)
-    (c .kept2 .result)
-    (links-did _ _ _ _ _ _ _ _ _ _ (c .before .sample .ensures) _ (c .kept2 .ensures))
+    (links-did _ _ _ _ _ _ _ _ _ _ (c .before .sample .ensures) _ (c .kept .ensures))
 
 pub manage-spec : {M : Type 1} → statement M
 manage-spec =
@@ -76,14 +60,10 @@ manage-spec =
     enum-known-call-2
     free-requires
     enum-known-call-3
-    link-change-requires
-    kept-requires
-    enum-known-call-4
     sample-requires
-    kept-requires-2
+    kept-requires
     same-length
     returns
     same-length-2
     returns-2
-    returns-3
-    returns-4)
+    returns-3)

@@ -14,9 +14,6 @@ enum-known-call-2 c = search needs
 enum-told : tie.Need-enum-told
 enum-told c = search needs
 
-enum-told-2 : tie.Need-enum-told-2
-enum-told-2 c = search needs
-
 returns : tie.Need-returns
 returns c = sym (ap slotOf (c .before .call .given .1))
 
@@ -26,9 +23,6 @@ returns-2 c = search needs
 returns-3 : tie.Need-returns-3
 returns-3 c = search needs
 
-returns-4 : tie.Need-returns-4
-returns-4 c = search needs
-
 pub slot-of-spec : {M : Type 1} → statement M
 slot-of-spec =
     tie.close
@@ -36,8 +30,6 @@ slot-of-spec =
     enum-known-call
     enum-known-call-2
     enum-told
-    enum-told-2
     returns
     returns-2
-    returns-3
-    returns-4)
+    returns-3)

@@ -14,9 +14,6 @@ enum-told c = search needs
 enum-told-2 : tie.Need-enum-told-2
 enum-told-2 c = search needs
 
-enum-told-3 : tie.Need-enum-told-3
-enum-told-3 c = search needs
-
 returns : tie.Need-returns
 returns c = sym (ap tokenOf (c .before .call .given .1))
 
@@ -26,9 +23,6 @@ returns-2 c = search needs
 returns-3 : tie.Need-returns-3
 returns-3 c = search needs
 
-returns-4 : tie.Need-returns-4
-returns-4 c = search needs
-
 pub token-of-spec : {M : Type 1} → statement M
 token-of-spec =
     tie.close
@@ -36,8 +30,6 @@ token-of-spec =
     enum-known-call
     enum-told
     enum-told-2
-    enum-told-3
     returns
     returns-2
-    returns-3
-    returns-4)
+    returns-3)

@@ -1,5 +1,6 @@
 -- `replay_calls::gather_line` meets its contract. Assumes nothing.
-use Rattle.replay_calls.proofs.Laws.{take-least, gathered-on}
+use Rattle.replay_state.proofs.Laws.{take-least}
+use Rattle.replay_calls.proofs.Laws.{gathered-on}
 use borrow.Author.Needs.{needs}
 use Rattle.replay_calls.proofs.gather_line.Statement.{statement}
 use Rattle.replay_calls.proofs.gather_line.Tie as tie

@@ -1,5 +1,6 @@
 -- `replay_calls::lent` meets its contract. Assumes nothing.
-use Rattle.replay_calls.proofs.Laws.{take-least, drop-least, lent-is}
+use Rattle.replay_state.proofs.Laws.{take-least, drop-least}
+use Rattle.replay_calls.proofs.Laws.{lent-is}
 use borrow.Author.Needs.{needs}
 use Rattle.replay_calls.proofs.lent.Statement.{statement}
 use Rattle.replay_calls.proofs.lent.Tie as tie

@@ -108,6 +108,15 @@ impl Bench {
             b"gauge 1 0000000000000000 0000000000000000 0 2",
             b"gauge 1 0000000000000000 0000000000000000 0",
             b"health 1",
+            b"link 1 1 88 1",
+            b"link 1 1 65600",
+            b"link 1 1 65601",
+            b"linkmsg 1 - 87",
+            b"linksend 1 07:0,1,2 65601",
+            b"links 1",
+            b"links 1 0 0",
+            b"links 1 0 0 2",
+            b"links 1 0 0 0 0",
             b"group 2 16 32 0",
             b"record 1 0 0 0 0 0 0 0 0 0 0 0 0 0 0 0 0 0 0 0 0 0 0 0 0 0 0 0 - -",
             b"table",
@@ -316,7 +325,7 @@ impl Bench {
 
 /// A good line of each kind: words with their largest value and a value that is
 /// good here, HEX, HEX of just so many bytes, or an urgent place.
-const FORMS: [&str; 34] = [
+const FORMS: [&str; 38] = [
     "group 4294967295=2 4294967295=16 1048704=32",
     "group 4294967295=2 4294967295=16 1048704=32 300=2",
     "open 4294967295=2 4294967295=7 4294967295=8 255=1 4294967295=16 4294967295=1 4294967295=0 \
@@ -324,7 +333,9 @@ const FORMS: [&str; 34] = [
      18446744073709551615=0 4294967295=0 18446744073709551615=0",
     "free 4294967295=1",
     "link 255=1 1=1",
+    "link 255=1 1=1 65600=88",
     "linkmsg 255=1 HEX",
+    "linkmsg 255=1 HEX 65600=88",
     "send 4294967295=1 HEX",
     "urgent 4294967295=1 HEX",
     "gather 4294967295=1 HEX HEX",
@@ -356,6 +367,8 @@ const FORMS: [&str; 34] = [
     "setup none HEX",
     "clc HEX",
     "linksend 255=1 FIELDS",
+    "linksend 255=1 FIELDS 65600=88",
+    "links 1=1 1=0 1=0 1=0",
     "role client",
     "exchange 11=0 255=1 255=2",
     "queue 255=0 255=0 HEX*44 255=0 HEX*44 255=0 HEX*44 255=0 HEX*44",

@@ -8,6 +8,7 @@
 mod bad_lines;
 mod boundaries;
 mod calls;
+mod failover;
 mod messages;
 mod pairs;
 mod records;
@@ -39,6 +40,7 @@ pub fn list(seed: u64, count: Option<usize>) -> Vec<u8> {
         Bench::pairs_of_hear,
         Bench::pairs_of_open,
         Bench::pairs_of_free,
+        Bench::pairs_of_link_change,
         Bench::pairs_of_link_message,
         Bench::pairs_of_link_send,
         Bench::wrong_sizes,
@@ -60,6 +62,7 @@ pub fn list(seed: u64, count: Option<usize>) -> Vec<u8> {
         Bench::close_boundaries,
         Bench::full_turns,
         Bench::random_marks,
+        Bench::failovers,
         |bench| pool::hostile(&mut bench.list, &mut bench.random),
         |bench| gauges::hostile(&mut bench.list, &mut bench.random),
         |bench| setup::hostile(&mut bench.list, &mut bench.random),
@@ -129,14 +132,21 @@ impl Bench {
     }
 
     /// Sets the link of a call as asked and each other one up once in `of` times.
+    /// A group with wrong sizes has no way to an active link but that it is laid.
     fn links_around(&mut self, own: u8, up: bool, of: u64) {
+        let mut active = [false; LINKS];
         for link in 1..=4 {
-            let up = if link == own {
+            active[usize::from(link) - 1] = if link == own {
                 up
             } else {
                 self.random.chance(1, of)
             };
-            if up {
+        }
+        if self.list.replay.group.sizes_wrong() {
+            return self.list.lay_links(active);
+        }
+        for link in 1..=4 {
+            if active[usize::from(link) - 1] {
                 self.list.link(link, true);
             }
         }

@@ -268,7 +268,7 @@ impl Bench {
         }
         // Free asks for no link.
         if self.random.chance(1, 2) {
-            self.list.link(1, true);
+            self.links_around(1, true, 2);
         }
         if has(2) && self.random.chance(1, 2) {
             c.open = false;
@@ -281,11 +281,24 @@ impl Bench {
         self.look();
     }
 
-    /// Pairs among 13, 6, 4, 14 and 15, in groups whose sizes may be wrong: the
-    /// calls on links do not look at them.
+    /// Pairs among 1 and 13.
+    pub(super) fn pairs_of_link_change(&mut self) {
+        for spoiled in subsets(&[1, 13]) {
+            for _ in 0..6 {
+                let has = |number: u8| spoiled.contains(&number);
+                let (link, room) = self.linked_group(has(1), false, has(13));
+                let up = self.random.chance(1, 2);
+                self.list.add(Line::Link { link, up, room });
+                self.look();
+            }
+        }
+    }
+
+    /// Pairs among 1, 13, 6, 4, 14 and 15.
     pub(super) fn pairs_of_link_message(&mut self) {
-        for spoiled in subsets(&[13, 6, 4, 14, 15]) {
-            for _ in 0..4 {
+        for spoiled in subsets(&[1, 13, 6, 4, 14, 15]) {
+            let times = if spoiled.len() > 2 { 2 } else { 4 };
+            for _ in 0..times {
                 self.spoiled_link_message(&spoiled);
             }
         }
@@ -317,28 +330,39 @@ impl Bench {
         }
     }
 
-    /// A group and links for a call on a link; the link comes back.
-    fn linked_group(&mut self, down: bool, outside: bool) -> u8 {
+    /// A group and links for a call on a link. The link and the ROOM come back:
+    /// where 1 is to hold, the sizes are wrong or the buffer is too short.
+    fn linked_group(&mut self, wrong: bool, down: bool, outside: bool) -> (u8, Option<usize>) {
         let (elements, size) = self.small_sizes();
+        let right = MESSAGE_BYTES * elements as usize;
+        let mut room = *self.random.pick(&[None, Some(right), Some(right + 1)]);
         match self.random.below(4) {
-            0 => self.nearly_right_group(elements, size),
-            1 => self.list.group_of(0, 0, 0),
+            0 if wrong => self.list.group_of(0, 0, 0),
+            1 if wrong => {
+                self.list.group(elements, size);
+                room = Some(*self.random.pick(&[0, 44, right - 1]));
+            }
+            _ if wrong => self.nearly_right_group(elements, size),
             _ => self.list.group(elements, size),
         }
-        let link = self.random.between(1, 4) as u8;
-        self.links_around(link, !down, 2);
-        if !outside {
-            return link;
+        let n = i64::from(size);
+        for slot in 1..=self.list.replay.group.table.len().min(elements as usize) {
+            if self.random.chance(1, 3) {
+                let c = self.coherent_record(n);
+                self.list.record(slot, c);
+            }
         }
-        let outside = *self.random.pick(&[0, 5, 255]);
-        let up = self.random.chance(1, 2);
-        self.list.link(outside, up);
-        outside
+        let mut link = self.random.between(1, 4) as u8;
+        self.links_around(link, !down, 2);
+        if outside {
+            link = *self.random.pick(&[0, 5, 255]);
+        }
+        (link, room)
     }
 
     fn spoiled_link_message(&mut self, spoiled: &[u8]) {
         let has = |number: u8| spoiled.contains(&number);
-        let link = self.linked_group(has(6), has(13));
+        let (link, room) = self.linked_group(has(1), has(6), has(13));
         let w = self.random.between(1, 4) as u8;
         let mut bytes = if has(14) || has(15) {
             // An 04 from a client, which a server queues while anything runs.
@@ -381,14 +405,15 @@ impl Bench {
                 }
             }
         }
-        self.list.link_message(link, bytes);
+        self.list.add(Line::LinkMsg { link, bytes, room });
         self.look();
     }
 
-    /// Pairs among 13, 6, 14 and 15.
+    /// Pairs among 1, 13, 6, 14 and 15.
     pub(super) fn pairs_of_link_send(&mut self) {
-        for spoiled in subsets(&[13, 6, 14, 15]) {
-            for _ in 0..5 {
+        for spoiled in subsets(&[1, 13, 6, 14, 15]) {
+            let times = if spoiled.len() > 2 { 2 } else { 5 };
+            for _ in 0..times {
                 self.spoiled_link_send(&spoiled);
             }
         }
@@ -396,7 +421,7 @@ impl Bench {
 
     fn spoiled_link_send(&mut self, spoiled: &[u8]) {
         let has = |number: u8| spoiled.contains(&number);
-        let link = self.linked_group(has(6), has(13));
+        let (link, room) = self.linked_group(has(1), has(6), has(13));
         let role = *self.random.pick(&Role::ALL);
         self.list.role(role);
         let w = self.random.between(1, 4);
@@ -416,7 +441,8 @@ impl Bench {
         } else {
             Fields::zero(ADD_LINK)
         };
-        self.list.link_send(link, fields.with("link", named));
+        let fields = fields.with("link", named);
+        self.list.add(Line::LinkSend { link, fields, room });
         self.look();
     }
 }

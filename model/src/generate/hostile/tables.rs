@@ -4,7 +4,7 @@
 use super::calls::{allowing_marks, SlotCall, SLOT_CALLS};
 use super::records::{broken_records, resting_message, with_marks};
 use super::Bench;
-use crate::llc::TEST_LINK;
+use crate::llc::{Fields, TEST_LINK};
 use crate::replay::set_marks;
 use crate::smcr::*;
 
@@ -61,6 +61,7 @@ impl Bench {
                 None => self.list.group_of(elements, size, length),
             }
             self.list.link(1, true);
+            self.list.lay_links([true, false, false, true]);
             // The last slot that there is; with an empty table no record is laid.
             let records = self.list.replay.group.table.len() as u32;
             let slot = elements.min(records).max(1);
@@ -88,8 +89,11 @@ impl Bench {
             bytes[1] = LENGTH_BYTE;
             bytes[3] &= 0x7F;
             self.list.link_message(1, bytes);
+            self.list.link_send(1, Fields::zero(TEST_LINK));
             self.list.link(4, true);
             self.list.link(5, true);
+            self.lay(slot, c);
+            self.list.link(1, false);
             self.look();
         }
     }
@@ -145,6 +149,7 @@ impl Bench {
         let length = elements as usize * size as usize;
         self.list.group_with_table(elements, size, length, records);
         self.list.all_links_up();
+        self.list.lay_links([true; 4]);
         let c = self.coherent_record(n);
         self.list.record(records, c);
         for slot in [1, elements, elements + 1] {

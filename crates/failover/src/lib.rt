@@ -1,0 +1,140 @@
+// Failover, one connection at a time (document 02, 2026-13): which links went down, whether a record moves and tells, and its message with F.
+// The loop over the lent table is in the crate `moving`.
+ghost use mathlib.Core.Path.{_≡_};
+ghost use Rattle.failover.specs.Failover.{targetOf, planOf, goneB, movesB, tellsB, movedOf, sequenceBefore, failoverOf, standing, toldBy, anyGone, someB};
+use cdc::Message;
+use connection::Record;
+use table::Links;
+
+// Which links were active before a call and which are after it, and the lowest of these; 0 for none.
+pub struct Plan {
+    pub before: [bool; 4],
+    pub after: [bool; 4],
+    pub target: u8,
+}
+
+fn lowest_active(links: Links) -> u8
+    ensures { λ r. ⌜ r ≡ targetOf (links .active) ⌝ }
+{
+    let on_1 = table::link_active(links, 1);
+    let on_2 = table::link_active(links, 2);
+    let on_3 = table::link_active(links, 3);
+    let on_4 = table::link_active(links, 4);
+    let from_4 = table::refusal_if(on_4, 4, 0);
+    let from_3 = table::refusal_if(on_3, 3, from_4);
+    let from_2 = table::refusal_if(on_2, 2, from_3);
+    table::refusal_if(on_1, 1, from_2)
+}
+
+// What moves, of the links before a call and those that it leaves.
+pub fn plan_of(before: Links, after: Links) -> Plan
+    ensures { λ r. ⌜ r ≡ planOf (before .active) (after .active) ⌝ }
+{
+    let b = before.active;
+    let a = after.active;
+    let to = lowest_active(after);
+    Plan {
+        before: b,
+        after: a,
+        target: to,
+    }
+}
+
+// Whether the link was active before and is down after.
+fn gone(p: Plan, link: u8) -> bool
+    ensures { λ r. ⌜ r ≡ goneB p link ⌝ }
+{
+    if link < 1 {
+        return false;
+    }
+    if connection::MOST_LINK < link {
+        return false;
+    }
+    let k = link as usize - 1;
+    p.before[k] & !p.after[k]
+}
+
+// Whether the connection moves.
+fn moves(n: u32, p: Plan, rec: Record) -> bool
+    ensures { λ r. ⌜ r ≡ movesB n p rec ⌝ }
+{
+    let away = gone(p, rec.id.link);
+    if (0 < p.target) & (rec.id.opened & away) {
+        connection::coherent(n, rec)
+    } else {
+        false
+    }
+}
+
+// The record that is left.
+pub fn moved(n: u32, p: Plan, rec: Record) -> Record
+    ensures { λ r. ⌜ r ≡ movedOf n p rec ⌝ }
+{
+    if moves(n, p, rec) {
+        let to = p.target;
+        let mut next = rec;
+        next.id.link = to;
+        next
+    } else {
+        rec
+    }
+}
+
+// Whether it makes a message.
+fn tells(n: u32, p: Plan, rec: Record) -> bool
+    ensures { λ r. ⌜ r ≡ tellsB n p rec ⌝ }
+{
+    let goes = moves(n, p, rec);
+    goes & !rec.marks.abort
+}
+
+// The number before s; before 0 comes 65,535.
+fn sequence_before(s: u16) -> u16
+    ensures { λ r. ⌜ r ≡ sequenceBefore s ⌝ }
+{
+    ((s as u32 + 65535) % 65536) as u16
+}
+
+// The message with F: the last number sent, and the record stays as it is.
+fn failover_of(rec: Record) -> Message
+    ensures { λ r. ⌜ r ≡ failoverOf rec ⌝ }
+{
+    let m = outcome::message_of(rec);
+    let s = sequence_before(rec.outbound.next);
+    let mut next = m;
+    next.sequence = s;
+    next.flags.failover = true;
+    next
+}
+
+// The message at byte `at` of the buffer, where one is made and the buffer holds it; where the next one goes.
+pub fn tell(n: u32, p: Plan, rec: Record, out: &mut [u8], at: usize) -> usize
+    ensures { λ r.
+        ⌜ (r ≡ toldBy n p rec (standing at (now (out .entry))) .at)
+        × (now (out .exit) ≡ toldBy n p rec (standing at (now (out .entry))) .buffer) ⌝ }
+{
+    if tells(n, p, rec) {
+        if 44 <= out.len() {
+            if at <= out.len() - 44 {
+                let bytes = cdc::encode(failover_of(rec));
+                layout::put_bytes(out, at, &bytes);
+                return at + 44;
+            }
+        }
+    }
+    at
+}
+
+fn any_gone(p: Plan) -> bool
+    ensures { λ r. ⌜ r ≡ anyGone p ⌝ }
+{
+    gone(p, 1) | (gone(p, 2) | (gone(p, 3) | gone(p, 4)))
+}
+
+// Whether anything can move.
+pub fn some(p: Plan) -> bool
+    ensures { λ r. ⌜ r ≡ someB p ⌝ }
+{
+    let away = any_gone(p);
+    (0 < p.target) & away
+}
