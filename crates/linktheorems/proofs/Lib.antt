@@ -2,3 +2,4 @@ pub mod Theorems
 pub mod Course
 pub mod TwoEnds
 pub mod TestLink
+pub mod Down

@@ -2,12 +2,13 @@
 -- Assumes nothing.
 use mathlib.Core.Path.{_≡_, _∙_, refl, ap, sym, subst}
 use mathlib.Core.Bool.{Bool, true, false, _&&_, _||_, not, cond}
-use mathlib.Core.List.{List}
-use Prim.Native.Nat.{ℕ, _+_, _≤_, _<_}
+use mathlib.Core.List.{List, [], _∷_}
+use Prim.Native.Nat.{ℕ, zero, suc, _+_, _-_, _≤_, _<_, min}
 use native.Mathlib.Omega.{arith}
 use lib.Dec.{eqb, ltb, leb}
-use lib.ListN.{set}
-use borrow.Author.Tests.{eqb-true, leb-false}
+use lib.ListN.{length, set, replicate}
+use lib.Seq.{getD-set-same, getD-set-other}
+use borrow.Author.Tests.{eqb-true, leb-false, ltb-true, lt-ltb}
 use Rattle.llcfields.specs.declared.Kind.{Kind}
 use Rattle.exchange.specs.declared.Exchange.{Exchange}
 use Rattle.exchange.specs.declared.Waiting.{Waiting}
@@ -16,7 +17,7 @@ use Rattle.exchange.specs.declared.Fate.the-variants.{Taken}
 use Rattle.exchange.specs.declared.Touch.{Touch}
 use Rattle.exchange.specs.declared.Touch.the-variants.{Nothing, Up, Down, All}
 use Rattle.exchange.specs.declared.Said.{Said}
-use Rattle.exchange.specs.Exchange.{noExchange, dueB, wentOn, dueTouch, emptyQueue, fullB, queued, withoutOldest, mostWaiting, runsOver, addingB, sortOf, endsB, oldest}
+use Rattle.exchange.specs.Exchange.{noExchange, dueB, wentOn, dueTouch, emptyQueue, fullB, queued, withoutOldest, mostWaiting, noWaiting, placeIn, runsOver, addingB, sortOf, endsB, oldest}
 use Rattle.exchange.specs.Fates.{arrivingOf, fateAt, fateNumber, orDenied, fateOf, takenExchange, takenTouch, sentTouch}
 use Rattle.table.specs.declared.Links.{Links}
 use Rattle.table.specs.Table.{linkIn, linkSet}
@@ -25,9 +26,9 @@ use Rattle.linkcalls.specs.declared.Heard.{Heard}
 use Rattle.linkcalls.specs.declared.Sent.{Sent}
 use Rattle.llcfields.specs.Layouts.{encodeOf}
 use Rattle.linkcalls.specs.Calls.{touched, settledOf, unchanged, changeTouch, changedOf, messageRefusal, optionalB, sendRefusal, noReply, messageWork, heardWork, nothingHeard, heardOf, heardIn, fateNo, sentWork, sentOf, sentIn}
-use Rattle.linktheorems.specs.Statements.{Call, does, next, RoleStays, LinksTouched, Refused, RefusedKeeps, Order, KeepsOrder, AtMostFour, NoneOverDown, Idle, AllEnds, EndsDown, Confirmed, UpCause, BecomesActive, Deleted, Told, HeardDown, DownCause, GoesDown}
+use Rattle.linktheorems.specs.Statements.{Call, does, next, RoleStays, LinksTouched, Refused, RefusedKeeps, Behind, FirstTaken, Emptied, Order, KeepsOrder, AtMostFour, NoneOverDown, Idle, AllEnds, EndsDown, Confirmed, UpCause, BecomesActive, Deleted, Told, HeardDown, DownCause, GoesDown}
 use Rattle.linktheorems.specs.Statements.Call.{change, message, send}
-use Rattle.linktheorems.specs.Statements.Order.{kept, behind, oldestTaken, emptied}
+use Rattle.linktheorems.specs.Statements.Order.{kept, behind, firstTaken, emptied}
 use Rattle.linktheorems.specs.Statements.HeardDown.{replied, told}
 
 pub pick : {A : Type 0} (P : A → Type 0) (b : Bool) (x y : A) → P x → P y → P (cond b x y)
@@ -265,13 +266,30 @@ goes-down g (send L k vs) l =
     (λ e. sent-down g L (sentIn g k vs) l _ refl e)
 
 -- the queue
-takes-order : (q : Queue) (ended a due : Bool)
-    → Order q (cond (due && (a && ltb 0 (cond ended emptyQueue q .count))) (withoutOldest (cond ended emptyQueue q)) (cond ended emptyQueue q))
-takes-order q true a due = subst (λ (b : Bool). Order q (cond b (withoutOldest emptyQueue) emptyQueue)) (sym (none-waits due a)) emptied
-takes-order q false a due = pick (Order q) (due && (a && ltb 0 (q .count))) (withoutOldest q) q oldestTaken kept
+data Course (q : Queue) (b : List Waiting) : Queue → Type 0 where
+  stays : Course q b q
+  one-behind : (m : Waiting) → b ≡ m ∷ [] → ltb (q .count) 4 ≡ true → Course q b (record { count = q .count + 1; places = set (q .places) (q .count) m })
+  one-taken : ltb 0 (q .count) ≡ true → Course q b (withoutOldest q)
+  none-left : Course q b emptyQueue
 
-ends-order : (p q : Queue) (ended : Bool) → Order p q → Order p (cond ended emptyQueue q)
-ends-order p q ended o = pick (Order p) ended emptyQueue q emptied o
+takes-order : (q : Queue) (b : List Waiting) (ended a due : Bool)
+    → Course q b (cond (due && (a && ltb 0 (cond ended emptyQueue q .count))) (withoutOldest (cond ended emptyQueue q)) (cond ended emptyQueue q))
+takes-order q b true a due = subst (λ (z : Bool). Course q b (cond z (withoutOldest emptyQueue) emptyQueue)) (sym (none-waits due a)) none-left
+takes-order q b false a due = go due a (ltb 0 (q .count)) refl
+  where
+    go : (due a z : Bool) → ltb 0 (q .count) ≡ z → Course q b (cond (due && (a && z)) (withoutOldest q) q)
+    go true true true e = one-taken e
+    go true true false e = stays
+    go true false z e = stays
+    go false a z e = stays
+
+queued-course : (q : Queue) (m : Waiting) → Course q (m ∷ []) (queued q m)
+unfolding queued fullB
+queued-course q m = go (leb 4 (q .count)) refl
+  where
+    go : (z : Bool) → leb 4 (q .count) ≡ z → Course q (m ∷ []) (cond z q (record { count = q .count + 1; places = set (q .places) (q .count) m }))
+    go true e = stays
+    go false e = one-behind m refl (lt-ltb (q .count) 4 (omega (arith, leb-false 4 (q .count) e)))
 
 -- what is due is taken
 due-taken : (g : Links) (l : ℕ) (m : Said) → dueB (g .exchange) l m ≡ true → fateNo g l m ≡ 0
@@ -279,51 +297,94 @@ unfolding fateOf
 due-taken g l m h = ap (λ (d : Bool). fateNumber (cond d Taken (orDenied m (fateAt (arrivingOf m) (sortOf (g .exchange)))))) h
 
 heard-order : (g : Links) (l : ℕ) (b : List ℕ) (m : Said) (due : Bool) (f : ℕ) → (due ≡ true → f ≡ 0)
-    → Order (g .queue) (messageWork g l b m due f .after .queue)
+    → Course (g .queue) (record { link = l; bytes = b } ∷ []) (messageWork g l b m due f .after .queue)
 unfolding messageWork settledOf
 heard-order g l b m true f h =
     let x = wentOn (g .exchange) m in
     subst
     (λ (k : ℕ).
-    Order (g .queue) (settledOf g x (dueTouch (g .exchange)) (cond (eqb k 1) (queued (g .queue) (record { link = l; bytes = b })) (g .queue)) true .after .queue))
-    (sym (h refl)) (takes-order (g .queue) (endsB x (dueTouch (g .exchange))) (eqb (x .stage) 0) true)
+    Course (g .queue) (record { link = l; bytes = b } ∷ [])
+    (settledOf g x (dueTouch (g .exchange)) (cond (eqb k 1) (queued (g .queue) (record { link = l; bytes = b })) (g .queue)) true .after .queue))
+    (sym (h refl)) (takes-order (g .queue) _ (endsB x (dueTouch (g .exchange))) (eqb (x .stage) 0) true)
 heard-order g l b m false f h =
-    ends-order (g .queue) _ (endsB (takenExchange (g .exchange) l m f) (takenTouch m f))
-    (pick (Order (g .queue)) (eqb f 1) (queued (g .queue) (record { link = l; bytes = b })) (g .queue) (behind (record { link = l; bytes = b })) kept)
+    pick (Course (g .queue) _) (endsB (takenExchange (g .exchange) l m f) (takenTouch m f)) emptyQueue _ none-left
+    (pick (Course (g .queue) _) (eqb f 1) (queued (g .queue) (record { link = l; bytes = b })) (g .queue) (queued-course (g .queue) _) stays)
 
-settled-order : (g : Links) (x : Exchange) (t : Touch) (due : Bool) → Order (g .queue) (settledOf g x t (g .queue) due .after .queue)
+settled-order : (g : Links) (x : Exchange) (t : Touch) (due : Bool) → Course (g .queue) [] (settledOf g x t (g .queue) due .after .queue)
 unfolding settledOf
-settled-order g x t due = takes-order (g .queue) (endsB x t) (eqb (x .stage) 0) due
+settled-order g x t due = takes-order (g .queue) [] (endsB x t) (eqb (x .stage) 0) due
 
-kept-order : (g : Links) → Order (g .queue) (unchanged g .after .queue)
+kept-order : (g : Links) (b : List Waiting) → Course (g .queue) b (unchanged g .after .queue)
 unfolding unchanged
-kept-order g = kept
+kept-order g b = stays
+
+-- the message that a call may put into the queue
+abbrev own : Call → List Waiting
+own (change l up) = []
+own (message l b) = record { link = l; bytes = b } ∷ []
+own (send l k vs) = []
+
+goes : (g : Links) (c : Call) → Course (g .queue) (own c) (next g c .queue)
+unfolding sentWork
+goes g (change L up) = change-cases (λ s. Course (g .queue) [] (s .after .queue)) g (kept-order g []) L up (settled-order g _ _ false)
+goes g (message L b) =
+    heard-cases (λ s. Course (g .queue) (own (message L b)) (s .after .queue)) g (kept-order g _) L b
+    (heard-order g L b (heardIn g b) _ _ (due-taken g L (heardIn g b)))
+goes g (send L k vs) = sent-cases (λ s. Course (g .queue) [] (s .after .queue)) g (kept-order g []) L k vs (settled-order g _ _ _)
+
+is-behind : (q : Queue) (m : Waiting) → length (q .places) ≡ 4 → ltb (q .count) 4 ≡ true
+    → Behind q m (record { count = q .count + 1; places = set (q .places) (q .count) m })
+is-behind q m four e =
+    record {
+      one-more = refl;
+      last = getD-set-same (q .places) (q .count) m _ (omega (arith, four, ltb-true (q .count) 4 e));
+      others = λ i n. getD-set-other (q .places) (q .count) i m _ (λ p. n p);
+    }
+
+is-first : (q : Queue) → ltb 0 (q .count) ≡ true → FirstTaken q (withoutOldest q)
+unfolding withoutOldest
+is-first q e = record { one-less = omega (arith, ltb-true 0 (q .count) e); up-by-one = up; last-zero = refl }
+  where
+    up : (i : ℕ) → i < 3 → placeIn (record { count = min (q .count) 4 - 1; places = placeIn q 1 ∷ placeIn q 2 ∷ placeIn q 3 ∷ noWaiting ∷ [] }) i ≡ placeIn q (i + 1)
+    up zero h = refl
+    up (suc zero) h = refl
+    up (suc (suc zero)) h = refl
+    up (suc (suc (suc i))) h = absurd (omega (arith, h))
+
+is-empty : Emptied emptyQueue
+unfolding emptyQueue
+is-empty = record { none = refl; zeros = zeros }
+  where
+    zeros : (i : ℕ) → i < 4 → placeIn (record { count = 0; places = replicate 4 noWaiting }) i ≡ noWaiting
+    zeros zero h = refl
+    zeros (suc zero) h = refl
+    zeros (suc (suc zero)) h = refl
+    zeros (suc (suc (suc zero))) h = refl
+    zeros (suc (suc (suc (suc i)))) h = absurd (omega (arith, h))
+
+first-is : (m w : Waiting) → _≡_ {A = List Waiting} (w ∷ []) (m ∷ []) → m ≡ w
+first-is m w e = cc
 
 pub keeps-order : KeepsOrder
-unfolding sentWork
-keeps-order g (change L up) = change-cases (λ s. Order (g .queue) (s .after .queue)) g (kept-order g) L up (settled-order g _ _ false)
-keeps-order g (message L b) =
-    heard-cases (λ s. Order (g .queue) (s .after .queue)) g (kept-order g) L b
-    (heard-order g L b (heardIn g b) _ _ (due-taken g L (heardIn g b)))
-keeps-order g (send L k vs) = sent-cases (λ s. Order (g .queue) (s .after .queue)) g (kept-order g) L k vs (settled-order g _ _ _)
-
-queued-four : (q : Queue) (m : Waiting) → q .count ≤ mostWaiting → queued q m .count ≤ mostWaiting
-unfolding queued fullB
-queued-four q m h = go (leb 4 (q .count)) refl
+keeps-order g c four = at c (next g c .queue) (goes g c)
   where
-    go : (b : Bool) → leb 4 (q .count) ≡ b → cond b q (record { count = q .count + 1; places = set (q .places) (q .count) m }) .count ≤ mostWaiting
-    go true e = h
-    go false e = omega (arith, leb-false 4 (q .count) e)
+    at : (c : Call) (r : Queue) → Course (g .queue) (own c) r → Order (g .queue) c r
+    at c r stays = kept refl
+    at (change l up) r (one-behind m e h) = let z : _≡_ {A = ℕ} 0 1 = cc in absurd (omega arith)
+    at (message l b) r (one-behind m e h) = behind l b refl (subst (λ (w : Waiting). Behind (g .queue) w r) (first-is m (record { link = l; bytes = b }) e) (is-behind (g .queue) m four h))
+    at (send l k vs) r (one-behind m e h) = let z : _≡_ {A = ℕ} 0 1 = cc in absurd (omega arith)
+    at c r (one-taken e) = firstTaken (is-first (g .queue) e)
+    at c r none-left = emptied is-empty
 
-order-four : (p q : Queue) → Order p q → p .count ≤ mostWaiting → q .count ≤ mostWaiting
+order-four : (p : Queue) (b : List Waiting) (q : Queue) → Course p b q → p .count ≤ mostWaiting → q .count ≤ mostWaiting
 unfolding withoutOldest emptyQueue
-order-four p q kept h = h
-order-four p q (behind m) h = queued-four p m h
-order-four p q oldestTaken h = omega arith
-order-four p q emptied h = omega arith
+order-four p b q stays h = h
+order-four p b q (one-behind m e f) h = omega (arith, ltb-true (p .count) 4 f)
+order-four p b q (one-taken e) h = omega arith
+order-four p b q none-left h = omega arith
 
 pub at-most-four : AtMostFour
-at-most-four g c h = order-four (g .queue) _ (keeps-order g c) h
+at-most-four g c h = order-four (g .queue) _ _ (goes g c) h
 
 -- a refused call
 heard-refused : (g : Links) (r : Heard) (t : Bool) (w : Heard) (j : ℕ) → w .refusal ≡ 0 → r ≡ cond t w (nothingHeard g j)

@@ -12,12 +12,12 @@ use Rattle.exchange.specs.declared.Role.the-variants.{Client, Server}
 use Rattle.exchange.specs.declared.Exchange.{Exchange}
 use Rattle.exchange.specs.declared.Touch.the-variants.{Down, All}
 use Rattle.exchange.specs.declared.Said.{Said}
-use Rattle.exchange.specs.Exchange.{noExchange, add, rkey, sortOf, dueB, wentOn, emptyQueue, runsOver}
+use Rattle.exchange.specs.Exchange.{noExchange, add, delete, rkey, sortOf, dueB, wentOn, emptyQueue, runsOver}
 use Rattle.exchange.specs.Fates.{arrivingOf, outsideB, started}
 use Rattle.table.specs.declared.Links.{Links}
-use Rattle.table.specs.Table.{linkIn}
+use Rattle.table.specs.Table.{linkIn, activeB}
 use Rattle.linkcalls.specs.Calls.{downB, heardIn, sentIn, heardOf, sentOf}
-use Rattle.linktheorems.specs.Statements.{Call, does, next}
+use Rattle.linktheorems.specs.Statements.{Call, does, next, Idle}
 use Rattle.linktheorems.specs.Statements.Call.{change, message, send}
 
 -- AT MOST ONE EXCHANGE RUNS. There is one, of one stage: a call leaves it, or it goes on by a due message, or it ends; another begins where
@@ -75,6 +75,40 @@ AllCause g (send l k vs) = (sentIn g k vs .kind ≡ 0x04) × (sentIn g k vs .a �
 
 abbrev pub AllGoDown : Type 0
 AllGoDown = (g : Links) (c : Call) → does g c .touch ≡ All → AllCause g c
+
+-- and such a request, not refused, does take them down, whatever runs: no exchange is left, and none that waits
+pub record GroupDown (h : Links) : Type 0 where
+  pub all : (l : ℕ) → linkIn l ≡ true → activeB (h .active) l ≡ false
+  pub idle : Idle h
+
+abbrev pub WholeGroup : Said → Type 0
+WholeGroup m = (m .kind ≡ 0x04) × (m .reply ≡ false) × (m .a ≡ true)
+
+abbrev pub AllDownByA : Type 0
+AllDownByA =
+    (g : Links) (l : ℕ) (b : List ℕ) (k : Kind) (vs : List ℕ)
+    → (heardOf g l b .refusal ≡ 0 → WholeGroup (heardIn g b) → GroupDown (next g (message l b)))
+    × (sentOf g l k vs .refusal ≡ 0 → WholeGroup (sentIn g k vs) → GroupDown (next g (send l k vs)))
+
+-- the server's DELETE LINK without A, at a client that adds and deletes none, takes down the link that it names; and the reply that ends a
+-- delete takes down w
+pub record ServersDelete (g : Links) (m : Said) : Type 0 where
+  pub is-04 : m .kind ≡ 0x04
+  pub request : m .reply ≡ false
+  pub not-all : m .a ≡ false
+  pub from-server : m .client ≡ false
+  pub not-adding : (sortOf (g .exchange) ≡ add → ⊥)
+  pub not-deleting : (sortOf (g .exchange) ≡ delete → ⊥)
+
+abbrev pub DownByServer : Type 0
+DownByServer =
+    (g : Links) (l : ℕ) (b : List ℕ) → heardOf g l b .refusal ≡ 0 → ServersDelete g (heardIn g b)
+    → activeB (next g (message l b) .active) (heardIn g b .link) ≡ false
+
+abbrev pub DownByReply : Type 0
+DownByReply =
+    (g : Links) (l : ℕ) (b : List ℕ) → heardOf g l b .refusal ≡ 0 → g .exchange .stage ≡ 5 → dueB (g .exchange) l (heardIn g b) ≡ true
+    → activeB (next g (message l b) .active) (g .exchange .w) ≡ false
 
 -- TWO ENDS over ordered links: one is the client and one the server, they have the same links active and the same exchange
 abbrev pub otherRole : Role → Role

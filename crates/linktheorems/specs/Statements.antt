@@ -1,16 +1,17 @@
 -- Request 2026-01: what holds of the three calls beyond their rules. proofs/Theorems proves each.
 -- Assumes nothing.
-use Prim.Native.Nat.{ℕ, _≤_}
+use Prim.Native.Nat.{ℕ, _+_, _≤_, _<_, min}
 use mathlib.Core.Path.{_≡_}
 use mathlib.Core.Bool.{Bool, true, false}
 use mathlib.Core.List.{List}
+use lib.ListN.{length, replicate}
 use Rattle.llcfields.specs.declared.Kind.{Kind}
 use Rattle.exchange.specs.declared.Waiting.{Waiting}
 use Rattle.exchange.specs.declared.Queue.{Queue}
 use Rattle.exchange.specs.declared.Touch.{Touch}
 use Rattle.exchange.specs.declared.Touch.the-variants.{Nothing, Up, Down, All}
 use Rattle.exchange.specs.declared.Said.{Said}
-use Rattle.exchange.specs.Exchange.{noExchange, dueB, emptyQueue, queued, withoutOldest, mostWaiting, runsOver}
+use Rattle.exchange.specs.Exchange.{noExchange, dueB, emptyQueue, mostWaiting, placeIn, runsOver}
 use Rattle.exchange.specs.Fates.{arrivingOf}
 use Rattle.table.specs.declared.Links.{Links}
 use Rattle.linkcalls.specs.declared.Settled.{Settled}
@@ -46,15 +47,30 @@ abbrev pub RefusedKeeps : Type 0
 RefusedKeeps = (g : Links) (l : ℕ) (b : List ℕ) (k : Kind) (vs : List ℕ)
     → Refused g (heardOf g l b .refusal) (heardOf g l b .settled) × Refused g (sentOf g l k vs .refusal) (sentOf g l k vs .settled)
 
--- THE QUEUE keeps its order: a call leaves it, puts one message behind it, takes its oldest, or empties it
-pub data Order (q : Queue) : Queue → Type 0 where
-  kept : Order q q
-  behind : (m : Waiting) → Order q (queued q m)
-  oldestTaken : Order q (withoutOldest q)
-  emptied : Order q emptyQueue
+-- THE QUEUE is first in, first out, place by place, of four places. A call leaves it; or puts its own message behind those that wait, and
+-- touches no other place; or takes the first, and each of the others moves up by one; or empties it
+pub record Behind (q : Queue) (m : Waiting) (r : Queue) : Type 0 where
+  pub one-more : r .count ≡ q .count + 1
+  pub last : placeIn r (q .count) ≡ m
+  pub others : (i : ℕ) → (i ≡ q .count → ⊥) → placeIn r i ≡ placeIn q i
+
+pub record FirstTaken (q r : Queue) : Type 0 where
+  pub one-less : r .count + 1 ≡ min (q .count) 4
+  pub up-by-one : (i : ℕ) → i < 3 → placeIn r i ≡ placeIn q (i + 1)
+  pub last-zero : placeIn r 3 ≡ record { link = 0; bytes = replicate 44 0 }
+
+pub record Emptied (r : Queue) : Type 0 where
+  pub none : r .count ≡ 0
+  pub zeros : (i : ℕ) → i < 4 → placeIn r i ≡ record { link = 0; bytes = replicate 44 0 }
+
+pub data Order (q : Queue) (c : Call) (r : Queue) : Type 0 where
+  kept : r ≡ q → Order q c r
+  behind : (l : ℕ) (b : List ℕ) → c ≡ message l b → Behind q (record { link = l; bytes = b }) r → Order q c r
+  firstTaken : FirstTaken q r → Order q c r
+  emptied : Emptied r → Order q c r
 
 abbrev pub KeepsOrder : Type 0
-KeepsOrder = (g : Links) (c : Call) → Order (g .queue) (next g c .queue)
+KeepsOrder = (g : Links) (c : Call) → length (g .queue .places) ≡ 4 → Order (g .queue) c (next g c .queue)
 
 -- and has at most four
 abbrev pub AtMostFour : Type 0
