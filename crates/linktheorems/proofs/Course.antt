@@ -1,5 +1,5 @@
 -- At most one exchange runs, what ends it, and what takes all links down. Assumes nothing.
-use mathlib.Core.Path.{_≡_, _∙_, refl, ap, sym}
+use mathlib.Core.Path.{_≡_, _∙_, refl, ap, sym, subst}
 use mathlib.Core.Bool.{Bool, true, false, _&&_, _||_, not, cond}
 use mathlib.Core.List.{List}
 use Prim.Native.Nat.{ℕ}
@@ -14,7 +14,7 @@ use Rattle.exchange.specs.declared.Fate.the-variants.{Taken, Denied}
 use Rattle.exchange.specs.declared.Touch.{Touch}
 use Rattle.exchange.specs.declared.Touch.the-variants.{Nothing, Up, Down, All}
 use Rattle.exchange.specs.declared.Said.{Said}
-use Rattle.exchange.specs.Exchange.{noExchange, add, rkey, sortOf, dueB, nextStage, wentOn, dueTouch, emptyQueue, runsOver, endsB}
+use Rattle.exchange.specs.Exchange.{noExchange, add, rkey, sortOf, dueB, nextStage, wentOn, dueTouch, emptyQueue, queued, runsOver, endsB}
 use Rattle.exchange.specs.Fates.{arrivingOf, fates, fateAt, fateNumber, isFate, badMtu, fateOf, outsideB, started, takenExchange, takenTouch, maySend, sentExchange, sentTouch}
 use Rattle.table.specs.declared.Links.{Links}
 use Rattle.table.specs.Table.{linkIn}
@@ -23,64 +23,106 @@ use Rattle.linkcalls.specs.declared.Sent.{Sent}
 use Rattle.linkcalls.specs.Calls.{touched, settledOf, unchanged, changeTouch, changedOf, downB, messageWork, heardOf, heardIn, fateNo, noReply, sendRefusal, sentWork, sentOf, sentIn}
 use Rattle.linktheorems.specs.Statements.{Call, does, next, Idle, Told}
 use Rattle.linktheorems.specs.Statements.Call.{change, message, send}
-use Rattle.linktheorems.specs.Course.{Course, OneExchange, wouldBegin, NoSecond, dueIn, Ended, EndsByAny, LeftAlone, OthersAlone, AllCause, AllGoDown}
+use Rattle.linktheorems.specs.Course.{Own, Begins, takesDown, Course, OneExchange, wouldBegin, NoSecond, dueIn, Ended, EndsByAny, LeftAlone, OthersAlone, AllCause, AllGoDown}
 use Rattle.linktheorems.specs.Course.Course.{stays, goes-on, ends, begins, replaced}
+use Rattle.linktheorems.specs.Course.Begins.{adding, deleting, confirming, confirmingMore, withdrawing}
 use Rattle.linktheorems.proofs.Theorems.{pick, change-cases, heard-cases, sent-cases, due-down, taken-down, sent-down-never, settled-idle, down-ended}
 
 clash : {A : Type 0} → _≡_ {A = ℕ} 0 1 → A
 clash e = absurd (omega (arith, e))
 
 -- WHAT IS SETTLED
-settled-course : (g : Links) (x : Exchange) (t : Touch) (q : Queue) (due : Bool) → Course g x → Course g (settledOf g x t q due .after .exchange)
-unfolding settledOf
-settled-course g x t q due h = pick (Course g) (endsB x t) noExchange x ends h
+ends-down : (x : Exchange) (t : Touch) → endsB x t ≡ true → takesDown t ≡ true
+unfolding endsB
+ends-down x Nothing e = clash (cc)
+ends-down x (Up l) e = clash (cc)
+ends-down x (Down l) e = refl
+ends-down x All e = refl
 
-kept-course : (g : Links) → Course g (unchanged g .after .exchange)
+settled-course : (g : Links) (c : Call) (x : Exchange) (t : Touch) (q : Queue) (due : Bool) → Course g c t x
+    → Course g c (settledOf g x t q due .touch) (settledOf g x t q due .after .exchange)
+unfolding settledOf
+settled-course g c x t q due h = go (endsB x t) refl
+  where
+    go : (z : Bool) → endsB x t ≡ z → Course g c t (cond z noExchange x)
+    go true e = ends (ends-down x t e)
+    go false e = h
+
+kept-course : (g : Links) (c : Call) → Course g c (unchanged g .touch) (unchanged g .after .exchange)
 unfolding unchanged
-kept-course g = stays
+kept-course g c = stays
 
 -- an 02 request from the server is taken where none runs, or in an rkey
 abbrev fateOfLine : Bool → Bool → ℕ → ℕ → ℕ
 fateOfLine due bad k sort = fateNumber (cond due Taken (cond (bad && isFate (fateAt k sort) Taken) Denied (fateAt k sort)))
 
-taken-begins : (g : Links) (l w : ℕ) (bad : Bool) → fateOfLine false bad 2 (sortOf (g .exchange)) ≡ 0 → Course g (started 1 l w)
+taken-begins : (g : Links) (c : Call) (t : Touch) (l : ℕ) (m : Said) (bad : Bool) → Own g c l m → m .kind ≡ 0x02
+    → fateOfLine false bad 2 (sortOf (g .exchange)) ≡ 0 → Course g c t (started 1 l (m .link))
 unfolding sortOf fateAt fates
-taken-begins g l w bad h = go (eqb s 0) (leb s 4) (eqb s 5) bad refl refl refl h
+taken-begins g c t l m bad own k h = go (eqb s 0) (leb s 4) (eqb s 5) bad refl refl refl h
   where
     s : ℕ
     s = g .exchange .stage
 
-    go : (a b c bad : Bool) → eqb s 0 ≡ a → leb s 4 ≡ b → eqb s 5 ≡ c
-        → fateOfLine false bad 2 (cond a 0 (cond b 1 (cond c 2 3))) ≡ 0 → Course g (started 1 l w)
-    go true b c bad ea eb ec e = begins (started 1 l w) (eqb-true s 0 ea)
-    go false true c true ea eb ec e = clash (omega (arith, e))
-    go false true c false ea eb ec e = clash (omega (arith, e))
+    go : (a b d bad : Bool) → eqb s 0 ≡ a → leb s 4 ≡ b → eqb s 5 ≡ d
+        → fateOfLine false bad 2 (cond a 0 (cond b 1 (cond d 2 3))) ≡ 0 → Course g c t (started 1 l (m .link))
+    go true b d bad ea eb ec e = begins l m (started 1 l (m .link)) own (eqb-true s 0 ea) (adding k)
+    go false true d true ea eb ec e = clash (omega (arith, e))
+    go false true d false ea eb ec e = clash (omega (arith, e))
     go false false true true ea eb ec e = clash (omega (arith, e))
     go false false true false ea eb ec e = clash (omega (arith, e))
-    go false false false bad ea eb ec e = replaced l w (simp (ea, eb, ec))
+    go false false false bad ea eb ec e = replaced l m own (simp (ea, eb, ec)) k
 
-taken-course : (g : Links) (l : ℕ) (m : Said) → dueB (g .exchange) l m ≡ false → Course g (takenExchange (g .exchange) l m (fateNo g l m))
-unfolding takenExchange fateOf
-taken-course g l m d = go (eqb (arrivingOf m) 2) refl (eqb (fateNo g l m) 0) refl
+-- the server's ADD LINK is one
+line-2 : (m : Said) → arrivingOf m ≡ 2 → m .kind ≡ 0x02
+unfolding arrivingOf
+line-2 m e = go (eqb (m .kind) 7) (m .reply) (eqb (m .kind) 1) (eqb (m .kind) 2) (m .client) (eqb (m .kind) 4) (m .a)
+    (eqb (m .kind) 6 || eqb (m .kind) 8) (eqb (m .kind) 9) refl e
   where
-    go : (s : Bool) → eqb (arrivingOf m) 2 ≡ s → (t : Bool) → eqb (fateNo g l m) 0 ≡ t → Course g (cond (s && t) (started 1 l (m .link)) (g .exchange))
-    go false es t et = stays
+    go : (t r o w c f a s n : Bool) → eqb (m .kind) 2 ≡ w
+        → _≡_ {A = ℕ}
+        (cond t 9 (cond r 10 (cond o 0 (cond w (cond c 1 2) (cond f (cond a 5 (cond c 3 4)) (cond s (cond c 6 7) (cond n 8 10)))))))
+        2
+        → m .kind ≡ 0x02
+    go true r o w c f a s n h e = clash (omega (arith, e))
+    go false true o w c f a s n h e = clash (omega (arith, e))
+    go false false true w c f a s n h e = clash (omega (arith, e))
+    go false false false true c f a s n h e = eqb-true (m .kind) 2 h
+    go false false false false c true true s n h e = clash (omega (arith, e))
+    go false false false false true true false s n h e = clash (omega (arith, e))
+    go false false false false false true false s n h e = clash (omega (arith, e))
+    go false false false false true false a true n h e = clash (omega (arith, e))
+    go false false false false false false a true n h e = clash (omega (arith, e))
+    go false false false false c false a false true h e = clash (omega (arith, e))
+    go false false false false c false a false false h e = clash (omega (arith, e))
+
+taken-course : (g : Links) (c : Call) (t : Touch) (l : ℕ) (m : Said) → Own g c l m → dueB (g .exchange) l m ≡ false
+    → Course g c t (takenExchange (g .exchange) l m (fateNo g l m))
+unfolding takenExchange fateOf
+taken-course g c t l m own d = go (eqb (arrivingOf m) 2) refl (eqb (fateNo g l m) 0) refl
+  where
+    go : (s : Bool) → eqb (arrivingOf m) 2 ≡ s → (z : Bool) → eqb (fateNo g l m) 0 ≡ z
+        → Course g c t (cond (s && z) (started 1 l (m .link)) (g .exchange))
+    go false es z et = stays
     go true es false et = stays
     go true es true et =
-        taken-begins g l (m .link) (badMtu m)
+        taken-begins g c t l m (badMtu m) own (line-2 m (eqb-true _ 2 es))
         ((λ i. fateOfLine (sym d i) (badMtu m) (sym (eqb-true (arrivingOf m) 2 es) i) (sortOf (g .exchange))) ∙ eqb-true _ 0 et)
 
 heard-course : (g : Links) (l : ℕ) (b : List ℕ)
-    → Course g (messageWork g l b (heardIn g b) (dueB (g .exchange) l (heardIn g b)) (fateNo g l (heardIn g b)) .after .exchange)
+    → let s = messageWork g l b (heardIn g b) (dueB (g .exchange) l (heardIn g b)) (fateNo g l (heardIn g b)) in
+    Course g (message l b) (s .touch) (s .after .exchange)
 unfolding messageWork
-heard-course g l b = settled-course g _ _ _ _ (go (dueB (g .exchange) l m) refl)
+heard-course g l b = settled-course g (message l b) _ _ _ _ (go (dueB (g .exchange) l m) refl)
   where
     m : Said
     m = heardIn g b
 
-    go : (d : Bool) → dueB (g .exchange) l m ≡ d → Course g (cond d (wentOn (g .exchange) m) (takenExchange (g .exchange) l m (fateNo g l m)))
-    go true e = goes-on l m e
-    go false e = taken-course g l m e
+    go : (d : Bool) → dueB (g .exchange) l m ≡ d
+        → Course g (message l b) (cond (dueB (g .exchange) l m) (dueTouch (g .exchange)) (takenTouch m (fateNo g l m)))
+        (cond d (wentOn (g .exchange) m) (takenExchange (g .exchange) l m (fateNo g l m)))
+    go true e = goes-on l m (refl, refl) e
+    go false e = taken-course g (message l b) _ l m (refl, refl) e
 
 -- WHAT MAY BE SENT, by its parts
 abbrev mayB : Bool → ℕ → Bool → Bool → Bool → Bool → Bool
@@ -111,9 +153,10 @@ may-4 false adds true e = refl
 may-4 false adds false e = e
 
 -- what it begins, it begins where none runs
-begun : (g : Links) (l : ℕ) (m : Said) → maySend (g .exchange) m ≡ true → Course g (sentExchange (g .exchange) l m)
+begun : (g : Links) (c : Call) (t : Touch) (l : ℕ) (m : Said) → Own g c l m → maySend (g .exchange) m ≡ true
+    → Course g c t (sentExchange (g .exchange) l m)
 unfolding maySend sentExchange
-begun g l m may = go (m .kind) (m .a) (m .client) refl refl refl
+begun g c t l m own may = two (m .kind) refl (eqb (m .kind) 2) (m .client) refl refl
   where
     x : Exchange
     x = g .exchange
@@ -121,8 +164,8 @@ begun g l m may = go (m .kind) (m .a) (m .client) refl refl refl
     z : Bool
     z = eqb (x .stage) 0
 
-    none : z ≡ true → (y : Exchange) → Course g y
-    none e y = begins y (eqb-true (x .stage) 0 e)
+    none : z ≡ true → (y : Exchange) → Begins l m y → Course g c t y
+    none e y h = begins l m y own (eqb-true (x .stage) 0 e) h
 
     adds : Bool
     adds = eqb (sortOf x) add
@@ -130,36 +173,38 @@ begun g l m may = go (m .kind) (m .a) (m .client) refl refl refl
     at : (k : ℕ) (a c : Bool) → m .kind ≡ k → m .a ≡ a → m .client ≡ c → mayB (m .reply) k a c adds z ≡ true
     at k a c ek ea ec = (λ i. mayB (m .reply) (sym ek i) (sym ea i) (sym ec i) adds z) ∙ may
 
+    six : (n : Bool) → leb (m .num) 2 ≡ n → m .kind ≡ 6 → Begins l m (started (cond n 6 7) l 0)
+    six true e k = confirming k e
+    six false e k = confirmingMore k e
+
     rest : (k : ℕ) → m .kind ≡ k → (s n : Bool) → eqb k 6 ≡ s → eqb k 9 ≡ n
-        → Course g (cond s (started (cond (leb (m .num) 2) 6 7) l 0) (cond n (started 11 l 0) x))
+        → Course g c t (cond s (started (cond (leb (m .num) 2) 6 7) l 0) (cond n (started 11 l 0) x))
     rest k e true n es en =
         none (may-6 (m .reply) (m .a) (m .client) adds z (at 6 (m .a) (m .client) (e ∙ eqb-true k 6 es) refl refl)) _
+        (six (leb (m .num) 2) refl (e ∙ eqb-true k 6 es))
     rest k e false true es en =
         none (may-9 (m .reply) (m .a) (m .client) adds z (at 9 (m .a) (m .client) (e ∙ eqb-true k 9 en) refl refl)) _
+        (withdrawing (e ∙ eqb-true k 9 en))
     rest k e false false es en = stays
 
-    four : (k : ℕ) → m .kind ≡ k → (f a c : Bool) → eqb k 4 ≡ f → m .a ≡ a → m .client ≡ c
-        → Course g (cond (f && not (a || c)) (started 5 l (m .link)) (cond (eqb k 6) (started (cond (leb (m .num) 2) 6 7) l 0) (cond (eqb k 9) (started 11 l 0) x)))
-    four k e true false false ef ea ec = none (may-4 (m .reply) adds z (at 4 false false (e ∙ eqb-true k 4 ef) ea ec)) _
-    four k e true true c ef ea ec = rest k e (eqb k 6) (eqb k 9) refl refl
+    four : (k : ℕ) → m .kind ≡ k → (f a d : Bool) → eqb k 4 ≡ f → m .a ≡ a → m .client ≡ d
+        → Course g c t
+        (cond (f && not (a || d)) (started 5 l (m .link)) (cond (eqb k 6) (started (cond (leb (m .num) 2) 6 7) l 0) (cond (eqb k 9) (started 11 l 0) x)))
+    four k e true false false ef ea ec =
+        none (may-4 (m .reply) adds z (at 4 false false (e ∙ eqb-true k 4 ef) ea ec)) _ (deleting (e ∙ eqb-true k 4 ef))
+    four k e true true d ef ea ec = rest k e (eqb k 6) (eqb k 9) refl refl
     four k e true false true ef ea ec = rest k e (eqb k 6) (eqb k 9) refl refl
-    four k e false a c ef ea ec = rest k e (eqb k 6) (eqb k 9) refl refl
+    four k e false a d ef ea ec = rest k e (eqb k 6) (eqb k 9) refl refl
 
-    two : (k : ℕ) → m .kind ≡ k → (t c : Bool) → eqb k 2 ≡ t → m .client ≡ c
-        → Course g
-        (cond (t && not c) (started 1 l (m .link))
-        (cond (eqb k 4 && not (m .a || c)) (started 5 l (m .link))
+    two : (k : ℕ) → m .kind ≡ k → (w d : Bool) → eqb k 2 ≡ w → m .client ≡ d
+        → Course g c t
+        (cond (w && not d) (started 1 l (m .link))
+        (cond (eqb k 4 && not (m .a || d)) (started 5 l (m .link))
         (cond (eqb k 6) (started (cond (leb (m .num) 2) 6 7) l 0) (cond (eqb k 9) (started 11 l 0) x))))
-    two k e true false et ec = none (may-2 (m .reply) (m .a) adds z (at 2 (m .a) false (e ∙ eqb-true k 2 et) refl ec)) _
+    two k e true false et ec =
+        none (may-2 (m .reply) (m .a) adds z (at 2 (m .a) false (e ∙ eqb-true k 2 et) refl ec)) _ (adding (e ∙ eqb-true k 2 et))
     two k e true true et ec = four k e (eqb k 4) (m .a) true refl refl ec
-    two k e false c et ec = four k e (eqb k 4) (m .a) c refl refl ec
-
-    go : (k : ℕ) (a c : Bool) → m .kind ≡ k → m .a ≡ a → m .client ≡ c
-        → Course g
-        (cond (eqb (m .kind) 2 && not (m .client)) (started 1 l (m .link))
-        (cond (eqb (m .kind) 4 && not (m .a || m .client)) (started 5 l (m .link))
-        (cond (eqb (m .kind) 6) (started (cond (leb (m .num) 2) 6 7) l 0) (cond (eqb (m .kind) 9) (started 11 l 0) x))))
-    go k a c ek ea ec = two (m .kind) refl (eqb (m .kind) 2) (m .client) refl refl
+    two k e false d et ec = four k e (eqb k 4) (m .a) d refl refl ec
 
 -- a send that is not refused was due, or may be sent
 allowed : (known down outside ok : Bool) → _≡_ {A = ℕ} (cond (not known) 13 (cond down 6 (cond outside 14 (cond (not ok) 15 0)))) 0 → ok ≡ true
@@ -169,12 +214,16 @@ allowed true false true ok e = clash (omega (arith, e))
 allowed true true outside ok e = clash (omega (arith, e))
 allowed false down outside ok e = clash (omega (arith, e))
 
-sent-course : (g : Links) (l : ℕ) (k : Kind) (vs : List ℕ) → Course g (sentOf g l k vs .settled .after .exchange)
+sent-course : (g : Links) (l : ℕ) (k : Kind) (vs : List ℕ)
+    → Course g (send l k vs) (sentOf g l k vs .settled .touch) (sentOf g l k vs .settled .after .exchange)
 unfolding sentOf sentWork unchanged sendRefusal
 sent-course g l k vs = go (eqb j 0) refl
   where
     m : Said
     m = sentIn g k vs
+
+    c : Call
+    c = send l k vs
 
     d : Bool
     d = dueB (g .exchange) l m
@@ -182,27 +231,29 @@ sent-course g l k vs = go (eqb j 0) refl
     j : ℕ
     j = sendRefusal g l m d
 
-    on : (d : Bool) → dueB (g .exchange) l m ≡ d → (d || maySend (g .exchange) m) ≡ true
-        → Course g (cond d (wentOn (g .exchange) m) (sentExchange (g .exchange) l m))
-    on true e h = goes-on l m e
-    on false e h = begun g l m h
+    on : (t : Touch) (d : Bool) → dueB (g .exchange) l m ≡ d → (d || maySend (g .exchange) m) ≡ true
+        → Course g c t (cond d (wentOn (g .exchange) m) (sentExchange (g .exchange) l m))
+    on t true e h = goes-on l m (refl, refl) e
+    on t false e h = begun g c t l m (refl, refl) h
 
-    go : (t : Bool) → eqb j 0 ≡ t
-        → Course g
-        (cond {A = Sent} t (record { refusal = 0; message = encodeOf k vs; settled = sentWork g l m d })
+    result : Bool → Settled
+    result z =
+        cond {A = Sent} z (record { refusal = 0; message = encodeOf k vs; settled = sentWork g l m d })
         (record { refusal = j; message = noReply; settled = unchanged g })
         .settled
-        .after
-        .exchange)
+
+    go : (z : Bool) → eqb j 0 ≡ z → Course g c (result z .touch) (result z .after .exchange)
     go true e =
-        settled-course g (cond d (wentOn (g .exchange) m) (sentExchange (g .exchange) l m)) (cond d (dueTouch (g .exchange)) (sentTouch m)) (g .queue) d
-        (on d refl (allowed (linkIn l) (downB g l (m .kind)) (outsideB m) (d || maySend (g .exchange) m) (eqb-true j 0 e)))
+        settled-course g c (cond d (wentOn (g .exchange) m) (sentExchange (g .exchange) l m)) (cond d (dueTouch (g .exchange)) (sentTouch m)) (g .queue) d
+        (on _ d refl (allowed (linkIn l) (downB g l (m .kind)) (outsideB m) (d || maySend (g .exchange) m) (eqb-true j 0 e)))
     go false e = stays
 
 pub one-exchange : OneExchange
 one-exchange g (change l up) =
-    change-cases (λ s. Course g (s .after .exchange)) g (kept-course g) l up (settled-course g (g .exchange) _ _ false stays)
-one-exchange g (message l b) = heard-cases (λ s. Course g (s .after .exchange)) g (kept-course g) l b (heard-course g l b)
+    change-cases (λ s. Course g (change l up) (s .touch) (s .after .exchange)) g (kept-course g _) l up
+    (settled-course g (change l up) (g .exchange) _ _ false stays)
+one-exchange g (message l b) =
+    heard-cases (λ s. Course g (message l b) (s .touch) (s .after .exchange)) g (kept-course g _) l b (heard-course g l b)
 one-exchange g (send l k vs) = sent-course g l k vs
 
 -- NO SECOND
@@ -336,14 +387,59 @@ ends-by-any g (send L k vs) l t r =
 
 -- another link
 settled-alone : (g : Links) (l : ℕ) → runsOver (g .exchange) l ≡ false
-    → LeftAlone g (settledOf g (g .exchange) (changeTouch l false) (g .queue) false .after)
-unfolding settledOf changeTouch endsB
+    → LeftAlone g (settledOf g (g .exchange) (Down l) (g .queue) false .after)
+unfolding settledOf endsB
 settled-alone g l r = record { same-exchange = simp r; same-queue = simp r }
 
+-- an 04 from the server leaves both as they are
+taken-fate : (m : Said) (f l : ℕ) → takenTouch m f ≡ Down l → f ≡ 0
+unfolding takenTouch
+taken-fate m f l e = go (eqb (arrivingOf m) 4) (eqb f 0) (eqb (arrivingOf m) 5) refl e
+  where
+    go : (a z b : Bool) → eqb f 0 ≡ z → cond (a && z) (Down (m .link)) (cond (b && z) All Nothing) ≡ Down l → f ≡ 0
+    go a true b h e = eqb-true f 0 h
+    go true false true h e = clash (cc)
+    go true false false h e = clash (cc)
+    go false false true h e = clash (cc)
+    go false false false h e = clash (cc)
+
+work-alone : (g : Links) (L : ℕ) (b : List ℕ) (m : Said) (f l : ℕ) → takenTouch m f ≡ Down l → runsOver (g .exchange) l ≡ false
+    → LeftAlone g (messageWork g L b m false f .after)
+unfolding messageWork
+work-alone g L b m f l e r =
+    subst (λ (s : Settled). LeftAlone g (s .after))
+    (sym (λ i. settledOf g (kept-exchange (g .exchange) L m f (taken-down m f l e .line) i) (e i) (cond (eqb (taken-fate m f l e i) 1) (queued (g .queue) (record { link = L; bytes = b })) (g .queue)) false))
+    (settled-alone g l r)
+
+change-alone : (g : Links) (L l : ℕ) → changeTouch L false ≡ Down l → runsOver (g .exchange) l ≡ false
+    → LeftAlone g (settledOf g (g .exchange) (changeTouch L false) (g .queue) false .after)
+change-alone g L l e r =
+    subst (λ (t : Touch). LeftAlone g (settledOf g (g .exchange) t (g .queue) false .after)) (sym e) (settled-alone g l r)
+
+heard-alone : (g : Links) (L : ℕ) (b : List ℕ) (m : Said) (f l : ℕ) (d : Bool) → d ≡ false → runsOver (g .exchange) l ≡ false
+    → messageWork g L b m d f .touch ≡ Down l → LeftAlone g (messageWork g L b m d f .after)
+unfolding messageWork
+heard-alone g L b m f l true z r e = clash (cc)
+heard-alone g L b m f l false z r e = work-alone g L b m f l (sym (settled-touch g _ _ _ false) ∙ e) r
+
+sent-alone : (g : Links) (L : ℕ) (m : Said) (l : ℕ) (d : Bool) → d ≡ false → sentWork g L m d .touch ≡ Down l → ⊥
+unfolding sentWork
+sent-alone g L m l true z e = clash (cc)
+sent-alone g L m l false z e = sent-down-never m l (sym (settled-touch g _ _ _ false) ∙ e)
+
 pub others-alone : OthersAlone
-unfolding unchanged
-others-alone g l r =
-    change-cases (λ s. LeftAlone g (s .after)) g (record { same-exchange = refl; same-queue = refl }) l false (settled-alone g l r)
+others-alone g (change L true) l t r d =
+    change-cases (λ s. s .touch ≡ Down l → LeftAlone g (s .after)) g (λ e. absurd (unchanged-not g l e)) L true
+    (λ e. absurd (up-is-not L l (sym (settled-touch g _ _ _ false) ∙ e))) t
+others-alone g (change L false) l t r d =
+    change-cases (λ s. s .touch ≡ Down l → LeftAlone g (s .after)) g (λ e. absurd (unchanged-not g l e)) L false
+    (λ e. change-alone g L l (sym (settled-touch g _ _ _ false) ∙ e) r) t
+others-alone g (message L b) l t r d =
+    heard-cases (λ s. s .touch ≡ Down l → LeftAlone g (s .after)) g (λ e. absurd (unchanged-not g l e)) L b
+    (heard-alone g L b (heardIn g b) _ l _ d r) t
+others-alone g (send L k vs) l t r d =
+    sent-cases (λ s. s .touch ≡ Down l → LeftAlone g (s .after)) g (λ e. absurd (unchanged-not g l e)) L k vs
+    (λ e. absurd (sent-alone g L (sentIn g k vs) l _ d e)) t
 
 -- ALL FOUR
 due-not-all : (x : Exchange) → dueTouch x ≡ All → ⊥

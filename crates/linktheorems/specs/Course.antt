@@ -10,7 +10,8 @@ use Rattle.llcfields.specs.declared.Kind.the-variants.{AddLink}
 use Rattle.exchange.specs.declared.Role.{Role}
 use Rattle.exchange.specs.declared.Role.the-variants.{Client, Server}
 use Rattle.exchange.specs.declared.Exchange.{Exchange}
-use Rattle.exchange.specs.declared.Touch.the-variants.{Down, All}
+use Rattle.exchange.specs.declared.Touch.{Touch}
+use Rattle.exchange.specs.declared.Touch.the-variants.{Nothing, Up, Down, All}
 use Rattle.exchange.specs.declared.Said.{Said}
 use Rattle.exchange.specs.Exchange.{noExchange, add, delete, rkey, sortOf, dueB, wentOn, emptyQueue, runsOver}
 use Rattle.exchange.specs.Fates.{arrivingOf, outsideB, started}
@@ -20,17 +21,37 @@ use Rattle.linkcalls.specs.Calls.{downB, heardIn, sentIn, heardOf, sentOf}
 use Rattle.linktheorems.specs.Statements.{Call, does, next, Idle}
 use Rattle.linktheorems.specs.Statements.Call.{change, message, send}
 
--- AT MOST ONE EXCHANGE RUNS. There is one, of one stage: a call leaves it, or it goes on by a due message, or it ends; another begins where
--- none runs, and, as the add that the server asks for, in the place of an rkey
-pub data Course (g : Links) : Exchange → Type 0 where
-  stays : Course g (g .exchange)
-  goes-on : (l : ℕ) (m : Said) → dueB (g .exchange) l m ≡ true → Course g (wentOn (g .exchange) m)
-  ends : Course g noExchange
-  begins : (x : Exchange) → g .exchange .stage ≡ 0 → Course g x
-  replaced : (l w : ℕ) → sortOf (g .exchange) ≡ rkey → Course g (started 1 l w)
+-- AT MOST ONE EXCHANGE RUNS. There is one, of one stage: a call leaves it, or it goes on by the call's own message, which was due, or it ends
+-- because the call takes links down; the call's own message begins another where none runs, and the server's ADD LINK in the place of an rkey
+abbrev pub Own : Links → Call → ℕ → Said → Type 0
+Own g (change l up) L m = ⊥
+Own g (message l b) L m = (L ≡ l) × (m ≡ heardIn g b)
+Own g (send l k vs) L m = (L ≡ l) × (m ≡ sentIn g k vs)
+
+-- "02: stage 1; the server's 04 without A: 5; 06: 6, or 7 with more than two RTokens; 09: 11"; v is the message's link, w the link that it names
+pub data Begins (l : ℕ) (m : Said) : Exchange → Type 0 where
+  adding : m .kind ≡ 0x02 → Begins l m (record { stage = 1; v = l; w = m .link })
+  deleting : m .kind ≡ 0x04 → Begins l m (record { stage = 5; v = l; w = m .link })
+  confirming : m .kind ≡ 0x06 → leb (m .num) 2 ≡ true → Begins l m (record { stage = 6; v = l; w = 0 })
+  confirmingMore : m .kind ≡ 0x06 → leb (m .num) 2 ≡ false → Begins l m (record { stage = 7; v = l; w = 0 })
+  withdrawing : m .kind ≡ 0x09 → Begins l m (record { stage = 11; v = l; w = 0 })
+
+abbrev pub takesDown : Touch → Bool
+takesDown Nothing = false
+takesDown (Up l) = false
+takesDown (Down l) = true
+takesDown All = true
+
+pub data Course (g : Links) (c : Call) (t : Touch) : Exchange → Type 0 where
+  stays : Course g c t (g .exchange)
+  goes-on : (l : ℕ) (m : Said) → Own g c l m → dueB (g .exchange) l m ≡ true → Course g c t (wentOn (g .exchange) m)
+  ends : takesDown t ≡ true → Course g c t noExchange
+  begins : (l : ℕ) (m : Said) (x : Exchange) → Own g c l m → g .exchange .stage ≡ 0 → Begins l m x → Course g c t x
+  replaced : (l : ℕ) (m : Said) → Own g c l m → sortOf (g .exchange) ≡ rkey → m .kind ≡ 0x02
+      → Course g c t (record { stage = 1; v = l; w = m .link })
 
 abbrev pub OneExchange : Type 0
-OneExchange = (g : Links) (c : Call) → Course g (next g c .exchange)
+OneExchange = (g : Links) (c : Call) → Course g c (does g c .touch) (next g c .exchange)
 
 -- a send that would begin one while one runs, and is refused with nothing before 15, is refused with that
 abbrev pub wouldBegin : Said → Bool
@@ -59,13 +80,14 @@ pub record Ended (g : Links) (c : Call) : Type 0 where
 abbrev pub EndsByAny : Type 0
 EndsByAny = (g : Links) (c : Call) (l : ℕ) → does g c .touch ≡ Down l → runsOver (g .exchange) l ≡ true → Ended g c
 
--- "other links going down leave exchange and queue alone"
+-- "other links going down leave exchange and queue alone", by whichever call; the reply that ends a delete aside
 pub record LeftAlone (g h : Links) : Type 0 where
   pub same-exchange : h .exchange ≡ g .exchange
   pub same-queue : h .queue ≡ g .queue
 
 abbrev pub OthersAlone : Type 0
-OthersAlone = (g : Links) (l : ℕ) → runsOver (g .exchange) l ≡ false → LeftAlone g (next g (change l false))
+OthersAlone =
+    (g : Links) (c : Call) (l : ℕ) → does g c .touch ≡ Down l → runsOver (g .exchange) l ≡ false → dueIn g c ≡ false → LeftAlone g (next g c)
 
 -- ALL FOUR LINKS GO DOWN only by a DELETE LINK request with A, heard or sent
 abbrev pub AllCause : Links → Call → Type 0
