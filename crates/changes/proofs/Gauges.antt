@@ -572,7 +572,7 @@ pub mean-exact : MeanExact
 mean-exact g f h cs l n ns e short =
     let w = all-hold g f h cs l in
     let s : Samples (n ∷ ns) = rw e at (w .each) in
-    let v = through-eight clearedOf n ns refl short s .0 in
+    let v = through-eight clearedOf n ns refl short s .mean in
     rw (w .is, e) v
 
 -- the whole number stays below the most milliseconds
@@ -594,8 +594,8 @@ late-exact g f h cs l n ns e short s most =
     let w = all-hold g f h cs l in
     let each : Samples (n ∷ ns) = rw e at (w .each) in
     let v = through-eight clearedOf n ns refl short each in
-    let some : after clearedOf (n ∷ ns) .count ≡ 0 → ⊥ = λ z. absurd (omega (arith, v .1, z)) in
+    let some : after clearedOf (n ∷ ns) .count ≡ 0 → ⊥ = λ z. absurd (omega (arith, v .count, z)) in
     let most-whole = whole-most ns (n * 2097152) (mul-le-mul-right 2097152 (each .0)) (each .1) in
     rw (w .is, e)
     (later-late (after clearedOf (n ∷ ns)) s some
-    ∙ late-whole (after clearedOf (n ∷ ns) .mean) (ofInt binary64 (pos s)) (wholeFrom (n * 2097152) ns) s most-whole (v .0) (of-whole s most))
+    ∙ late-whole (after clearedOf (n ∷ ns) .mean) (ofInt binary64 (pos s)) (wholeFrom (n * 2097152) ns) s most-whole (v .mean) (of-whole s most))

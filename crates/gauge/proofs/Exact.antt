@@ -17,7 +17,7 @@ use lib.ListN.{length}
 use lib.Ieee.Exact.{HasValue, round-exact}
 use lib.Ieee.Scale.{round-same}
 use Rattle.gauge.specs.declared.Gauge.{Gauge}
-use Rattle.gauge.specs.Gauge.{eighth, four, twenty, lateAt, smoothed, sampledOf, after, nextWhole, wholeFrom, Samples, ThroughEight}
+use Rattle.gauge.specs.Gauge.{eighth, four, twenty, lateAt, smoothed, sampledOf, after, nextWhole, wholeFrom, NoRemainder, Samples, ThroughEight}
 
 -- ---- a whole number below 2 ^ prec, over a power of two that the format reaches, is not rounded
 room : (p l c e : ℕ) → p ≤ suc e → p + (l - c) ≤ l + suc e
@@ -180,9 +180,9 @@ later-count g n h l = rw (ne-eqb (g .count) 0 (positive (g .count) h), lt-ltb (g
 -- ---- through the first eight samples
 later : (ns : List ℕ) (g : Gauge) (w j : ℕ) → length ns ≤ j → g .count + j ≡ 8 → 0 < g .count → Samples ns → w ≤ 60000 * 2097152 → Multiple j w
     → HasValue (g .mean) false w 2097152
-    → HasValue (after g ns .mean) false (wholeFrom w ns) 2097152 × (after g ns .count ≡ g .count + length ns)
-unfolding after wholeFrom
-later [] g w j L K P S W M v = (v, sym (add-zero (g .count)))
+    → HasValue (after g ns .mean) false (wholeFrom w ns) 2097152 × (after g ns .count ≡ g .count + length ns) × NoRemainder w ns
+unfolding after wholeFrom NoRemainder
+later [] g w j L K P S W M v = (v, sym (add-zero (g .count)), tt)
 later (n ∷ ns) g w zero L K P S W M v = absurd (not-suc-le-zero L)
 later (n ∷ ns) g w (suc j) L K P S W M v =
     let c = g .count in
@@ -198,7 +198,7 @@ later (n ∷ ns) g w (suc j) L K P S W M v =
     let K' : sampledOf g n .count + j ≡ 8 = rw k (omega arith) in
     let P' : 0 < sampledOf g n .count = rw k (omega arith) in
     let i = later ns (sampledOf g n) x j (le-of-suc-le-suc L) K' P' (S .1) (bound w n x W (S .0) (t .1)) (t .0) u in
-    (i .0, i .1 ∙ rw k (omega arith))
+    (i .0, i .1 ∙ rw k (omega arith), (t .1, i .2))
 
 -- Through the first eight samples n ∷ ns of a gauge that has none, the mean is exactly the whole number over 2,097,152 that the recurrence gives, and the count is how many there are.
 pub through-eight : ThroughEight
@@ -207,7 +207,7 @@ through-eight g n ns z L S =
     let k : sampledOf g n .count ≡ 1 = first-count g n z in
     let i =
     later ns (sampledOf g n) (n * 2097152) 7 L (rw k) (rw k (lit< tt)) (S .1) (mul-le-mul-right 2097152 (S .0)) (n, refl) (rw (first-mean g n z) (of-whole n (S .0))) in
-    (i .0, i .1 ∙ rw k (omega arith))
+    record { mean = i .0; whole = i .2; count = i .1 ∙ rw k (omega arith) }
 
 -- ---- the test of lateness in whole numbers: through the first eight samples nothing of it rounds either
 pub four-of : (f : Format) (x : Float) (a C : ℕ) → 0 < C → HasValue x false a C → mul f four x ≡ round f false (4 * a) C

@@ -92,13 +92,21 @@ unfoldable pub wholeFrom : ℕ → List ℕ → ℕ
 wholeFrom w [] = w
 wholeFrom w (n ∷ ns) = wholeFrom (nextWhole w n) ns
 
+-- and each is reached with no remainder: eight times it is those seven parts and that one
+unfoldable pub NoRemainder : ℕ → List ℕ → Type 0
+NoRemainder w [] = Unit
+NoRemainder w (n ∷ ns) = (nextWhole w n * 8 ≡ 7 * w + n * 2097152) × NoRemainder (nextWhole w n) ns
+
 abbrev pub Samples : List ℕ → Type 0
 Samples [] = Unit
 Samples (n ∷ ns) = (n ≤ mostMs) × Samples ns
 
 -- Through the first eight samples n ∷ ns of a gauge that has none the mean is exact: no operation rounds, and it is that whole number over
 -- 2,097,152 (`HasValue x s a b`: the float x is a / b, below zero where s). The count is how many there are.
+pub record Exactly (g : Gauge) (n : ℕ) (ns : List ℕ) : Type 0 where
+  pub mean : HasValue (after g (n ∷ ns) .mean) false (wholeFrom (n * 2097152) ns) 2097152
+  pub whole : NoRemainder (n * 2097152) ns
+  pub count : after g (n ∷ ns) .count ≡ length (n ∷ ns)
+
 abbrev pub ThroughEight : Type 0
-ThroughEight =
-    (g : Gauge) (n : ℕ) (ns : List ℕ) → g .count ≡ 0 → length ns ≤ 7 → Samples (n ∷ ns)
-    → HasValue (after g (n ∷ ns) .mean) false (wholeFrom (n * 2097152) ns) 2097152 × (after g (n ∷ ns) .count ≡ length (n ∷ ns))
+ThroughEight = (g : Gauge) (n : ℕ) (ns : List ℕ) → g .count ≡ 0 → length ns ≤ 7 → Samples (n ∷ ns) → Exactly g n ns
