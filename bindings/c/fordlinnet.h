@@ -15,6 +15,11 @@
  * refusal. What a message's bytes are for (made == true: 44 bytes in message) is the caller's: they go to the peer over the
  * connection's link, and a link message's reply over the link that it came from.
  *
+ * When an element may be used again (RFC 7609, 4.4.2). A slot that closed by C sent and C heard, or by A heard, has nothing of its connection
+ * under way to it, if the peer's writes arrive before the messages that announce them: that is proved, and it may be opened again. A slot
+ * closed by fordlinnet_free may have: a write of the old connection that arrives after the next open is read as the new connection's bytes,
+ * and no call is refused. Open it again only when no such write can arrive: the old queue pair is down, or the old key is revoked.
+ *
  * Failover (RFC 7609, 4.6). Where link change, link message or link send takes links down, each open, coherent connection on them moves to
  * the lowest-numbered active link, which its record then names. For each that did not send A a message with F stands in the call's buffer,
  * and the caller puts it on the new link
@@ -624,14 +629,17 @@ static inline struct fordlinnet_answer fordlinnet_call(struct fordlinnet_group *
 
 /* Management */
 
-/* Opens a closed slot: zeroes its element, writes the eye catcher. Refused with 1, 2, 10, 12, 13, 6, 11, tested in this order. */
+/* Opens a closed slot: zeroes its element, writes the eye catcher. After fordlinnet_free only where no write of the old connection can
+ * arrive (see the head). Refused with 1, 2, 10, 12, 13, 6, 11, tested in this order. */
 static inline struct fordlinnet_answer fordlinnet_open(struct fordlinnet_group *g, uint32_t slot, struct fordlinnet_opening opening) {
     struct fordlinnet_command c = fordlinnet_command_of(FORDLINNET_OPEN, slot);
     c.opening = opening;
     return fordlinnet_call(g, c, 0, 0, 0, 0);
 }
 
-/* Closes a slot in PeerAbortWait. Refused with 1, 2, 3, 7. */
+/* Closes a slot in PeerAbortWait. It does not say that nothing is under way to the element: before the slot is opened again the caller must
+ * know that no write of this connection can arrive (see the head). Hearing the peer's A closes the slot too, and does say so. Refused with
+ * 1, 2, 3, 7. */
 static inline struct fordlinnet_answer fordlinnet_free(struct fordlinnet_group *g, uint32_t slot) {
     return fordlinnet_call(g, fordlinnet_command_of(FORDLINNET_FREE, slot), 0, 0, 0, 0);
 }

@@ -20,6 +20,7 @@ pub mod gauge;
 pub mod generate;
 pub mod links;
 pub mod llc;
+pub mod pair;
 pub mod picture;
 pub mod pool;
 pub mod random;

@@ -4,6 +4,7 @@ use std::fs;
 use std::io::{self, BufReader, BufWriter, Read, Write};
 use std::process::ExitCode;
 
+use model::pair::{breaks, lists};
 use model::{compare, count, generate, picture, replay, traces};
 
 const USAGE: &str = "\
@@ -15,6 +16,8 @@ model count                                count what a list on standard input r
 model compare PROGRAM SECONDS [SEED]       compare a program with the model for so long
 model compare PROGRAM calls COUNT [SEED]   compare a program with the model over so many calls
 model picture                              draw a list with two ends as SVG
+model pair SECONDS [SEED]                  check what is read over lists of two groups for so long
+model pair --break PREMISE                 show what comes out without a premise
 model traces DIR                           write DIR/stdin and DIR/stdout
 ";
 
@@ -98,6 +101,9 @@ fn command(words: &[&str]) -> Result<ExitCode, Failure> {
             let goal = compare::Goal::Seconds(number(seconds)?);
             Ok(exit(compare::compare(program, goal, number(seed)?)?))
         }
+        ["pair", "--break", name] => broken(name),
+        ["pair", seconds] => paired(number(seconds)?, 1),
+        ["pair", seconds, seed] => paired(number(seconds)?, number(seed)?),
         ["picture"] => {
             let svg = picture::picture(&standard_input()?);
             io::stdout().lock().write_all(svg.as_bytes())?;
@@ -109,6 +115,32 @@ fn command(words: &[&str]) -> Result<ExitCode, Failure> {
         }
         _ => Err(Failure::Usage),
     }
+}
+
+fn paired(seconds: u64, seed: u64) -> Result<ExitCode, Failure> {
+    match lists::run_for(seconds, seed) {
+        Ok(counts) => {
+            let last = seed + counts.lists - 1;
+            let text = format!("seeds {seed} to {last}\n{}", counts.text());
+            io::stdout().lock().write_all(text.as_bytes())?;
+            Ok(ExitCode::SUCCESS)
+        }
+        Err(wrong) => {
+            eprint!("{wrong}");
+            Ok(exit(false))
+        }
+    }
+}
+
+fn broken(name: &str) -> Result<ExitCode, Failure> {
+    let Some(found) = breaks::BREAKS.iter().find(|found| found.name == name) else {
+        let names: Vec<&str> = breaks::BREAKS.iter().map(|found| found.name).collect();
+        eprintln!("PREMISE is one of: {}", names.join(", "));
+        return Err(Failure::Usage);
+    };
+    let text = breaks::text(found);
+    io::stdout().lock().write_all(text.as_bytes())?;
+    Ok(ExitCode::SUCCESS)
 }
 
 fn generated(seed: u64, kind: &str, count: Option<u64>) -> Result<ExitCode, Failure> {

@@ -216,6 +216,10 @@ where
 {
     /// Opens a closed slot: zeroes its element, writes the eye catcher, and lays down a record whose cursors are all at the beginning.
     ///
+    /// A slot that closed by C sent and C heard, or by A heard, has nothing of its connection under way to it. One closed by
+    /// [`Group::free`] may have: open it again only when no write of the old connection can arrive (its queue pair is down, or the old
+    /// key is revoked), or those bytes are read as the new connection's, and no call is refused.
+    ///
     /// The peer's keys of all four links are to be settled before: a connection that later moves to another link
     /// ([`Group::link_change`]) goes on with what it was given here.
     ///
@@ -230,6 +234,9 @@ where
     }
 
     /// Closes a slot in [`State::PeerAbortWait`].
+    ///
+    /// It does not say that nothing is under way to the element: see [`Group::open`]. Hearing the peer's A closes the slot too, and does
+    /// say so.
     ///
     /// # Errors
     ///

@@ -54,6 +54,12 @@
 //! Between two processes the placings must be seen before the message that announces them. Write the bytes, then a release fence, then
 //! the message to the socket; on the other side the message, an acquire fence, then hear and read. `examples/plate` does so.
 //!
+//! # When an element may be used again
+//!
+//! A slot that closed by C sent and C heard, or by A heard, may be opened again: no byte of its connection is under way to it, if the
+//! peer's writes arrive before the messages that announce them. That is proved. A slot closed by [`Group::free`] may be opened again only
+//! when no write of the old connection can arrive, which no call can know: the old queue pair is down, or the old key is revoked.
+//!
 //! # Building
 //!
 //! `bindings/archive` at the top of the repository proves the archive and leaves it in `target/staticlib`, where the build script looks;

@@ -1,0 +1,4 @@
+pub mod Books
+pub mod OnlySent
+pub mod Plain
+pub mod Reuse
