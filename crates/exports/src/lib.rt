@@ -10,7 +10,6 @@ ghost use Rattle.pool.specs.Pool.{freePool, take, giveBack};
 ghost use Rattle.flat.specs.Flat.{roleOf, linksIn, flatLinks, CallMade};
 ghost use Rattle.flat.specs.View.{flatView};
 ghost use Rattle.flat_gather.specs.FlatGather.{GatherMade, pieceAt};
-ghost use Rattle.flat_link.specs.FlatLink.{LinkMade};
 ghost use Rattle.flat_pool.specs.FlatPool.{PoolMade};
 ghost use Rattle.flat_setup.specs.FlatSetup.{flatSetup};
 ghost use Rattle.shapes.specs.Shapes.{shapeRecord, shapeLinks, shapeCommand, shapeLinkCommand, shapeAnswer, shapeLinkAnswer};
@@ -84,29 +83,6 @@ pub extern "C" fn fordlinnet_next_piece<'a>(
     ensures { λ r. ⌜ r ≡ pieceAt (now (head .entry)) (now (body .entry)) found n k ⌝ }
 {
     flat_gather::piece(head, body, found, n, k)
-}
-
-// Makes the call on the links that a number names: link change, link message or link send. Where links go down, connections move.
-#[no_mangle]
-pub extern "C" fn fordlinnet_make_link(
-    s: u32,
-    n: u32,
-    mem: &[u8],
-    table: &mut [Record],
-    links: FlatLinks,
-    command: FlatLinkCommand,
-    bytes: &[u8],
-    out: &mut [u8],
-) -> FlatLinkAnswer
-    ensures { λ r.
-        ⌜ LinkMade (groupOf s n (now (table .entry)) (linksIn links) (now (mem .entry))) command (now (bytes .entry)) (now (out .entry)) r
-        (groupOf s n (now (table .exit)) (linksIn (r .links)) (now (mem .entry))) (now (out .exit)) ⌝ }
-{
-    let own = flat::links_of(links);
-    let named = flat_link::command_of(command);
-    let given = flat_link::values_of(command);
-    let d = linkdesk::make(s, n, mem, table, own, named, bytes, given, out);
-    flat_link::told(command, links, d)
 }
 
 // What a console shows of a link.

@@ -1,7 +1,8 @@
 // Failover, one connection at a time (document 02, 2026-13): which links went down, whether a record moves and tells, and its message with F.
 // The loop over the lent table is in the crate `moving`.
 ghost use mathlib.Core.Path.{_≡_};
-ghost use Rattle.failover.specs.Failover.{targetOf, planOf, goneB, movesB, tellsB, movedOf, sequenceBefore, failoverOf, standing, toldBy, anyGone, someB};
+ghost use mathlib.Core.Bool.{cond};
+ghost use Rattle.failover.specs.Failover.{targetOf, planOf, goneB, movesB, linkTo, sequenceBefore, failoverOf, standing, toldIf, anyGone, someB};
 use cdc::Message;
 use connection::Record;
 use table::Links;
@@ -55,7 +56,7 @@ fn gone(p: Plan, link: u8) -> bool
 }
 
 // Whether the connection moves.
-fn moves(n: u32, p: Plan, rec: Record) -> bool
+pub fn moves(n: u32, p: Plan, rec: Record) -> bool
     ensures { λ r. ⌜ r ≡ movesB n p rec ⌝ }
 {
     let away = gone(p, rec.id.link);
@@ -66,26 +67,14 @@ fn moves(n: u32, p: Plan, rec: Record) -> bool
     }
 }
 
-// The record that is left.
-pub fn moved(n: u32, p: Plan, rec: Record) -> Record
-    ensures { λ r. ⌜ r ≡ movedOf n p rec ⌝ }
+// The record that is left: on the target link where it moves.
+pub fn linked(goes: bool, p: Plan, rec: Record) -> Record
+    ensures { λ r. ⌜ r ≡ cond goes (linkTo rec (p .target)) rec ⌝ }
 {
-    if moves(n, p, rec) {
-        let to = p.target;
-        let mut next = rec;
-        next.id.link = to;
-        next
-    } else {
-        rec
-    }
-}
-
-// Whether it makes a message.
-fn tells(n: u32, p: Plan, rec: Record) -> bool
-    ensures { λ r. ⌜ r ≡ tellsB n p rec ⌝ }
-{
-    let goes = moves(n, p, rec);
-    goes & !rec.marks.abort
+    let on = table::refusal_if(goes, p.target, rec.id.link);
+    let mut next = rec;
+    next.id.link = on;
+    next
 }
 
 // The number before s; before 0 comes 65,535.
@@ -107,13 +96,13 @@ fn failover_of(rec: Record) -> Message
     next
 }
 
-// The message at byte `at` of the buffer, where one is made and the buffer holds it; where the next one goes.
-pub fn tell(n: u32, p: Plan, rec: Record, out: &mut [u8], at: usize) -> usize
+// The message of a record that moves at byte `at` of the buffer, where one is made and the buffer holds it; where the next one goes.
+pub fn tell(goes: bool, rec: Record, out: &mut [u8], at: usize) -> usize
     ensures { λ r.
-        ⌜ (r ≡ toldBy n p rec (standing at (now (out .entry))) .at)
-        × (now (out .exit) ≡ toldBy n p rec (standing at (now (out .entry))) .buffer) ⌝ }
+        ⌜ (r ≡ toldIf goes rec (standing at (now (out .entry))) .at)
+        × (now (out .exit) ≡ toldIf goes rec (standing at (now (out .entry))) .buffer) ⌝ }
 {
-    if tells(n, p, rec) {
+    if goes & !rec.marks.abort {
         if 44 <= out.len() {
             if at <= out.len() - 44 {
                 let bytes = cdc::encode(failover_of(rec));

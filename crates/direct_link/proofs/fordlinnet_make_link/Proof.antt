@@ -1,4 +1,4 @@
--- `exports::fordlinnet_make_link` meets its contract: a walk of its MIR, written by `tools/walk exports fordlinnet_make_link`, not by hand. Assumes nothing.
+-- `direct_link::fordlinnet_make_link` meets its contract: a walk of its MIR, written by `tools/walk direct_link fordlinnet_make_link`, not by hand. Assumes nothing.
 use mathlib.Core.Path.{_≡_, refl, sym, ap, _∙_, subst}
 use mathlib.Core.Bool.{Bool, true, false, not}
 use Prim.Native.Nat.{ℕ, zero, suc, _<_, _^_, _*_}
@@ -92,15 +92,15 @@ use Rattle.flat_link.proofs.told as f-told
 use Rattle.flat_link.proofs.told.Symbol as f-told-def
 use Rattle.flat_link.proofs.told.Symbol.{name as #f-told}
 use Rattle.flat_link.proofs.told.Met as f-told-thm
-use Rattle.exports.proofs.fordlinnet_make_link.Key.{name as #call}
-use Rattle.exports.proofs.fordlinnet_make_link as call
-use Rattle.exports.proofs.fordlinnet_make_link.Statement as stated
-use Rattle.exports.proofs.fordlinnet_make_link.Code as code
+use Rattle.direct_link.proofs.fordlinnet_make_link.Key.{name as #call}
+use Rattle.direct_link.proofs.fordlinnet_make_link as call
+use Rattle.direct_link.proofs.fordlinnet_make_link.Statement as stated
+use Rattle.direct_link.proofs.fordlinnet_make_link.Code as code
 use Rattle.flat.specs.Flat.{linksIn}
 use Rattle.flat_link.specs.FlatLink.{LinkMade, linkCommandOf, linkToldOf, valuesOf}
 use Rattle.linkdesk.specs.LinkDesk.{answerIn, callOf}
 use Rattle.rules.specs.Rules.{Did, groupOf}
-use Rattle.exports.proofs.Laws.{fordlinnet-make-link-returns}
+use Rattle.direct_link.proofs.Laws.{fordlinnet-make-link-returns}
 
 -- what is left of a body after its first k statements
 abbrev later-part : Body → Body
