@@ -1,0 +1,9 @@
+pub mod Rows
+pub mod Example
+pub mod Fates
+pub mod Stages
+pub mod Sends
+pub mod Refused
+pub mod Waiting
+pub mod Downs
+pub mod All
