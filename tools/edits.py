@@ -1,6 +1,6 @@
 """Reads the must-fail edits. Where a line `# FUNCTION/LABEL: what is wrong` stands before its pairs, an edit holds several wrong programs, one
 in each of several functions of the crate, and each of these functions is refused by itself; an edit without such a line is one wrong
-program, a definition's or a theorem's as a rule, and is called by its file's name."""
+program, and is called by its file's name. Wrong statements and wrong rules (.ci/rule-edits) are such; theirs may say `wrong: ..` for it."""
 import os
 import re
 
@@ -21,8 +21,8 @@ def read(path):
         head = HEAD.fullmatch(line)
         if head:
             wrong.append(Wrong(*head.groups()))
-        elif line.startswith('# ') and not wrong:
-            wrong.append(Wrong('', os.path.basename(path)[:-5], line[2:]))
+        elif line.startswith(('# ', 'wrong: ')) and not wrong:
+            wrong.append(Wrong('', os.path.basename(path)[:-5], line.partition(' ')[2]))
         elif line.startswith('file: '):
             file = line[6:]
         elif line.startswith('old: '):
@@ -32,11 +32,12 @@ def read(path):
     return wrong
 
 
-def files(crate):
-    """The edit files of a crate."""
-    folder = os.path.join('crates', crate, 'must-fail')
+def files(crate, kind='must-fail'):
+    """The edit files of a crate: must-fail edits, or `wrong-statements`."""
+    folder = os.path.join('crates', crate, kind)
     return [os.path.join(folder, f) for f in sorted(os.listdir(folder))] if os.path.isdir(folder) else []
 
 
 def crates():
-    return [line.split(':')[0] for line in open('crates.txt', encoding='utf-8')]
+    lines = (line.split('#')[0] for line in open('crates.txt', encoding='utf-8'))
+    return [line.split(':')[0].strip() for line in lines if line.strip()]
