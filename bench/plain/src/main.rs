@@ -165,7 +165,8 @@ fn opened(slot: u32, own: u32) -> Record {
     let mut group = Group::fresh(slot, N).expect("sizes in range");
     group.link_change(1, true).expect("a link");
     let remote = Remote { size: N, index: 3, rtokens: [RToken { key: 7, base: 1 << 40 }; 4] };
-    group.open(slot, &Opening { own, peer: 6, link: 1, remote }).expect("an open");
+    let quiet = group.never_opened(slot).expect("a fresh group");
+    group.open(quiet, &Opening { own, peer: 6, link: 1, remote }).expect("an open");
     group.table()[slot as usize - 1]
 }
 

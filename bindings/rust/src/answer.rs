@@ -1,6 +1,6 @@
 //! What the calls answer.
 
-use crate::Message;
+use crate::{Message, Quiet};
 use std::fmt;
 
 /// The state of a connection, by its marks (RFC 7609, Figure 22).
@@ -154,7 +154,7 @@ impl Read {
 }
 
 /// What hear answers.
-#[derive(Clone, Copy, Debug, PartialEq, Eq)]
+#[derive(Debug, PartialEq, Eq)]
 #[must_use]
 pub struct Heard {
     /// How far P moved: so many bytes more can be read.
@@ -163,23 +163,41 @@ pub struct Heard {
     pub state: State,
     /// The message made in answer, if one was.
     pub message: Option<Message>,
+    /// The right to open the slot again, where this message has closed it ([`State::Closed`]).
+    pub quiet: Option<Quiet>,
 }
 
 /// What close answers.
-#[derive(Clone, Copy, Debug, PartialEq, Eq)]
+#[derive(Debug, PartialEq, Eq)]
 #[must_use]
 pub enum Closed {
-    /// C was sent; the slot is closed where C had been heard.
-    InOrder(Message),
+    /// C was sent.
+    InOrder {
+        /// The message.
+        message: Message,
+        /// The right to open the slot again, where C had been heard: the slot is closed. Else the peer's C is still to come.
+        quiet: Option<Quiet>,
+    },
     /// Bytes were unread, so A was sent and no C; the slot stays open in [`State::PeerAbortWait`].
-    Reset(Message),
+    Reset {
+        /// The abort message.
+        message: Message,
+    },
 }
 
 impl Closed {
     /// The message made.
     pub fn message(&self) -> &Message {
         match self {
-            Closed::InOrder(message) | Closed::Reset(message) => message,
+            Closed::InOrder { message, .. } | Closed::Reset { message } => message,
+        }
+    }
+
+    /// The right to open the slot again, where it is closed.
+    pub fn quiet(self) -> Option<Quiet> {
+        match self {
+            Closed::InOrder { quiet, .. } => quiet,
+            Closed::Reset { .. } => None,
         }
     }
 }

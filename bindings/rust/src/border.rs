@@ -670,9 +670,9 @@ pub(crate) fn hear<M: Memory + ?Sized>(lent: Lent<'_, M>, active: [bool; 4], byt
     let (moved, state) = (answer.moved, State::ALL[answer.state as usize]);
     if answer.made {
         // SAFETY: it has said so.
-        return Ok(Heard { moved, state, message: Some(unsafe { message.message() }) });
+        return Ok(Heard { moved, state, message: Some(unsafe { message.message() }), quiet: None });
     }
-    Ok(Heard { moved, state, message: None })
+    Ok(Heard { moved, state, message: None, quiet: None })
 }
 
 /// Sends a head and a body as if joined.

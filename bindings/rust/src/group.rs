@@ -1,9 +1,10 @@
 //! A group, and its calls.
 
 use crate::border::{self, health, said, Answer, Command, Lent, LinkCommand, Memory, Number, RawLinkAnswer};
+use crate::quiet::{Freed, NotOpened, Quiet, Unasked};
 use crate::{
     Closed, Exchange, Gathered, Health, Heard, LinkChanged, LinkFields, LinkHeard, LinkSent, Links, Message, Opening, Placings, Queue,
-    Read, Record, Refusal, Role, Sent,
+    Read, Record, Refusal, Role, Sent, State,
 };
 use std::borrow::BorrowMut;
 use std::fmt;
@@ -23,6 +24,7 @@ pub struct Group<M = Vec<u8>, T = Vec<Record>, L = Links> {
     table: T,
     links: L,
     room: Room,
+    unasked: Unasked,
 }
 
 /// Room for a message of every slot, which the calls on links are lent. What it holds is no part of the group, and it is made when it is
@@ -107,7 +109,8 @@ impl Group {
         }
         let memory = vec![0; s as usize * n as usize];
         let table = vec![border::closed_record(); s as usize];
-        Ok(Group { s, n, memory, table, links: border::links_down(role), room: Room::default() })
+        let unasked = Unasked::first(s);
+        Ok(Group { s, n, memory, table, links: border::links_down(role), room: Room::default(), unasked })
     }
 }
 
@@ -126,7 +129,22 @@ impl<M, T, L> Group<M, T, L> {
     /// # Ok::<(), Refusal>(())
     /// ```
     pub fn lend(s: u32, n: u32, memory: M, table: T, links: L) -> Group<M, T, L> {
-        Group { s, n, memory, table, links, room: Room::default() }
+        Group { s, n, memory, table, links, room: Room::default(), unasked: Unasked::default() }
+    }
+
+    /// The right to open a slot for the first time: of a fresh group ([`Group::fresh`]) once for each slot, then `None`. A group over lent
+    /// parts has none: see [`Quiet::no_write_can_arrive`].
+    ///
+    /// ```
+    /// use fordlinnet::{Group, Refusal};
+    ///
+    /// let mut group = Group::fresh(2, 64)?;
+    /// assert_eq!(group.never_opened(2).map(|quiet| quiet.slot()), Some(2));
+    /// assert_eq!((group.never_opened(2), group.never_opened(0), group.never_opened(3)), (None, None, None));
+    /// # Ok::<(), Refusal>(())
+    /// ```
+    pub fn never_opened(&mut self, slot: u32) -> Option<Quiet> {
+        self.unasked.take(slot)
     }
 
     /// S, the elements and slots.
@@ -149,7 +167,7 @@ impl<M, T, L> Group<M, T, L> {
         &mut self.memory
     }
 
-    /// The table, to be changed: nothing bars a stranger's records.
+    /// The table, to be changed: nothing bars a stranger's records, and the rights to open slots do not know of them.
     pub fn table_mut(&mut self) -> &mut T {
         &mut self.table
     }
@@ -214,11 +232,12 @@ where
     T: AsMut<[Record]>,
     L: BorrowMut<Links>,
 {
-    /// Opens a closed slot: zeroes its element, writes the eye catcher, and lays down a record whose cursors are all at the beginning.
+    /// Opens a closed slot, and answers its number: zeroes its element, writes the eye catcher, and lays down a record whose cursors are all
+    /// at the beginning.
     ///
-    /// A slot that closed by C sent and C heard, or by A heard, has nothing of its connection under way to it. One closed by
-    /// [`Group::free`] may have: open it again only when no write of the old connection can arrive (its queue pair is down, or the old
-    /// key is revoked), or those bytes are read as the new connection's, and no call is refused.
+    /// It asks for the right to use the element, [`Quiet`]: a fresh group has one for each slot, a close that proves it makes one, and
+    /// after [`Group::free`] the caller's word does. A refused open gives it back. With a right that was sworn falsely the bytes of the old
+    /// connection are read as the new one's, and no call is refused.
     ///
     /// The peer's keys of all four links are to be settled before: a connection that later moves to another link
     /// ([`Group::link_change`]) goes on with what it was given here.
@@ -228,21 +247,46 @@ where
     /// Tested in this order: [`Sizes`](Refusal::Sizes), [`Slot`](Refusal::Slot), [`AlreadyOpen`](Refusal::AlreadyOpen),
     /// [`Opening`](Refusal::Opening), [`LinkNumber`](Refusal::LinkNumber), [`LinkDown`](Refusal::LinkDown),
     /// [`TokenHeld`](Refusal::TokenHeld).
-    pub fn open(&mut self, slot: u32, opening: &Opening) -> Result<(), Refusal> {
+    ///
+    /// ```
+    /// use fordlinnet::{Group, Opening, RToken, Refusal, Remote};
+    ///
+    /// let mut group = Group::fresh(1, 64)?;
+    /// let remote = Remote { size: 64, index: 1, rtokens: [RToken { key: 7, base: 4096 }; 4] };
+    /// let opening = Opening { own: 5, peer: 6, link: 1, remote };
+    /// let slot = group.never_opened(1).expect("a fresh group");
+    /// let no = group.open(slot, &opening).unwrap_err();
+    /// assert_eq!(no.refusal, Refusal::LinkDown);
+    /// group.link_change(1, true)?;
+    /// assert_eq!(group.open(no.quiet, &opening)?, 1);
+    /// # Ok::<(), Refusal>(())
+    /// ```
+    pub fn open(&mut self, quiet: Quiet, opening: &Opening) -> Result<u32, NotOpened> {
+        match self.open_at_any_time(quiet.slot(), opening) {
+            Ok(()) => Ok(quiet.slot()),
+            Err(refusal) => Err(NotOpened { refusal, quiet }),
+        }
+    }
+
+    /// Open as the rules have it, with no word about the element: for tests that make any call at any time. [`Group::open`] is the call.
+    #[doc(hidden)]
+    pub fn open_at_any_time(&mut self, slot: u32, opening: &Opening) -> Result<(), Refusal> {
         let command = Command { opening: *opening, ..command(Number::Open, slot) };
         refused(&self.call(command, &[], &mut []))
     }
 
     /// Closes a slot in [`State::PeerAbortWait`].
     ///
-    /// It does not say that nothing is under way to the element: see [`Group::open`]. Hearing the peer's A closes the slot too, and does
-    /// say so.
+    /// It does not say that nothing is under way to the element: the slot may be opened again only when no write of its connection can
+    /// arrive, because the queue pair is down or the key is revoked, and the answer asks for the caller's word
+    /// ([`Freed::no_write_can_arrive`]). Hearing the peer's A closes the slot too, and does say so.
     ///
     /// # Errors
     ///
     /// [`Sizes`](Refusal::Sizes), [`Slot`](Refusal::Slot), [`Incoherent`](Refusal::Incoherent), [`State`](Refusal::State).
-    pub fn free(&mut self, slot: u32) -> Result<(), Refusal> {
-        refused(&self.call(command(Number::Free, slot), &[], &mut []))
+    pub fn free(&mut self, slot: u32) -> Result<Freed, Refusal> {
+        refused(&self.call(command(Number::Free, slot), &[], &mut []))?;
+        Ok(Freed::new(slot))
     }
 
     /// Hands a link's gauge an answer time of TEST LINK, in milliseconds.
@@ -322,7 +366,8 @@ where
 /// group.link_change(1, true)?;
 /// group.link_change(2, true)?;
 /// let rtokens = [7, 8, 0, 0].map(|key| RToken { key, base: 4096 });
-/// group.open(1, &Opening { own: 5, peer: 6, link: 1, remote: Remote { size: 64, index: 1, rtokens } })?;
+/// let slot = group.never_opened(1).unwrap();
+/// group.open(slot, &Opening { own: 5, peer: 6, link: 1, remote: Remote { size: 64, index: 1, rtokens } })?;
 /// let sent = group.send(1, b"depths ")?;
 /// assert_eq!((sent.placings[0].key, sent.message.map(|message| message.sequence())), (7, Some(1)));
 ///
@@ -517,7 +562,8 @@ where
     /// # let mut group = Group::fresh(1, 64)?;
     /// # group.link_change(1, true)?;
     /// # let rtokens = [RToken { key: 7, base: 4096 }; 4];
-    /// # group.open(1, &Opening { own: 5, peer: 6, link: 1, remote: Remote { size: 64, index: 1, rtokens } })?;
+    /// # let slot = group.never_opened(1).unwrap();
+    /// # group.open(slot, &Opening { own: 5, peer: 6, link: 1, remote: Remote { size: 64, index: 1, rtokens } })?;
     /// let sent = group.gather(1, b"head", b"and the body")?;
     /// let joined: Vec<u8> = sent.pieces().flat_map(|piece| piece.bytes.to_vec()).collect();
     /// assert_eq!(joined, b"headand the body");
@@ -564,6 +610,8 @@ where
     /// One with F (failover) changes nothing where it carries the last number heard. With any other number a message is missing: the
     /// connection is aborted, and the answer has [`State::PeerAbortWait`](crate::State::PeerAbortWait) and the abort message.
     ///
+    /// A message with C, where C was sent, and one with A closes the slot, and the answer has the right to open it again.
+    ///
     /// # Errors
     ///
     /// Tested in this order: [`Sizes`](Refusal::Sizes), [`Malformed`](Refusal::Malformed), [`Token`](Refusal::Token),
@@ -571,9 +619,29 @@ where
     /// and [`CursorRule`](Refusal::CursorRule).
     #[inline]
     pub fn hear(&mut self, bytes: &[u8]) -> Result<Heard, Refusal> {
+        // the slot that a message with C or A is for, while its record still names the token
+        let named = if Message::may_close(bytes) { self.slot_of(bytes) } else { None };
         let lent = Lent { s: self.s, n: self.n, memory: &mut self.memory, table: self.table.as_mut() };
         let links: &Links = self.links.borrow();
-        border::hear(lent, links.active, bytes)
+        let mut heard = border::hear(lent, links.active, bytes)?;
+        if heard.state == State::Closed {
+            heard.quiet = named.and_then(|slot| self.closed(slot));
+        }
+        Ok(heard)
+    }
+
+    /// The open slot whose token a message carries, as hear finds it.
+    #[cold]
+    fn slot_of(&mut self, bytes: &[u8]) -> Option<u32> {
+        let token = Message::try_from(bytes).ok()?.token();
+        let place = self.table.as_mut().iter().position(|record| record.id.opened && record.id.own == token)?;
+        Some(place as u32 + 1)
+    }
+
+    /// The right to open a slot that was open before a call, where the call has closed it.
+    fn closed(&mut self, slot: u32) -> Option<Quiet> {
+        let record = self.table.as_mut().get((slot as usize).checked_sub(1)?)?;
+        (!record.id.opened).then(|| Quiet::proved(slot))
     }
 
     /// Sends D: we are done writing.
@@ -585,7 +653,8 @@ where
         told(&self.call(command(Number::Shutdown, slot), &[], &mut []))
     }
 
-    /// Sends C; the slot is closed where C was heard. With unread bytes it sends A instead: nothing is dropped in silence.
+    /// Sends C; the slot is closed where C was heard, and may be opened again. With unread bytes it sends A instead: nothing is dropped in
+    /// silence.
     ///
     /// # Errors
     ///
@@ -594,7 +663,7 @@ where
         let answer = self.call(command(Number::Close, slot), &[], &mut []);
         refused(&answer)?;
         let message = Message::made(answer.message);
-        Ok(if answer.said == said::RESET { Closed::Reset(message) } else { Closed::InOrder(message) })
+        Ok(if answer.said == said::RESET { Closed::Reset { message } } else { Closed::InOrder { message, quiet: self.closed(slot) } })
     }
 
     /// Sends A. The slot then waits for the peer's A, or for [`Group::free`].

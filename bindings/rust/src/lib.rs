@@ -15,7 +15,8 @@
 //! let remote = Remote { size: 10_000, index: 1, rtokens: [RToken { key: 7, base: 0 }; 4] };
 //! for (group, own, peer) in [(&mut ours, 5, 6), (&mut theirs, 6, 5)] {
 //!     group.link_change(1, true)?;
-//!     group.open(1, &Opening { own, peer, link: 1, remote })?;
+//!     let slot = group.never_opened(1).expect("a fresh group");
+//!     group.open(slot, &Opening { own, peer, link: 1, remote })?;
 //! }
 //! let sent = ours.send(1, b"depths in metres")?;
 //! for placing in &sent.placings {
@@ -32,7 +33,8 @@
 //!
 //! - A [`Group`] has S elements of N bytes of memory, a table of S [`Record`]s, and four [`Links`]. [`Group::fresh`] owns them,
 //!   [`Group::lend`] borrows them; memory that a peer or a card writes is a [`SharedMemory`].
-//! - A connection is a slot of the table. [`Group::open`] makes one, of what [`set_up`] settled over TCP or the caller knows.
+//! - A connection is a slot of the table. [`Group::open`] makes one, of what [`set_up`] settled over TCP or the caller knows, with the
+//!   right to use the slot's element ([`Quiet`]).
 //! - [`Group::send`], [`Group::urgent_send`] and [`Group::gather`] take bytes. They answer with [`Placing`]s, which the card writes into
 //!   the peer's memory, and a [`Message`], which is then carried to the peer. The order matters: the message announces the bytes.
 //! - [`Group::hear`] takes the peer's message, [`Group::read`] the bytes that it announced. Read answers with a message where the peer is
@@ -56,9 +58,14 @@
 //!
 //! # When an element may be used again
 //!
-//! A slot that closed by C sent and C heard, or by A heard, may be opened again: no byte of its connection is under way to it, if the
-//! peer's writes arrive before the messages that announce them. That is proved. A slot closed by [`Group::free`] may be opened again only
-//! when no write of the old connection can arrive, which no call can know: the old queue pair is down, or the old key is revoked.
+//! A slot that closed by C sent and C heard, or by A heard, has nothing of its connection under way to it, if the peer keeps the order of
+//! writes and messages. That is proved (`NothingUnderWay`, in `crates/only_sent/specs/Reuse.antt`). A slot closed by [`Group::free`] may
+//! be opened again only when no write of the old connection can arrive: the queue pair is down, or the key was revoked. No call can know
+//! that. A write that does arrive is read as the new connection's bytes, and no call is refused.
+//!
+//! The types carry it. [`Group::open`] asks for a [`Quiet`], the right to use the slot's element: a fresh group has one for each slot, the
+//! [`close`](Group::close) or [`hear`](Group::hear) that closes a slot answers with one, and [`Group::free`] answers with a [`Freed`],
+//! which becomes one by the caller's word ([`Freed::no_write_can_arrive`]).
 //!
 //! # Building
 //!
@@ -76,6 +83,7 @@ mod group;
 mod link;
 mod message;
 mod pool;
+mod quiet;
 mod record;
 mod refusal;
 mod setup;
@@ -87,6 +95,7 @@ pub use group::Group;
 pub use link::{Fate, LinkChanged, LinkFields, LinkHeard, LinkKind, LinkSent, Row, TakenUp};
 pub use message::{Flags, Message};
 pub use pool::Books;
+pub use quiet::{Freed, NotOpened, Quiet};
 pub use record::{
     Cursor, Exchange, Gauge, Identity, Inbound, Links, Marks, Opening, Outbound, Queue, RToken, Record, Remote, Role, Side, Sort, Urgent,
     Waiting,

@@ -55,6 +55,12 @@ impl Message {
         Message(bytes)
     }
 
+    /// Whether hearing these bytes may close a slot: C or A is set.
+    #[inline]
+    pub(crate) fn may_close(bytes: &[u8]) -> bool {
+        matches!(bytes.get(25), Some(flags) if flags & 0x60 != 0)
+    }
+
     /// The bytes, as they go on the wire.
     #[inline]
     pub const fn as_bytes(&self) -> &[u8; 44] {

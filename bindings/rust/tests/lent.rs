@@ -1,7 +1,7 @@
 //! The same calls on a group that owns its parts, on one that borrows them, and on one over memory that others write.
 
 use fordlinnet::{
-    Closed, Exchange, Fate, Group, LinkFields, LinkKind, Links, Memory, Opening, RToken, Read, Record, Refusal, Remote, Role, Row,
+    Closed, Exchange, Fate, Group, LinkFields, LinkKind, Links, Memory, Opening, Quiet, RToken, Read, Record, Refusal, Remote, Role, Row,
     SharedMemory, State, TakenUp,
 };
 use std::borrow::BorrowMut;
@@ -21,8 +21,8 @@ where
 {
     let mut said = String::new();
     group.link_change(3, true)?;
-    group.open(1, &opening(5, 6))?;
-    group.open(2, &opening(6, 5))?;
+    group.open(Quiet::no_write_can_arrive(1), &opening(5, 6))?;
+    group.open(Quiet::no_write_can_arrive(2), &opening(6, 5))?;
     for round in 0..7_u8 {
         let bytes = vec![round; 60];
         let sent = group.send(1, &bytes)?;
@@ -42,9 +42,20 @@ where
     assert_eq!(heard.state, State::AppCloseWait1);
     assert_eq!(group.record(2).map(|record| record.marks.state()), Some(heard.state));
     let theirs = group.close(2)?;
-    assert!(matches!(theirs, Closed::InOrder(_)) && !group.table()[1].id.opened);
-    assert_eq!(group.hear(theirs.message().as_ref())?.state, State::Closed);
+    assert!(matches!(theirs, Closed::InOrder { .. }) && !group.table()[1].id.opened);
+    let heard = group.hear(theirs.message().as_ref())?;
+    assert_eq!(heard.state, State::Closed);
     assert_eq!(group.read(1, &mut []), Err(Refusal::Slot));
+    // each end's own close made the right to open its slot again
+    let [first, second] = [heard.quiet, theirs.quiet()].map(|quiet| quiet.expect("closed by both"));
+    assert_eq!((first.slot(), second.slot()), (1, 2));
+    assert_eq!(group.open(second, &opening(6, 5))?, 2);
+    let abort = group.abort(2)?;
+    let freed = group.free(2)?;
+    assert_eq!(group.hear(abort.as_ref()), Err(Refusal::Token));
+    let no = group.open(freed.no_write_can_arrive(), &Opening { own: 0, ..opening(6, 5) }).unwrap_err();
+    assert_eq!((no.refusal, no.quiet.slot()), (Refusal::Opening, 2));
+    assert_eq!(group.open(no.quiet, &opening(6, 5))?, 2);
     Ok(said)
 }
 
@@ -71,7 +82,8 @@ fn owned_borrowed_and_shared() -> Result<(), Refusal> {
 fn wrong_parts_are_refused() {
     let mut table = [Record::default(); 3];
     let mut group = Group::lend(2, N, [0; 2 * N as usize], &mut table[..], Links::default());
-    assert_eq!(group.open(1, &opening(5, 6)), Err(Refusal::Sizes));
+    let no = group.open(Quiet::no_write_can_arrive(1), &opening(5, 6)).unwrap_err();
+    assert_eq!(no.refusal, Refusal::Sizes);
     assert_eq!(group.link_change(3, true), Err(Refusal::Sizes));
     assert_eq!(group.link_message(0, &[]), Err(Refusal::Sizes));
     assert_eq!(group.link_send(0, &LinkFields::new(LinkKind::TestLink)), Err(Refusal::Sizes));
@@ -143,7 +155,8 @@ fn connections_move() -> Result<(), Refusal> {
     assert_eq!(group.link_change(2, true)?.moved, []);
     for (slot, own, peer) in [(1, 5, 16_909_060), (2, 6, 7), (3, 8, 9)] {
         let rtokens = [(11, 0), (22, 4096), (0, 0), (0, 0)].map(|(key, base)| RToken { key, base });
-        group.open(slot, &Opening { own, peer, link: 1, remote: Remote { size: 10_000, index: slot, rtokens } })?;
+        let quiet = group.never_opened(slot).expect("a fresh group");
+        group.open(quiet, &Opening { own, peer, link: 1, remote: Remote { size: 10_000, index: slot, rtokens } })?;
     }
     let sent = group.send(1, &[0xAB])?;
     assert_eq!((sent.placings[0].key, sent.placings[0].address), (11, 4));
@@ -195,7 +208,8 @@ fn a_link_message_moves() -> Result<(), Refusal> {
     for link in 1..=3 {
         client.link_change(link, true)?;
     }
-    client.open(1, &opening(5, 6))?;
+    let slot = client.never_opened(1).expect("a fresh group");
+    client.open(slot, &opening(5, 6))?;
     let heard = client.link_message(1, &bytes_of(&[(0, &[0x04, 0x2C, 0, 0, 3])]))?;
     assert_eq!((heard.fate, heard.reply.map(|reply| reply[3])), (Fate::Taken, Some(0x80)));
     assert_eq!(heard.moved.iter().map(|message| *message.as_bytes()).collect::<Vec<_>>(), [told(0, 6, 4, 4, [0x08, 0])]);

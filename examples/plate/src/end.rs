@@ -5,8 +5,8 @@ use crate::plan::{Board, Mark, Plan, Role};
 use crate::system::Map;
 use crate::wire::{self, Wire};
 use fordlinnet::{
-    Closed, Fate, Group, LinkFields, LinkKind, Links, Message, Opening, Placing, RToken, Read, Record, Refusal, Remote, Row, SharedMemory,
-    State,
+    Closed, Fate, Group, LinkFields, LinkKind, Links, Message, Opening, Placing, Quiet, RToken, Read, Record, Refusal, Remote, Row,
+    SharedMemory, State,
 };
 use std::io;
 use std::ptr;
@@ -113,7 +113,8 @@ impl<'a> End<'a> {
         for slot in 1..=s {
             let remote = Remote { size: plan.element, index: slot, rtokens: keys.peer };
             let opening = Opening { own: token(role, slot), peer: token(other, slot), link: link(slot), remote };
-            group.open(slot, &opening).map_err(|no| Trouble::Refused("open", no))?;
+            // the file is new: nobody has written into it
+            group.open(Quiet::no_write_can_arrive(slot), &opening).map_err(|no| Trouble::Refused("open", no.refusal))?;
         }
         let card = Card { map, start: plan.start(other), len: plan.memory(), of: other };
         Ok(End { role, group, card, wire: Wire::new(stream)?, board: Board::of(map) })
@@ -214,8 +215,8 @@ impl<'a> End<'a> {
         let closed = self.group.close(slot).map_err(|no| Trouble::Refused("close", no))?;
         self.post(link, Some(closed.message()));
         match closed {
-            Closed::InOrder(_) => Ok(()),
-            Closed::Reset(_) => Err(Trouble::Other(format!("slot {slot} was closed with unread bytes"))),
+            Closed::InOrder { .. } => Ok(()),
+            Closed::Reset { .. } => Err(Trouble::Other(format!("slot {slot} was closed with unread bytes"))),
         }
     }
 
@@ -233,7 +234,8 @@ impl<'a> End<'a> {
         for slot in 1..=self.group.elements() {
             if self.record(slot).id.opened {
                 self.group.abort(slot).map_err(|no| Trouble::Refused("abort", no))?;
-                self.group.free(slot).map_err(|no| Trouble::Refused("free", no))?;
+                // the slot is not opened again
+                let _ = self.group.free(slot).map_err(|no| Trouble::Refused("free", no))?;
             }
         }
         Ok(())

@@ -137,9 +137,9 @@ impl Ours {
             }
             Line::Open { opening: o } => {
                 let (slot, opening) = opening(o);
-                answered(group.open(slot, &opening), |()| Answer::Word("open"))
+                answered(group.open_at_any_time(slot, &opening), |()| Answer::Word("open"))
             }
-            Line::Free { slot } => answered(group.free(*slot), |()| Answer::Word("free")),
+            Line::Free { slot } => answered(group.free(*slot), |_| Answer::Word("free")),
             Line::Link { link, up, room } => {
                 let mut own = self.group.clone();
                 let (changed, out) = self.lending(*room, |group, out| group.link_change_into(*link, *up, out));
@@ -220,16 +220,27 @@ impl Ours {
                     Err(refusal) => Answer::RefusedRead(refusal.number(), out),
                 }
             }
-            Line::Hear { bytes } => answered(group.hear(bytes), |heard| {
-                let state = smcr::State::ALL[heard.state as usize];
-                assert_eq!(state.name(), heard.state.to_string());
-                Answer::Heard(smcr::Heard { moved: heard.moved as i64, state, message: heard.message.map(Into::into) })
-            }),
+            Line::Hear { bytes } => {
+                let before = open_slots(group);
+                answered(group.hear(bytes), |heard| {
+                    assert_eq!(heard.quiet.map(|quiet| quiet.slot()), closed_since(&before, group));
+                    let state = smcr::State::ALL[heard.state as usize];
+                    assert_eq!(state.name(), heard.state.to_string());
+                    Answer::Heard(smcr::Heard { moved: heard.moved as i64, state, message: heard.message.map(Into::into) })
+                })
+            }
             Line::Shutdown { slot } => answered(group.shutdown(*slot), |m| Answer::Made("shutdown", m.into())),
-            Line::Close { slot } => answered(group.close(*slot), |closed| match closed {
-                Closed::InOrder(m) => Answer::Made("close", m.into()),
-                Closed::Reset(m) => Answer::Made("reset", m.into()),
-            }),
+            Line::Close { slot } => {
+                let before = open_slots(group);
+                answered(group.close(*slot), |closed| {
+                    let answer = match &closed {
+                        Closed::InOrder { message, .. } => Answer::Made("close", (*message).into()),
+                        Closed::Reset { message } => Answer::Made("reset", (*message).into()),
+                    };
+                    assert_eq!(closed.quiet().map(|quiet| quiet.slot()), closed_since(&before, group));
+                    answer
+                })
+            }
             Line::Abort { slot } => answered(group.abort(*slot), |m| Answer::Made("abort", m.into())),
             Line::Record { slot, record: r } => {
                 group.table_mut()[slot - 1] = record(r);
@@ -357,6 +368,16 @@ impl Ours {
             && self.group.table().iter().zip(&theirs.group.table).all(|(ours, c)| *ours == record(c));
         table && links && *self.group.memory() == theirs.group.memory && *self.books.sizes() == theirs.pool.0
     }
+}
+
+fn open_slots(group: &Group) -> Vec<bool> {
+    group.table().iter().map(|record| record.id.opened).collect()
+}
+
+/// The slot that a call has closed; the right to open it again is made for that one.
+fn closed_since(before: &[bool], group: &Group) -> Option<u32> {
+    let closed = before.iter().zip(group.table()).position(|(open, record)| *open && !record.id.opened);
+    closed.map(|place| place as u32 + 1)
 }
 
 fn answered<T>(answer: Result<T, Refusal>, then: impl FnOnce(T) -> Answer) -> Answer {
