@@ -3,6 +3,7 @@ use Prim.Native.Nat.{ℕ}
 use mathlib.Core.Path.{_≡_, refl, ap}
 use mathlib.Core.Bool.{Bool, true, false}
 use mathlib.Core.List.{List}
+use Rattle.llc.specs.Llc.{classOf}
 use Rattle.llcfields.specs.declared.Kind.{Kind}
 use Rattle.llcfields.specs.declared.Kind.the-variants as Kinds
 use Rattle.llcfields.specs.Layouts.{codeOf, kindOf, namedB}
@@ -16,7 +17,7 @@ abbrev call : ℕ → ℕ → Bool → ℕ → List ℕ → FlatLinkCommand
 call number link up kind vs = record { number = number; link = link; up = up; fields = record { kind = kind; values = vs } }
 
 kind-named : (k : Kind) → namedB (codeOf k) ≡ true
-unfolding namedB kindOf
+unfolding namedB classOf
 kind-named Kinds.ConfirmLink = refl
 kind-named Kinds.AddLink = refl
 kind-named Kinds.AddLinkContinuation = refl

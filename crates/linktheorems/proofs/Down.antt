@@ -10,6 +10,7 @@ use borrow.Author.Tests.{eqb-true, leb-true, eq-eqb}
 use Rattle.llc.specs.Llc.{classOf, optional}
 use Rattle.llcfields.specs.declared.Kind.{Kind}
 use Rattle.llcfields.specs.Layouts.{codeOf, kindOf, namedB, readOf, encodeOf}
+use Rattle.llcfields.proofs.Named.{kinds-named}
 use Rattle.exchange.specs.declared.Exchange.{Exchange}
 use Rattle.exchange.specs.declared.Fate.the-variants.{Taken, Denied}
 use Rattle.exchange.specs.declared.Touch.{Touch}
@@ -79,8 +80,8 @@ all-down g (suc (suc (suc (suc (suc l))))) e = past (suc (suc (suc (suc (suc l))
 
 -- WHAT A DELETE LINK IS. Its first byte is 04, so it is not optional
 first-04 : (b : List ℕ) → codeOf (fieldsIn b .kind) ≡ 0x04 → first b ≡ 0x04
-unfolding fieldsIn noFields namedB
-first-04 b e = go (eqb (codeOf (kindOf (first b))) (first b)) refl e
+unfolding fieldsIn noFields
+first-04 b e = go (namedB (first b)) (sym (kinds-named (first b))) e
   where
     go : (n : Bool) → eqb (codeOf (kindOf (first b))) (first b) ≡ n
         → codeOf (cond n (record { named = true; kind = kindOf (first b); values = readOf (kindOf (first b)) b }) noFields .kind) ≡ 0x04

@@ -136,7 +136,7 @@ module _ (b : List ℕ) (t : IsTestLink b) where
 
   -- WHAT IS HEARD
   fields-are : fieldsIn b ≡ record { named = true; kind = TestLink; values = readOf TestLink b }
-  unfolding fieldsIn namedB kindOf
+  unfolding fieldsIn namedB kindOf classOf
   fields-are = simp (t .kind)
 
   byte3 : numberAt b 3 1 ≡ getD b 3 0
@@ -209,7 +209,7 @@ module _ (g : Links) (l : ℕ) (b : List ℕ) (t : IsTestLink b) (known : linkIn
   needed = simp (t .kind)
 
   is-message : messageB b ≡ true
-  unfolding messageB namedB kindOf
+  unfolding messageB namedB classOf
   is-message = simp (t .kind, t .marked)
 
   no-refusal : messageRefusal g l b m 0 ≡ 0

@@ -1,3 +1,4 @@
+pub mod Named
 pub mod Rows
 pub mod RoundTrip
 pub mod Table

@@ -6,6 +6,7 @@ use mathlib.Core.Bool.{Bool, true, false, _&&_, cond}
 use mathlib.Core.List.{List, [], _∷_, _++_}
 use lib.ListN.{length, getD, drop, replicate}
 use lib.Dec.{leb, ltb, eqb}
+use Rattle.llc.specs.Llc.{classOf, named}
 use Rattle.layout.specs.Layout.{Row, Field, spread, areBytes, reservedZero, writtenOf, numberAt}
 use Rattle.layout.specs.Layout.Row.{fixed, reserved, number}
 use Rattle.layout.specs.Layout.Field.{num}
@@ -39,8 +40,9 @@ kindOf b =
     (cond (eqb b 0x07) TestLink
     (cond (eqb b 0x08) ConfirmRkeyContinuation DeleteRkey))))))
 
+-- the byte of a kind: which bytes are named, the crate llc says, whose table of 256 entries classes every first byte by one rule
 unfoldable pub namedB : ℕ → Bool
-namedB b = eqb (codeOf (kindOf b)) b
+namedB b = eqb (classOf b) named
 
 -- "a row is (kind, field, first byte, bytes, low, bits)": its kind and field are its place in the table
 abbrev pub place : ℕ → ℕ → ℕ → ℕ → Place
@@ -155,7 +157,11 @@ nums (v ∷ vs) = num v ∷ nums vs
 unfoldable pub encodeOf : Kind → List ℕ → List ℕ
 encodeOf k vs = writtenOf 44 (rowsOf k) (nums (inMessage k (reduced (tableOf k) vs)))
 
--- THE CLAIMS; proofs/RoundTrip proves them.
+-- THE CLAIMS; proofs/Named proves the first, proofs/RoundTrip the others.
+-- the kinds are the bytes that are named: a byte is named exactly where it is the byte of its kind
+abbrev pub KindsNamed : Type 0
+KindsNamed = (b : ℕ) → namedB b ≡ eqb (codeOf (kindOf b)) b
+
 -- "the rows of a kind don't overlap and lie in bytes 2 to 43": each lies within its bytes, at most eight and before byte 44, and begins
 -- where the one before it has ended, the first from bit 16 on
 unfoldable pub withinB : Place → Bool

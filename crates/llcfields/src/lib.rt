@@ -195,11 +195,11 @@ pub fn kind_of(first: u8) -> Kind
     }
 }
 
-// Whether a byte 0 is that of a kind.
+// Whether a byte 0 is that of a kind, by the table of classes.
 pub fn is_named(first: u8) -> bool
     ensures { λ r. ⌜ r ≡ namedB first ⌝ }
 {
-    code_of(kind_of(first)) == first
+    llc::class(first) == 1
 }
 
 // Where a kind's rows begin.

@@ -15,10 +15,11 @@ use Rattle.cdc.specs.declared.Decoded.the-variants.{Good, Malformed}
 use Rattle.cdc.specs.Cdc.{fieldsOf, decodeOf}
 use Rattle.llc.specs.Llc.{between, classOf}
 use Rattle.llcfields.specs.declared.Kind.{Kind}
-use Rattle.llcfields.specs.Layouts.{kindOf, codeOf, namedB, encodeOf}
+use Rattle.llcfields.specs.Layouts.{codeOf, namedB, encodeOf}
+use Rattle.exchange.specs.declared.Exchange.{Exchange}
 use Rattle.exchange.specs.declared.Said.{Said}
 use Rattle.exchange.specs.declared.Fate.the-variants.{Taken, Queued}
-use Rattle.exchange.specs.Exchange.{saidOf, addingB, dueB, fullB}
+use Rattle.exchange.specs.Exchange.{saidOf, add, sortOf, addingB, dueB, fullB}
 use Rattle.exchange.specs.Fates.{isFate, actsB, outsideB, maySend}
 use Rattle.table.specs.declared.Links.{Links}
 use Rattle.linkcalls.specs.declared.Sent.{Sent as SentLink}
@@ -50,7 +51,7 @@ use Rattle.connection.specs.declared.Opening.{Opening}
 use Rattle.table.specs.Table.{linkIn}
 use Rattle.pieces.specs.Pieces.{piecesOf}
 use Rattle.rules.specs.Rules.{Group, Request, send, gather, urgent, place, read, shutdown, close, abort, openSlot, freeSlot, linkChange, linkMessage, linkSend, sample, Call, on, hear, manage, Says, refusal, accepted, sent, gathered, wasRead, torn, reset, heard, sampled, linkChanged, linkHeard, linkSent, saysOf, turnOf, requestTurn, hearTurn, Done, refuses, answer, sizesOk, recordOf, elementIn, linkOf, putTurn, onDoes, holderOf, hearAt, hearMessage, hearDoes, openRefusal, openDoes, freeRefusal, freeDoes, lentOk, linkRefusal, failsOver, linkDoes, linkMessageDoes, linkSendDoes, linksOf, withLinks, healthy, sampleRefusal, sampleDoes, does, badOpening}
-use Rattle.refusals.specs.Refusals.{outside, sizesWrong, lentWrong, slotOutside, slotClosed, incoherent, byteIs, malformedLink, tokenUnheld, connectionDown, linkDown, messageDown, stateForbids, aborting, notAborting, producerBroken, consumerBroken, byteFree, unplaceable, alreadyOpen, tokenHeld, zeroOrOut, linkOutside, actedOutside, heardFate, messageOutside, queueFull, sendingBarred, tooLong, Test, _when_, placeTest, tests, firstOf, Exactly, ExactlyWhen}
+use Rattle.refusals.specs.Refusals.{outside, sizesWrong, lentWrong, slotOutside, slotClosed, incoherent, byteIs, malformedLink, tokenUnheld, connectionDown, linkDown, addedB, messageDown, stateForbids, aborting, notAborting, producerBroken, consumerBroken, byteFree, unplaceable, alreadyOpen, tokenHeld, zeroOrOut, linkOutside, actedOutside, heardFate, messageOutside, queueFull, sendable, sendingBarred, tooLong, Test, _when_, placeTest, tests, firstOf, Exactly, ExactlyWhen}
 use Rattle.refusals.proofs.Answers.{clash}
 use Rattle.refusals.proofs.Gathered.{carried}
 
@@ -458,56 +459,191 @@ module _ (g : Group) (out : List ℕ) (d : Done) where
         refl)
         refl
 
--- LINK MESSAGES. A first byte is named if its class is
-named-far : (x : ℕ) → 10 ≤ x → namedB x ≡ eqb (classOf x) 1
-unfolding namedB kindOf classOf
-named-far x h =
-    rw (
-      ne-eqb x 1 (λ e. omega (arith, e)),
-      ne-eqb x 2 (λ e. omega (arith, e)),
-      ne-eqb x 3 (λ e. omega (arith, e)),
-      ne-eqb x 4 (λ e. omega (arith, e)),
-      ne-eqb x 6 (λ e. omega (arith, e)),
-      ne-eqb x 7 (λ e. omega (arith, e)),
-      ne-eqb x 8 (λ e. omega (arith, e)),
-      le-leb 1 x (omega arith),
-      le-leb 6 x (omega arith),
-      lt-leb x 4 (omega arith),
-      lt-leb x 9 (omega arith),
-    )
-    (ne-eqb 9 x (λ e. omega (arith, e)) ∙ go (eqb x 0xFE) (between 0x80 0xBF x))
-  where
-    go : (f o : Bool) → false ≡ eqb (cond f 2 (cond o 3 0)) 1
-    go true o = refl
-    go false true = refl
-    go false false = refl
-
-named-class : (x : ℕ) → namedB x ≡ eqb (classOf x) 1
-unfolding namedB kindOf classOf
-named-class zero = refl
-named-class (suc zero) = refl
-named-class (suc (suc zero)) = refl
-named-class (suc (suc (suc zero))) = refl
-named-class (suc (suc (suc (suc zero)))) = refl
-named-class (suc (suc (suc (suc (suc zero))))) = refl
-named-class (suc (suc (suc (suc (suc (suc zero)))))) = refl
-named-class (suc (suc (suc (suc (suc (suc (suc zero))))))) = refl
-named-class (suc (suc (suc (suc (suc (suc (suc (suc zero)))))))) = refl
-named-class (suc (suc (suc (suc (suc (suc (suc (suc (suc zero))))))))) = refl
-named-class (suc (suc (suc (suc (suc (suc (suc (suc (suc (suc n)))))))))) =
-    named-far (suc (suc (suc (suc (suc (suc (suc (suc (suc (suc n)))))))))) (omega arith)
-
+-- LINK MESSAGES
 not-or : (a b : Bool) → not (a || b) ≡ not a && not b
 not-or true b = refl
 not-or false b = refl
 
+-- the link being added
+adds-is : (x : Exchange) → eqb (sortOf x) add ≡ not (outside 1 4 (x .stage))
+unfolding sortOf
+adds-is x = go (x .stage) ∙ sym (ap not (outside-is 1 4 (x .stage)) ∙ twice (leb 1 (x .stage) && leb (x .stage) 4))
+  where
+    twice : (b : Bool) → not (not b) ≡ b
+    twice true = refl
+    twice false = refl
+
+    by : (b c : Bool) → eqb (cond b 1 (cond c 2 3)) 1 ≡ b
+    by true c = refl
+    by false true = refl
+    by false false = refl
+
+    go : (s : ℕ) → eqb (cond (eqb s 0) 0 (cond (leb s 4) 1 (cond (eqb s 5) 2 3))) 1 ≡ (leb 1 s && leb s 4)
+    go zero = refl
+    go (suc n) = rw (ne-eqb (suc n) 0 (λ e. omega (arith, e)), le-leb 1 (suc n) (omega arith)) (by (leb (suc n) 4) (eqb (suc n) 5))
+
+added-is : (x : Exchange) (l : ℕ) → addedB x l ≡ addingB x l
+unfolding addingB
+added-is x l = ap (λ (t : Bool). t && eqb l (x .w)) (sym (adds-is x))
+
 down-is : (g : Group) (l first : ℕ) → messageDown g l first ≡ downB (linksOf g) l first
 unfolding downB
-down-is g l first = sym (not-or (activeB (g .links) l) (addingB (g .exchange) l && eqb first 0x01))
+down-is g l first =
+    ap (λ (t : Bool). linkDown g l && not (t && eqb first 0x01)) (added-is (g .exchange) l)
+    ∙ sym (not-or (activeB (g .links) l) (addingB (g .exchange) l && eqb first 0x01))
+
+-- 14's list, by the kind
+acts-by : (k : ℕ) (r z a c : Bool)
+    → (eqb k 0x01 || eqb k 0x02 || eqb k 0x03 || eqb k 0x04)
+    && not (eqb k 0x02 && not r && c || eqb k 0x02 && r && z || eqb k 0x04 && a)
+    ≡ (eqb k 0x01 || (eqb k 0x02 && not (r && z || (not r && c)) || (eqb k 0x03 || (eqb k 0x04 && not a))))
+acts-by zero r z a c = refl
+acts-by (suc zero) r z a c = refl
+acts-by (suc (suc zero)) true true a true = refl
+acts-by (suc (suc zero)) true true a false = refl
+acts-by (suc (suc zero)) true false a true = refl
+acts-by (suc (suc zero)) true false a false = refl
+acts-by (suc (suc zero)) false true a true = refl
+acts-by (suc (suc zero)) false true a false = refl
+acts-by (suc (suc zero)) false false a true = refl
+acts-by (suc (suc zero)) false false a false = refl
+acts-by (suc (suc (suc zero))) r z a c = refl
+acts-by (suc (suc (suc (suc zero)))) r z true c = refl
+acts-by (suc (suc (suc (suc zero)))) r z false c = refl
+acts-by (suc (suc (suc (suc (suc zero))))) r z a c = refl
+acts-by (suc (suc (suc (suc (suc (suc zero)))))) r z a c = refl
+acts-by (suc (suc (suc (suc (suc (suc (suc zero))))))) r z a c = refl
+acts-by (suc (suc (suc (suc (suc (suc (suc (suc zero)))))))) r z a c = refl
+acts-by (suc (suc (suc (suc (suc (suc (suc (suc (suc zero))))))))) r z a c = refl
+acts-by (suc (suc (suc (suc (suc (suc (suc (suc (suc (suc n)))))))))) r z a c = far (suc (suc (suc (suc (suc (suc (suc (suc (suc (suc n)))))))))) (omega arith)
+  where
+    far : (x : ℕ) → 10 ≤ x
+        → (eqb x 0x01 || eqb x 0x02 || eqb x 0x03 || eqb x 0x04)
+        && not (eqb x 0x02 && not r && c || eqb x 0x02 && r && z || eqb x 0x04 && a)
+        ≡ (eqb x 0x01 || (eqb x 0x02 && not (r && z || (not r && c)) || (eqb x 0x03 || (eqb x 0x04 && not a))))
+    far x h =
+        rw (
+          ne-eqb x 1 (λ e. omega (arith, e)),
+          ne-eqb x 2 (λ e. omega (arith, e)),
+          ne-eqb x 3 (λ e. omega (arith, e)),
+          ne-eqb x 4 (λ e. omega (arith, e)),
+        )
+        refl
 
 acted-is : (m : Said) → actedOutside m ≡ outsideB m
-unfolding outsideB
-acted-is m = ap (λ t. actsB m && t) (outside-is 1 4 (m .link))
+unfolding outsideB actsB
+acted-is m = λ i. acts-by (m .kind) (m .reply) (m .z) (m .a) (m .client) i && outside-is 1 4 (m .link) i
+
+-- 15's list, by the kind: at stage 0, and while something runs
+may-none : (k : ℕ) (r a c : Bool)
+    → not r && (eqb k 0x07 || eqb k 0x04 && a || eqb k 0x04 && c || eqb k 0x02 && c && true || eqb k 0x02 && not c && true || eqb k 0x04 && not c && true
+    || eqb k 0x06 && true || eqb k 0x09 && true)
+    ≡ (not r && (eqb k 0x07 || (eqb k 0x04 && (a || c) || (eqb k 0x02 && (c && true) || (true && (eqb k 0x02 || (eqb k 0x04 || (eqb k 0x06 || eqb k 0x09))))))))
+may-none zero true a c = refl
+may-none zero false a c = refl
+may-none (suc zero) true a c = refl
+may-none (suc zero) false a c = refl
+may-none (suc (suc zero)) true a c = refl
+may-none (suc (suc zero)) false a true = refl
+may-none (suc (suc zero)) false a false = refl
+may-none (suc (suc (suc zero))) true a c = refl
+may-none (suc (suc (suc zero))) false a c = refl
+may-none (suc (suc (suc (suc zero)))) true a c = refl
+may-none (suc (suc (suc (suc zero)))) false true true = refl
+may-none (suc (suc (suc (suc zero)))) false true false = refl
+may-none (suc (suc (suc (suc zero)))) false false true = refl
+may-none (suc (suc (suc (suc zero)))) false false false = refl
+may-none (suc (suc (suc (suc (suc zero))))) true a c = refl
+may-none (suc (suc (suc (suc (suc zero))))) false a c = refl
+may-none (suc (suc (suc (suc (suc (suc zero)))))) true a c = refl
+may-none (suc (suc (suc (suc (suc (suc zero)))))) false a c = refl
+may-none (suc (suc (suc (suc (suc (suc (suc zero))))))) true a c = refl
+may-none (suc (suc (suc (suc (suc (suc (suc zero))))))) false a c = refl
+may-none (suc (suc (suc (suc (suc (suc (suc (suc zero)))))))) true a c = refl
+may-none (suc (suc (suc (suc (suc (suc (suc (suc zero)))))))) false a c = refl
+may-none (suc (suc (suc (suc (suc (suc (suc (suc (suc zero))))))))) true a c = refl
+may-none (suc (suc (suc (suc (suc (suc (suc (suc (suc zero))))))))) false a c = refl
+may-none (suc (suc (suc (suc (suc (suc (suc (suc (suc (suc n)))))))))) r a c = far (suc (suc (suc (suc (suc (suc (suc (suc (suc (suc n)))))))))) r (omega arith)
+  where
+    far : (k : ℕ) (r : Bool) → 10 ≤ k
+        → not r && (eqb k 0x07 || eqb k 0x04 && a || eqb k 0x04 && c || eqb k 0x02 && c && true || eqb k 0x02 && not c && true || eqb k 0x04 && not c && true
+        || eqb k 0x06 && true || eqb k 0x09 && true)
+        ≡ (not r && (eqb k 0x07 || (eqb k 0x04 && (a || c) || (eqb k 0x02 && (c && true) || (true && (eqb k 0x02 || (eqb k 0x04 || (eqb k 0x06 || eqb k 0x09))))))))
+    far k true h = refl
+    far k false h =
+        rw (
+          ne-eqb k 2 (λ e. omega (arith, e)),
+          ne-eqb k 4 (λ e. omega (arith, e)),
+          ne-eqb k 6 (λ e. omega (arith, e)),
+          ne-eqb k 7 (λ e. omega (arith, e)),
+          ne-eqb k 9 (λ e. omega (arith, e)),
+        )
+        refl
+
+may-run : (k : ℕ) (r a c o : Bool)
+    → not r && (eqb k 0x07 || eqb k 0x04 && a || eqb k 0x04 && c || eqb k 0x02 && c && o || eqb k 0x02 && not c && false || eqb k 0x04 && not c && false
+    || eqb k 0x06 && false || eqb k 0x09 && false)
+    ≡ (not r && (eqb k 0x07 || (eqb k 0x04 && (a || c) || (eqb k 0x02 && (c && o) || (false && (eqb k 0x02 || (eqb k 0x04 || (eqb k 0x06 || eqb k 0x09))))))))
+may-run zero true a c o = refl
+may-run zero false a c o = refl
+may-run (suc zero) true a c o = refl
+may-run (suc zero) false a c o = refl
+may-run (suc (suc zero)) true a c o = refl
+may-run (suc (suc zero)) false a true true = refl
+may-run (suc (suc zero)) false a true false = refl
+may-run (suc (suc zero)) false a false o = refl
+may-run (suc (suc (suc zero))) true a c o = refl
+may-run (suc (suc (suc zero))) false a c o = refl
+may-run (suc (suc (suc (suc zero)))) true a c o = refl
+may-run (suc (suc (suc (suc zero)))) false true true o = refl
+may-run (suc (suc (suc (suc zero)))) false true false o = refl
+may-run (suc (suc (suc (suc zero)))) false false true o = refl
+may-run (suc (suc (suc (suc zero)))) false false false o = refl
+may-run (suc (suc (suc (suc (suc zero))))) true a c o = refl
+may-run (suc (suc (suc (suc (suc zero))))) false a c o = refl
+may-run (suc (suc (suc (suc (suc (suc zero)))))) true a c o = refl
+may-run (suc (suc (suc (suc (suc (suc zero)))))) false a c o = refl
+may-run (suc (suc (suc (suc (suc (suc (suc zero))))))) true a c o = refl
+may-run (suc (suc (suc (suc (suc (suc (suc zero))))))) false a c o = refl
+may-run (suc (suc (suc (suc (suc (suc (suc (suc zero)))))))) true a c o = refl
+may-run (suc (suc (suc (suc (suc (suc (suc (suc zero)))))))) false a c o = refl
+may-run (suc (suc (suc (suc (suc (suc (suc (suc (suc zero))))))))) true a c o = refl
+may-run (suc (suc (suc (suc (suc (suc (suc (suc (suc zero))))))))) false a c o = refl
+may-run (suc (suc (suc (suc (suc (suc (suc (suc (suc (suc n)))))))))) r a c o = far (suc (suc (suc (suc (suc (suc (suc (suc (suc (suc n)))))))))) r (omega arith)
+  where
+    far : (k : ℕ) (r : Bool) → 10 ≤ k
+        → not r && (eqb k 0x07 || eqb k 0x04 && a || eqb k 0x04 && c || eqb k 0x02 && c && o || eqb k 0x02 && not c && false || eqb k 0x04 && not c && false
+        || eqb k 0x06 && false || eqb k 0x09 && false)
+        ≡ (not r && (eqb k 0x07 || (eqb k 0x04 && (a || c) || (eqb k 0x02 && (c && o) || (false && (eqb k 0x02 || (eqb k 0x04 || (eqb k 0x06 || eqb k 0x09))))))))
+    far k true h = refl
+    far k false h =
+        rw (
+          ne-eqb k 2 (λ e. omega (arith, e)),
+          ne-eqb k 4 (λ e. omega (arith, e)),
+          ne-eqb k 6 (λ e. omega (arith, e)),
+          ne-eqb k 7 (λ e. omega (arith, e)),
+          ne-eqb k 9 (λ e. omega (arith, e)),
+        )
+        refl
+
+may-is : (x : Exchange) (m : Said) → sendable x m ≡ maySend x m
+unfolding maySend
+may-is x m = go (x .stage) (not (eqb (sortOf x) add)) refl (ap not (adds-is x) ∙ twice (outside 1 4 (x .stage)))
+  where
+    twice : (b : Bool) → not (not b) ≡ b
+    twice true = refl
+    twice false = refl
+
+    go : (s : ℕ) (o : Bool) → x .stage ≡ s → o ≡ outside 1 4 (x .stage)
+        → sendable x m
+        ≡ (not (m .reply)
+        && (eqb (m .kind) 0x07
+        || (eqb (m .kind) 0x04 && (m .a || m .client)
+        || (eqb (m .kind) 0x02 && (m .client && o)
+        || (eqb (x .stage) 0
+        && (eqb (m .kind) 0x02 || (eqb (m .kind) 0x04 || (eqb (m .kind) 0x06 || eqb (m .kind) 0x09))))))))
+    go zero o e h = rw (h, e) (may-none (m .kind) (m .reply) (m .a) (m .client))
+    go (suc n) o e h = rw (h, e, ne-eqb (suc n) 0 (λ e. omega (arith, e))) (may-run (m .kind) (m .reply) (m .a) (m .client) (outside 1 4 (suc n)))
 
 -- the number that the tests of a link message come to, and of a link send, is what is refused
 heard-refusal : (ls : Links) (l : ℕ) (b : List ℕ) → heardOf ls l b .refusal ≡ messageRefusal ls l b (heardIn ls b) (fateNo ls l (heardIn ls b))
@@ -570,7 +706,7 @@ module _ (g : Group) (out : List ℕ) (d : Done) (accepts : refusedBy d ≡ none
   message-first : (l : ℕ) (b : List ℕ)
       → numbered g out d (messageRefusal (linksOf g) l b (heardIn (linksOf g) b) (fateNo (linksOf g) l (heardIn (linksOf g) b)))
       ≡ firstOf (13 when linkOutside l ∷ 6 when messageDown g l (getD b 0 0) ∷ 4 when malformedLink b ∷ 14 when messageOutside g l b ∷ 15 when queueFull g l b ∷ [])
-  unfolding messageRefusal optionalB messageB fullB refuses classOf
+  unfolding messageRefusal optionalB messageB namedB fullB refuses classOf
   message-first l b =
       let m = heardIn (linksOf g) b in
       let taken = isFate (heardFate g l b) Taken || isFate (heardFate g l b) Queued in
@@ -593,7 +729,7 @@ module _ (g : Group) (out : List ℕ) (d : Done) (accepts : refusedBy d ≡ none
           ∷ [])
       bytes taken m =
           let x = getD b 0 0 in
-          rw (named-class x, acted-is m)
+          rw (acted-is m)
           (by-class (eqb (length b) 44) (between 0x01 0x04 x || between 0x06 0x09 x) (eqb x 0xFE) (between 0x80 0xBF x) (byteIs b 1 0x2C)
           (taken && outsideB m) (isFate (heardFate g l b) Queued && leb 4 (g .queue .count)))
 
@@ -606,7 +742,10 @@ module _ (g : Group) (out : List ℕ) (d : Done) (accepts : refusedBy d ≡ none
       must-not (numbered g out d) 13 _ (linkOutside l) (not (linkIn l)) _ _ (outside-is 1 4 l)
       (must-not (numbered g out d) 6 _ (messageDown g l (codeOf k)) (downB (linksOf g) l (codeOf k)) _ _ (down-is g l (codeOf k))
       (must-not (numbered g out d) 14 _ (actedOutside m) (outsideB m) _ _ (acted-is m)
-      (must-not (numbered g out d) 15 [] (sendingBarred g l m) (sendingBarred g l m) 0 15 refl (accepts ∙ none-left) refl)
+      (must-not (numbered g out d) 15 [] (sendingBarred g l m) (not (dueB (g .exchange) l m || maySend (g .exchange) m)) 0 15
+      (ap (λ (t : Bool). not (dueB (g .exchange) l m || t)) (may-is (g .exchange) m))
+      (accepts ∙ none-left)
+      refl)
       refl)
       refl)
       refl

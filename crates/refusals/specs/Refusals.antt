@@ -16,9 +16,10 @@ use Rattle.llc.specs.Llc.{unknown, cursorMessage, optional, classOf}
 use Rattle.llcfields.specs.Layouts.{codeOf}
 use Rattle.exchange.specs.declared.Fate.{Fate}
 use Rattle.exchange.specs.declared.Fate.the-variants.{Taken, Queued}
+use Rattle.exchange.specs.declared.Exchange.{Exchange}
 use Rattle.exchange.specs.declared.Said.{Said}
-use Rattle.exchange.specs.Exchange.{addingB, dueB}
-use Rattle.exchange.specs.Fates.{isFate, fateOf, actsB, maySend}
+use Rattle.exchange.specs.Exchange.{dueB}
+use Rattle.exchange.specs.Fates.{isFate, fateOf}
 use Rattle.closing.specs.declared.Marks.{Marks}
 use Rattle.closing.specs.declared.State.{State}
 use Rattle.closing.specs.declared.State.the-variants.{Active, PeerCloseWait1, PeerCloseWait2, AppCloseWait1, AppCloseWait2, PeerAbortWait}
@@ -89,9 +90,12 @@ connectionDown g k = not (linkOf g k)
 abbrev pub linkDown : Group → ℕ → Bool
 linkDown g l = not (activeB (g .links) l)
 
--- "not for 01 on the link being added" (request 2026-01)
+-- "not for 01 on the link being added" (request 2026-01): w, at stages 1 to 4
+abbrev pub addedB : Exchange → ℕ → Bool
+addedB x l = not (outside 1 4 (x .stage)) && eqb l (x .w)
+
 abbrev pub messageDown : Group → ℕ → ℕ → Bool
-messageDown g l first = linkDown g l && not (addingB (g .exchange) l && eqb first 0x01)
+messageDown g l first = linkDown g l && not (addedB (g .exchange) l && eqb first 0x01)
 
 -- 7: the state forbids: send, urgent or not, after D, C or A sent or C heard; place after A sent or D or C heard; read after C or A sent;
 -- shutdown after D, C or A sent; close after C or A sent; abort after A sent; free outside PeerAbortWait
@@ -194,9 +198,17 @@ abbrev pub linkOutside : ℕ → Bool
 linkOutside l = outside 1 4 l
 
 -- 14: the number acted on is outside 1 to 4: "the link field of 01, 02, 03 and 04, but not of an 02 request from the client, an 02 reply
--- with Z or an 04 with A" (`actsB`); "a dropped or denied message acts on none" (request 2026-01)
+-- with Z or an 04 with A"; "a dropped or denied message acts on none" (request 2026-01)
+abbrev pub isKind : Said → ℕ → Bool
+isKind m k = eqb (m .kind) k
+
+abbrev pub actsOn : Said → Bool
+actsOn m =
+    (isKind m 0x01 || isKind m 0x02 || isKind m 0x03 || isKind m 0x04)
+    && not (isKind m 0x02 && not (m .reply) && m .client || isKind m 0x02 && m .reply && m .z || isKind m 0x04 && m .a)
+
 abbrev pub actedOutside : Said → Bool
-actedOutside m = actsB m && outside 1 4 (m .link)
+actedOutside m = actsOn m && outside 1 4 (m .link)
 
 abbrev pub heardFate : Group → ℕ → List ℕ → Fate
 heardFate g l b = fateOf (g .exchange) l (heardIn (linksOf g) b)
@@ -210,8 +222,22 @@ messageOutside g l b =
 abbrev pub queueFull : Group → ℕ → List ℕ → Bool
 queueFull g l b = not (classIs b optional) && (isFate (heardFate g l b) Queued && leb 4 (g .queue .count))
 
+-- what may be sent that is not due: "07 request; 04 request with A; client's 04 request without A: always; client's 02 request: sort not
+-- add; server's 02 request, server's 04 request without A, 06 request, 09 request: stage 0"
+abbrev pub sendable : Exchange → Said → Bool
+sendable x m =
+    not (m .reply)
+    && (isKind m 0x07
+    || isKind m 0x04 && m .a
+    || isKind m 0x04 && m .client
+    || isKind m 0x02 && m .client && outside 1 4 (x .stage)
+    || isKind m 0x02 && not (m .client) && eqb (x .stage) 0
+    || isKind m 0x04 && not (m .client) && eqb (x .stage) 0
+    || isKind m 0x06 && eqb (x .stage) 0
+    || isKind m 0x09 && eqb (x .stage) 0)
+
 abbrev pub sendingBarred : Group → ℕ → Said → Bool
-sendingBarred g l m = not (dueB (g .exchange) l m || maySend (g .exchange) m)
+sendingBarred g l m = not (dueB (g .exchange) l m || sendable (g .exchange) m)
 
 -- 17: a sample is above 60,000 milliseconds (request 2026-10)
 abbrev pub tooLong : ℕ → Bool

@@ -3,6 +3,7 @@ use mathlib.Core.Path.{refl}
 use Rattle.cursor.specs.Cursor.{inRange, sameB, movedOf, stepOf, turnsOf, distanceOf, goodB, gapOf}
 use Rattle.cdc.specs.Cdc.{highByte, lowByte, encodeOf, num2, num4, cursorOf, flagsOf, fieldsOf, decodeOf}
 use Rattle.layout.specs.Layout.{bitsOf, numberOf, spread, gather, layOut, writtenOf, numberAt}
+use Rattle.llc.specs.Llc.{classOf}
 use Rattle.llcfields.specs.Layouts as Layouts
 use Rattle.llcfields.specs.Layouts.{kindOf, namedB, tableOf, valueAt, valuesIn, reduced, filled, reducedOf, thirdFirst, laidRows, rowsOf}
 use Rattle.llcfields.specs.Layouts.{nums}
@@ -35,7 +36,7 @@ pub failovers-right : FailoversRight
 unfolding inRange sameB movedOf stepOf turnsOf distanceOf goodB gapOf
     highByte lowByte encodeOf num2 num4 cursorOf flagsOf fieldsOf decodeOf
     bitsOf numberOf spread gather layOut writtenOf numberAt
-    kindOf namedB tableOf valueAt valuesIn reduced filled reducedOf thirdFirst laidRows rowsOf nums Layouts.encodeOf
+    classOf kindOf namedB tableOf valueAt valuesIn reduced filled reducedOf thirdFirst laidRows rowsOf nums Layouts.encodeOf
     flagAt byteAt saidOf sortOf addingB stages dueB emptyQueue runsOver endsB actsB outsideB maySend sentExchange sentTouch
     closeStateOf stateOf doneSent closedSent abortSent marksHeard
     roomOf takenOf firstOf stretchesOf windowOf updateDue part elementOf splice intactB freshElement
