@@ -28,3 +28,4 @@ pub mod replay;
 pub mod setup;
 pub mod smcr;
 pub mod traces;
+pub mod words;

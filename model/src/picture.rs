@@ -1,22 +1,33 @@
 //! Draws a list of calls as SVG: a ladder of RDMA writes and messages with time
-//! running downward, and beside it what each end holds after each step. A list
-//! has two ends in its group, or one, whose peer is somewhere else.
+//! running downward, and beside it what two ends hold after each step. The ends
+//! at the sides are those of the connection that a call concerns: two slots of
+//! the group, or one, whose peer is somewhere else. Every line of the list that
+//! is not skipped has its words in the picture, a line that does not parse too.
 //!
-//! Here is what is drawn; `draw` says how, and `svg` writes the marks.
+//! Here is what is drawn; `cast` says who is at the sides, `tell` has the words,
+//! `draw` says how, and `svg` writes the marks.
 
+mod cast;
 mod draw;
 mod svg;
+mod tell;
 
+use std::collections::BTreeSet;
 use std::ops::Range;
+use std::rc::Rc;
 
-use crate::failover::{failover_message, tells};
-use crate::generate::message_of;
-use crate::replay::{lines, push_hex, skipped, Answer, Line, Replay};
+use crate::links::{Exchange, Queue};
+use crate::pool::Books;
+use crate::replay::{lines, skipped, Answer, BadLine, Line, Replay};
 use crate::smcr::*;
+use crate::words::listed;
+use cast::{Cast, Ends};
 
 /// One thing to draw, from the top down.
 enum Row {
     Caption(String),
+    /// From here on these are at the sides, with elements of so many bytes.
+    Ends(Ends, u32),
     Step(Step),
 }
 
@@ -29,163 +40,241 @@ struct Step {
     written: Option<(usize, Range<usize>)>,
 }
 
+/// A line of text, and what stands below it.
+#[derive(Clone, Default)]
+struct Said {
+    text: String,
+    below: String,
+    refused: bool,
+}
+
 enum What {
-    /// A call at one side: a line of text and a second one below.
-    Call {
-        side: usize,
-        text: String,
-        below: String,
-        refused: bool,
-    },
+    /// A call at one side.
+    Call { side: usize, said: Said },
     /// An arrow from the other side to this one.
     Arrow {
         to: usize,
-        text: String,
-        below: String,
-        refused: bool,
+        said: Said,
         message: bool,
     },
-    /// Bytes of the memory, shown at the end whose element they are.
+    /// Bytes of the memory, shown at the end whose element they are, or in the middle.
     Bytes {
-        side: usize,
-        text: String,
+        side: Option<usize>,
+        said: Said,
         hex: Vec<String>,
     },
-    /// Something of the group: text in the middle.
-    Middle { text: String, refused: bool },
-    /// A call on a link that moves an end: text in the middle, and beside each line
-    /// where its end goes and what it tells.
+    /// Something of the group, its links or what stands beside it: in the middle.
+    Middle { said: Said, pool: Option<Books> },
+    /// A call on a link that moves connections: text in the middle, and beside each
+    /// line where its end goes and what it tells.
     Move {
-        text: String,
+        said: Said,
         sides: [Option<(String, String)>; 2],
     },
+}
+
+impl What {
+    fn said(&self) -> &Said {
+        match self {
+            What::Call { said, .. }
+            | What::Arrow { said, .. }
+            | What::Bytes { said, .. }
+            | What::Middle { said, .. }
+            | What::Move { said, .. } => said,
+        }
+    }
 }
 
 /// An end as it stands after a step.
 #[derive(Clone, PartialEq)]
 struct Shot {
     record: Connection,
-    element: Vec<u8>,
+    element: Rc<Vec<u8>>,
     /// It moved to another link since its open.
     moved: bool,
 }
 
-/// The slots drawn at the left and at the right, counted from 0. Where the left
-/// one is missing, the peer is not in the group.
-type Ends = [Option<usize>; 2];
-
 /// The picture of a list.
 pub fn picture(input: &[u8]) -> String {
-    let ends = find_ends(input);
-    let (rows, size) = collect(input, ends);
-    draw::draw(&rows, ends, size)
+    let cast = Cast::of(input);
+    let rows = collect(input, &cast);
+    draw::draw(&rows, &alternative(&rows))
 }
 
-/// Makes the calls of a list one after the other. `each` gets the line, the call
-/// and its answer where the line is one, the table before and the group after.
-fn replayed(
-    input: &[u8],
-    mut each: impl FnMut(&[u8], Option<(&Line, &Answer)>, &[Connection], &Group),
-) {
+/// What the calls may change beside the memory, as it was before one.
+struct Before {
+    table: Vec<Connection>,
+    links: [bool; LINKS],
+    exchange: Exchange,
+    queue: Queue,
+}
+
+/// A line of the list: skipped, one that does not parse, or a call with its answer.
+enum Made<'a> {
+    Skipped,
+    Bad(BadLine),
+    Call(&'a Line, &'a Answer),
+}
+
+/// Makes the calls of a list one after the other. `each` gets the line's place in
+/// the list, the line, what became of it, what was before and all that is after.
+fn replayed(input: &[u8], mut each: impl FnMut(usize, &[u8], Made, &Before, &Replay)) {
     let mut replay = Replay::new();
-    for line in lines(input) {
-        let before = replay.group.table.to_vec();
+    for (place, line) in lines(input).into_iter().enumerate() {
+        let group = &replay.group;
+        let before = Before {
+            table: group.table.to_vec(),
+            links: group.links,
+            exchange: group.exchange,
+            queue: group.queue,
+        };
         if skipped(line) {
-            each(line, None, &before, &replay.group);
-        } else if let Ok(call) = replay.parse(line) {
-            let answer = replay.execute(&call);
-            each(line, Some((&call, &answer)), &before, &replay.group);
+            each(place, line, Made::Skipped, &before, &replay);
+            continue;
+        }
+        match replay.parse(line) {
+            Ok(call) => {
+                let answer = replay.execute(&call);
+                each(place, line, Made::Call(&call, &answer), &before, &replay);
+            }
+            Err(reason) => each(place, line, Made::Bad(reason), &before, &replay),
         }
     }
 }
 
-/// The first two slots that name each other by their tokens; failing that, the
-/// first two that open; failing that, the one that does.
-fn find_ends(input: &[u8]) -> Ends {
-    let mut opened: Vec<usize> = Vec::new();
-    let mut mates: Option<Ends> = None;
-    replayed(input, |_, _, _, group| {
-        let open = |index: &usize| group.table[*index].open;
-        for a in (0..group.table.len()).filter(open) {
-            if !opened.contains(&a) {
-                opened.push(a);
-            }
-            let first = &group.table[a];
-            let mate = (a + 1..group.table.len()).filter(open).find(|&b| {
-                let second = &group.table[b];
-                first.own_token == second.peer_token && first.peer_token == second.own_token
-            });
-            if let (None, Some(b)) = (mates, mate) {
-                mates = Some([Some(a), Some(b)]);
-            }
-        }
-    });
-    mates.unwrap_or(match opened[..] {
-        [] => [None, Some(0)],
-        [a] => [None, Some(a)],
-        [a, b, ..] => [Some(a.min(b)), Some(a.max(b))],
-    })
+/// What the picture knows while it goes through the list.
+struct Stage<'a> {
+    cast: &'a Cast,
+    rows: Vec<Row>,
+    /// Who is at the sides, and the bytes of an element.
+    shown: Option<(Ends, u32)>,
+    /// The slots that moved since their open, and the elements as last drawn.
+    moved: BTreeSet<usize>,
+    elements: Vec<Rc<Vec<u8>>>,
 }
 
-fn shot(group: &Group, index: usize, moved: bool) -> Shot {
-    let n = group.size as usize;
-    let element = group
-        .memory
-        .get(index * n..(index + 1) * n)
-        .map_or(Vec::new(), <[u8]>::to_vec);
-    Shot {
-        record: group.table.get(index).copied().unwrap_or_default(),
-        element,
-        moved,
-    }
-}
-
-/// The rows of a list, and its element size.
-fn collect(input: &[u8], ends: Ends) -> (Vec<Row>, u32) {
-    let mut rows: Vec<Row> = Vec::new();
-    let mut size = 0;
-    let mut moved = [false; 2];
-    replayed(input, |line, made, before, after| {
-        size = after.size;
-        let Some((call, answer)) = made else {
+fn collect(input: &[u8], cast: &Cast) -> Vec<Row> {
+    let mut stage = Stage {
+        cast,
+        rows: Vec::new(),
+        shown: None,
+        moved: BTreeSet::new(),
+        elements: Vec::new(),
+    };
+    replayed(input, |place, line, made, before, after| match made {
+        Made::Skipped => {
             let text = String::from_utf8_lossy(line);
             let text = text.trim_start_matches('#').trim();
             if !text.is_empty() {
-                rows.push(Row::Caption(text.to_string()));
+                stage.rows.push(Row::Caption(text.to_string()));
             }
-            return;
-        };
-        for side in 0..2 {
-            let record = |table: &[Connection]| table.get(ends[side]?).copied();
-            let (old, new) = (record(before), record(&after.table));
-            let (old, new) = (old.unwrap_or_default(), new.unwrap_or_default());
-            let kept = old.open && new.open && !matches!(call, Line::Record { .. });
-            moved[side] = kept && (moved[side] || old.link != new.link);
         }
-        let shots = [0, 1].map(|side| ends[side].map(|index| shot(after, index, moved[side])));
-        let Some(what) = describe(call, answer, ends, before, after, &shots) else {
-            return;
-        };
-        let step = Step {
-            what,
-            ends: shots,
-            written: written(call, answer, ends, after),
-        };
+        Made::Bad(reason) => {
+            let what = tell::bad(line, reason);
+            stage.step(place, what, None, &after.group);
+        }
+        Made::Call(call, answer) => stage.call(place, call, answer, before, after),
+    });
+    stage.rows
+}
+
+impl Stage<'_> {
+    fn call(
+        &mut self,
+        place: usize,
+        call: &Line,
+        answer: &Answer,
+        before: &Before,
+        after: &Replay,
+    ) {
+        for index in 0..before.table.len().max(after.group.table.len()) {
+            let record = |table: &[Connection]| table.get(index).copied().unwrap_or_default();
+            let (old, new) = (record(&before.table), record(&after.group.table));
+            let laid = matches!(call, Line::Record { slot, .. } if slot - 1 == index);
+            if !old.open || !new.open || laid || matches!(call, Line::Group { .. }) {
+                self.moved.remove(&index);
+            } else if old.link != new.link {
+                self.moved.insert(index);
+            }
+        }
+        let ends = self.cast.ends(place);
+        let mut what = tell::tell(call, answer, ends, before, after, &self.moved);
+        if let (Line::Group { .. }, What::Middle { said, .. }) = (call, &mut what) {
+            said.below = tell::joined(&[&said.below, &self.not_drawn(place)], "; ");
+        }
+        let written = written(call, answer, ends, &after.group);
+        self.step(place, what, written, &after.group);
+    }
+
+    /// Which slots of a fresh group have no call, and so are not at the sides.
+    fn not_drawn(&self, place: usize) -> String {
+        let slots = self.cast.never_at_the_sides(place);
+        match slots[..] {
+            [] => String::new(),
+            [slot] => format!("slot {slot} is not drawn: no call concerns it"),
+            _ => format!(
+                "slots {} are not drawn: no call concerns them",
+                listed(&slots)
+            ),
+        }
+    }
+
+    fn step(
+        &mut self,
+        place: usize,
+        what: What,
+        written: Option<(usize, Range<usize>)>,
+        group: &Group,
+    ) {
+        let ends = self.cast.ends(place);
+        let ends = ends.map(|end| end.filter(|&index| index < group.table.len()));
+        if self.shown != Some((ends, group.size)) {
+            self.shown = Some((ends, group.size));
+            self.rows.push(Row::Ends(ends, group.size));
+        }
+        let shots = ends.map(|end| end.map(|index| self.shot(group, index)));
         // What concerns the group goes into one row as long as nothing else happens
         // and the row has room.
-        if let (Some(Row::Step(last)), What::Middle { text, .. }) = (rows.last_mut(), &step.what) {
-            if let What::Middle { text: earlier, .. } = &mut last.what {
-                let both = format!("{earlier}; {text}");
-                if draw::fits(&both) {
-                    *earlier = both;
-                    last.ends = step.ends;
+        if let (Some(Row::Step(last)), What::Middle { said, pool: None }) =
+            (self.rows.last_mut(), &what)
+        {
+            if let What::Middle {
+                said: earlier,
+                pool: None,
+            } = &mut last.what
+            {
+                let both = format!("{}; {}", earlier.text, said.text);
+                let plain = |said: &Said| !said.refused && said.below.is_empty();
+                if plain(earlier) && plain(said) && draw::fits(&both) {
+                    earlier.text = both;
+                    last.ends = shots;
                     return;
                 }
             }
         }
-        rows.push(Row::Step(step));
-    });
-    (rows, size)
+        self.rows.push(Row::Step(Step {
+            what,
+            ends: shots,
+            written,
+        }));
+    }
+
+    fn shot(&mut self, group: &Group, index: usize) -> Shot {
+        let n = group.size as usize;
+        let range = index.saturating_mul(n)..(index + 1).saturating_mul(n);
+        let element = group.memory.get(range).unwrap_or(&[]);
+        if self.elements.len() <= index {
+            self.elements.resize(index + 1, Rc::default());
+        }
+        if *self.elements[index] != element {
+            self.elements[index] = Rc::new(element.to_vec());
+        }
+        Shot {
+            record: group.table.get(index).copied().unwrap_or_default(),
+            element: Rc::clone(&self.elements[index]),
+            moved: self.moved.contains(&index),
+        }
+    }
 }
 
 fn side_of(ends: Ends, slot: u32) -> Option<usize> {
@@ -193,7 +282,7 @@ fn side_of(ends: Ends, slot: u32) -> Option<usize> {
         .position(|end| end.is_some_and(|index| index + 1 == slot as usize))
 }
 
-/// The bytes that a call wrote into an end's element: those that it placed, or
+/// The bytes that a call wrote into an end's element: those that it placed or laid, or
 /// all of them at an open.
 fn written(
     line: &Line,
@@ -214,308 +303,87 @@ fn written(
             let start = *offset as usize;
             Some((side_of(ends, *slot)?, start..start + bytes.len()))
         }
+        Line::Poke { at, bytes } => {
+            let index = cast::element_of(group, *at, bytes.len())?;
+            let start = at - index * group.size as usize;
+            Some((side_of(ends, index as u32 + 1)?, start..start + bytes.len()))
+        }
         _ => None,
     }
 }
 
-/// What a call shows, if it concerns the two ends.
-fn describe(
-    line: &Line,
-    answer: &Answer,
-    ends: Ends,
-    before: &[Connection],
-    after: &Group,
-    shots: &[Option<Shot>; 2],
-) -> Option<What> {
-    if let Some(moves) = describe_moves(line, ends, before, after) {
-        return Some(moves);
-    }
-    let refusal = answer.refusal().map(|number| format!("refused {number}"));
-    let refused = refusal.is_some();
-    let makes = match message_of(answer).and_then(|bytes| Message::read(&bytes)) {
-        Some(message) => format!("makes message {}", message.sequence),
-        None => String::new(),
+/// What a picture is called, and its words from the first step on.
+struct Alternative {
+    title: String,
+    words: Vec<String>,
+    /// What the picture shows in part only.
+    left_out: Vec<String>,
+}
+
+fn alternative(rows: &[Row]) -> Alternative {
+    let first = rows.iter().find_map(|row| match row {
+        Row::Caption(text) => Some(text.clone()),
+        _ => None,
+    });
+    let steps = || {
+        rows.iter().filter_map(|row| match row {
+            Row::Step(step) => Some(step),
+            _ => None,
+        })
     };
-    // What a connection that moved places goes by another link's key.
-    let places = match answer {
-        Answer::Sent(sent) | Answer::Urgent(sent) if !sent.placings.is_empty() => {
-            let slot = |slot: u32| side_of(ends, slot).and_then(|side| shots[side].as_ref());
-            let shot = match line {
-                Line::Send { slot: own, .. } | Line::Urgent { slot: own, .. } => slot(*own),
-                _ => None,
-            };
-            match shot {
-                Some(shot) if shot.moved => {
-                    let (link, key) = (shot.record.link, sent.placings[0].key);
-                    format!("by link {link}, key {key}")
-                }
-                _ => String::new(),
+    let mut left_out = Vec::new();
+    let wide = |shot: &Shot| draw::without_bytes(shot.element.len());
+    if steps().any(|step| step.ends.iter().flatten().any(wide)) {
+        left_out.push("the single bytes of an element of more than 40".to_string());
+    }
+    if steps().any(|step| step.what.said().text.contains(tell::NOT_QUOTED)) {
+        left_out.push("those bytes of a call beyond the first 24".to_string());
+    }
+    if rows.is_empty() {
+        left_out.push("anything: the list has no lines".to_string());
+    }
+    let mut ends: Ends = [None, None];
+    let words = rows.iter().map(|row| match row {
+        Row::Caption(text) => text.trim_end_matches('.').to_string(),
+        Row::Ends(now, _) => {
+            ends = *now;
+            match now {
+                [None, None] => "At the sides: nobody".to_string(),
+                _ => format!("At the sides: {} and {}", name(ends[0]), name(ends[1])),
             }
         }
-        _ => String::new(),
-    };
-    let makes = joined(&[&places, &makes]);
-    let call = |slot: u32, text: String, below: String| {
-        side_of(ends, slot).map(|side| What::Call {
-            side,
-            text,
-            below: refusal.clone().unwrap_or(below),
-            refused,
-        })
-    };
-    let ending = |slot: u32, text: &str| {
-        let index = slot.wrapping_sub(1) as usize;
-        let open = |table: &[Connection]| table.get(index).is_some_and(|c| c.open);
-        let closed = open(before) && !open(&after.table);
-        let notes = [makes.as_str(), if closed { "slot closed" } else { "" }];
-        call(slot, text.to_string(), joined(&notes))
-    };
-    match (line, answer) {
-        (Line::Group { elements, size, .. }, _) => Some(What::Middle {
-            text: match elements {
-                1 => format!("a fresh group: one element of {size} bytes"),
-                _ => format!("a fresh group: {elements} elements of {size} bytes"),
-            },
-            refused: false,
-        }),
-        (Line::Link { link, up, .. }, _) => Some(What::Middle {
-            text: format!("link {link} {}", if *up { "active" } else { "down" }),
-            refused,
-        }),
-        (Line::LinkMsg { link, .. }, _) => Some(What::Middle {
-            text: format!("link message on link {link}"),
-            refused,
-        }),
-        (Line::Open { opening }, _) => call(
-            opening.slot,
-            format!(
-                "open: own token {}, peer token {}",
-                opening.own_token, opening.peer_token
-            ),
-            "the element is zeroed, its eye catcher written".to_string(),
-        ),
-        (Line::Send { slot, bytes, .. }, Answer::Sent(sent)) => call(
-            *slot,
-            format!(
-                "send {} bytes, {} taken{}",
-                bytes.len(),
-                sent.taken,
-                quoted(bytes)
-            ),
-            makes,
-        ),
-        (Line::Send { slot, bytes, .. }, _) => {
-            call(*slot, format!("send {} bytes", bytes.len()), makes)
-        }
-        (Line::Urgent { slot, bytes }, Answer::Urgent(sent)) => call(
-            *slot,
-            format!(
-                "urgent send {} bytes, {} taken{}",
-                bytes.len(),
-                sent.taken,
-                quoted(bytes)
-            ),
-            makes,
-        ),
-        (Line::Urgent { slot, bytes }, _) => {
-            call(*slot, format!("urgent send {} bytes", bytes.len()), makes)
-        }
-        (
-            Line::Place {
-                slot,
-                offset,
-                bytes,
-            },
-            _,
-        ) => {
-            let last = i64::from(*offset) + bytes.len() as i64 - 1;
-            side_of(ends, *slot).map(|to| What::Arrow {
-                to,
-                text: format!("RDMA write to {offset}..{last}{}", quoted(bytes)),
-                below: refusal.clone().unwrap_or_default(),
-                refused,
-                message: false,
-            })
-        }
-        (Line::Read { slot, .. }, Answer::Read(ReadAnswer::Read { taken, .. }, out)) => {
-            let handed = &out[..*taken as usize];
-            call(
-                *slot,
-                format!("read, {taken} bytes{}", quoted(handed)),
-                makes,
-            )
-        }
-        (Line::Read { slot, .. }, Answer::Read(ReadAnswer::Torn { .. }, _)) => {
-            call(*slot, "read: torn".to_string(), makes)
-        }
-        (Line::Read { slot, .. }, _) => call(*slot, "read".to_string(), String::new()),
-        (Line::Hear { bytes }, _) => {
-            let message = Message::read(bytes)?;
-            let to = ends.iter().position(|end| {
-                end.and_then(|index| before.get(index))
-                    .is_some_and(|c| c.open && c.own_token == message.token)
-            })?;
-            let heard = match answer {
-                Answer::Heard(heard) => {
-                    format!("heard: moved {}, {}", heard.moved, heard.state.name())
-                }
-                _ => refusal.clone().unwrap_or_default(),
-            };
-            Some(What::Arrow {
-                to,
-                text: label(&message),
-                below: joined(&[&heard, &makes]),
-                refused,
-                message: true,
-            })
-        }
-        (Line::Free { slot }, _) => ending(*slot, "free"),
-        (Line::Shutdown { slot }, _) => ending(*slot, "shutdown"),
-        (Line::Close { slot }, Answer::Made("reset", _)) => ending(*slot, "close: reset"),
-        (Line::Close { slot }, _) => ending(*slot, "close"),
-        (Line::Abort { slot }, _) => ending(*slot, "abort"),
-        (Line::Record { slot, .. }, _) => {
-            call(*slot as u32, "record laid".to_string(), String::new())
-        }
-        (Line::Poke { .. }, _) => Some(What::Middle {
-            text: "bytes laid into the memory".to_string(),
-            refused: false,
-        }),
-        (Line::Memory { at, count }, _) => {
-            let side = ends.iter().position(|end| {
-                end.is_some_and(|index| {
-                    let n = after.size as usize;
-                    index * n <= *at && at + count <= (index + 1) * n
-                })
-            })?;
-            Some(What::Bytes {
-                side,
-                text: format!("memory, {count} bytes from {at} on"),
-                hex: hex_lines(&after.memory[*at..at + count]),
-            })
-        }
-        _ => None,
-    }
-}
-
-/// A call on a link that moves one of the ends.
-fn describe_moves(line: &Line, ends: Ends, before: &[Connection], after: &Group) -> Option<What> {
-    if !matches!(line, Line::Link { .. } | Line::LinkMsg { .. }) {
-        return None;
-    }
-    let sides = ends.map(|end| {
-        let (old, new) = (before.get(end?)?, after.table.get(end?)?);
-        if old.link == new.link {
-            return None;
-        }
-        let tells = if tells(old) {
-            let told = Message::read(&failover_message(old))?;
-            format!("makes message {} with F", told.sequence)
-        } else {
-            "silent: A was sent".to_string()
-        };
-        Some((
-            format!("link {} \u{2192} link {}", old.link, new.link),
-            tells,
-        ))
+        Row::Step(step) => spoken(&step.what, ends),
     });
-    let from = ends.into_iter().zip(&sides).find_map(|(end, side)| {
-        let old = before.get(end?)?;
-        side.as_ref().map(|_| old.link)
-    })?;
-    let text = match line {
-        Line::LinkMsg { link, .. } => format!("link message on link {link}: link {from} down"),
-        _ => format!("link {from} down"),
-    };
-    Some(What::Move { text, sides })
-}
-
-/// A message's sequence number, cursors and flags.
-fn label(message: &Message) -> String {
-    let flags: String = [
-        (message.blocked, 'B'),
-        (message.urgent_pending, 'P'),
-        (message.urgent_present, 'U'),
-        (message.update_requested, 'R'),
-        (message.failover, 'F'),
-        (message.done, 'D'),
-        (message.closed, 'C'),
-        (message.abort, 'A'),
-    ]
-    .iter()
-    .filter(|(on, _)| *on)
-    .map(|(_, letter)| *letter)
-    .collect();
-    let flags = if flags.is_empty() {
-        String::new()
-    } else {
-        format!(", flags {flags}")
-    };
-    format!(
-        "message {}: producer {}, consumer {}{flags}",
-        message.sequence,
-        pair(message.producer),
-        pair(message.consumer)
-    )
-}
-
-/// A cursor as the page writes it.
-fn pair(at: Cursor) -> String {
-    format!("({},{})", at.offset, at.wrap)
-}
-
-/// The notes that are there, one after the other.
-fn joined(notes: &[&str]) -> String {
-    let there: Vec<&str> = notes
-        .iter()
-        .copied()
-        .filter(|note| !note.is_empty())
-        .collect();
-    there.join(", ")
-}
-
-/// A few bytes as they stand in the cells of an element, after a colon.
-fn quoted(bytes: &[u8]) -> String {
-    if bytes.is_empty() || bytes.len() > 24 {
-        return String::new();
-    }
-    let text: String = bytes
-        .iter()
-        .map(|&byte| sign(byte).unwrap_or('?'))
-        .collect();
-    format!(": {text}")
-}
-
-/// A byte as one sign: a dot for zero, an open box for a blank, itself where it
-/// can be printed.
-fn sign(byte: u8) -> Option<char> {
-    match byte {
-        0 => Some('\u{b7}'),
-        b' ' => Some('\u{2423}'),
-        _ if byte.is_ascii_graphic() => Some(char::from(byte)),
-        _ => None,
+    Alternative {
+        title: first.unwrap_or("A list of calls".to_string()),
+        words: words.collect(),
+        left_out,
     }
 }
 
-/// Bytes in hexadecimal, sixteen to a line, at most two lines.
-fn hex_lines(bytes: &[u8]) -> Vec<String> {
-    let mut all: Vec<String> = bytes
-        .chunks(16)
-        .map(|line| {
-            let pairs: Vec<String> = line
-                .iter()
-                .map(|&byte| {
-                    let mut two = Vec::new();
-                    push_hex(&mut two, &[byte]);
-                    String::from_utf8_lossy(&two).into_owned()
-                })
-                .collect();
-            pairs.join(" ")
-        })
-        .collect();
-    if all.len() > 2 {
-        all.truncate(2);
-        all[1].push_str(" \u{2026}");
+/// An end's name; who has no slot here is the peer.
+fn name(end: Option<usize>) -> String {
+    end.map_or("the peer".to_string(), |index| {
+        format!("slot {}", index + 1)
+    })
+}
+
+/// A step in words, with who does it.
+fn spoken(what: &What, ends: Ends) -> String {
+    let said = what.said();
+    let words = tell::joined(&[&said.text, &said.below], "; ");
+    match what {
+        What::Call { side, .. } => format!("{}: {words}", name(ends[*side])),
+        What::Arrow { to, .. } => format!("to {}: {words}", name(ends[*to])),
+        What::Bytes { hex, .. } => format!("{words}: {}", hex.join(" ")),
+        What::Middle { .. } => words,
+        What::Move { sides, .. } => {
+            let told = (0..2).filter_map(|side| {
+                let (goes, tells) = sides[side].as_ref()?;
+                Some(format!("{}: {goes}, {tells}", name(ends[side])))
+            });
+            let told: Vec<String> = std::iter::once(words).chain(told).collect();
+            told.join("; ")
+        }
     }
-    all
 }

@@ -4,8 +4,11 @@
 
 use std::ops::Range;
 
+use super::cast::Ends;
 use super::svg::{Anchor, Pen, Svg};
-use super::{pair, sign, Ends, Row, Shot, Step, What};
+use super::tell::{pair, sign};
+use super::{name, Alternative, Row, Said, Shot, Step, What};
+use crate::pool::{Books, UNITS};
 use crate::smcr::*;
 
 const MARGIN: f64 = 24.0;
@@ -15,18 +18,31 @@ const BAND_HEIGHT: f64 = 20.0;
 const OVERHANG: f64 = 76.0;
 const GAP: f64 = 30.0;
 const LADDER: f64 = 430.0;
-/// Where the peer's line stands, if the peer has no element here.
+/// What a text in the ladder may be wide: in the middle, and beside an end's line.
+const MIDDLE: f64 = LADDER - 16.0;
+const BESIDE: f64 = LADDER - 30.0;
+/// Where the peer's line stands, if no row has two elements.
 const PEER: f64 = 66.0;
-const CAPTION: f64 = 38.0;
-const HEAD: f64 = 160.0;
+const HEAD: f64 = 136.0;
+/// A row that names who is at the sides.
+const NAMES: f64 = 34.0;
 /// Above and below what a row holds.
 const PAD: f64 = 11.0;
+/// A line of text in the ladder: the upper, bold ones beside an end, and the others.
+const BOLD_LINE: f64 = 16.0;
+const LINE: f64 = 15.0;
+const HEX_LINE: f64 = 14.0;
 /// A line of cursors below a band, and the line of Q and R below these.
 const LABELS: f64 = 14.0;
 const STRIP: f64 = 150.0;
 const STRIP_HEIGHT: f64 = 9.0;
+/// The units of the pool.
+const POOL: f64 = 384.0;
+const POOL_HEIGHT: f64 = 12.0;
 /// From this width on a cell shows its byte.
 const CELL_TEXT_FROM: f64 = 9.5;
+/// The most steps that the alternative text has.
+const SPOKEN: usize = 400;
 
 const PAPER: &str = "#fbfcfd";
 const SHADE: &str = "#f2f5f8";
@@ -51,21 +67,22 @@ const GREEN: &str = "#1d6b3a";
 
 /// Where the columns stand.
 struct Layout {
-    bands: [Option<f64>; 2],
+    /// Where a row has one element only it is on the right.
+    bands: [f64; 2],
     lines: [f64; 2],
     width: f64,
 }
 
 impl Layout {
-    fn of(ends: Ends) -> Layout {
-        let left = ends[0].map(|_| MARGIN);
-        let first = match left {
-            Some(x) => x + BAND + OVERHANG,
-            None => PEER,
-        };
+    /// The left column has room for elements if some row has one there.
+    fn of(rows: &[Row]) -> Layout {
+        let left = rows
+            .iter()
+            .any(|row| matches!(row, Row::Ends([Some(_), _], _)));
+        let first = if left { MARGIN + BAND + OVERHANG } else { PEER };
         let second = first + LADDER;
         Layout {
-            bands: [left, Some(second + GAP)],
+            bands: [MARGIN, second + GAP],
             lines: [first, second],
             width: second + GAP + BAND + OVERHANG,
         }
@@ -74,20 +91,42 @@ impl Layout {
     fn middle(&self) -> f64 {
         (self.lines[0] + self.lines[1]) / 2.0
     }
+
+    fn has_left(&self) -> bool {
+        self.lines[0] > PEER
+    }
 }
 
-pub fn draw(rows: &[Row], ends: Ends, size: u32) -> String {
-    let layout = Layout::of(ends);
-    let heights = heights(rows);
-    let height = HEAD + heights.iter().sum::<f64>() + MARGIN;
-    let mut svg = Svg::new(layout.width, height, PAPER);
-    draw_head(&mut svg, &layout, ends, size);
-    let mut y = HEAD;
+/// Whether an element has too many bytes for a sign to each.
+pub fn without_bytes(size: usize) -> bool {
+    BAND / (size.max(1) as f64) < CELL_TEXT_FROM
+}
+
+pub fn draw(rows: &[Row], alternative: &Alternative) -> String {
+    let layout = Layout::of(rows);
+    let heights = heights(rows, &layout);
+    let left_out = left_out_lines(&layout, alternative);
+    let head = HEAD + LINE * left_out.len() as f64;
+    let height = head + heights.iter().sum::<f64>() + MARGIN;
+    let description = description(alternative);
+    let mut svg = Svg::new(
+        layout.width,
+        height,
+        PAPER,
+        &alternative.title,
+        &description,
+    );
+    draw_head(&mut svg, &layout, &left_out);
+    let mut y = head;
     let mut previous: [Option<&Shot>; 2] = [None, None];
     let mut number = 0;
     for (row, row_height) in rows.iter().zip(heights) {
         match row {
             Row::Caption(text) => draw_caption(&mut svg, &layout, text, y),
+            Row::Ends(ends, size) => {
+                draw_names(&mut svg, &layout, *ends, *size, y);
+                previous = [None, None];
+            }
             Row::Step(step) => {
                 if number % 2 == 1 {
                     svg.rectangle(0.0, y, layout.width, row_height, SHADE);
@@ -97,11 +136,11 @@ pub fn draw(rows: &[Row], ends: Ends, size: u32) -> String {
                     let style = " stroke-width=\"1.5\"";
                     svg.line((x, y), (x, y + row_height), FAINT, style);
                 }
-                draw_what(&mut svg, &layout, &step.what, y + ladder_line(&step.what));
+                draw_what(&mut svg, &layout, &step.what, y + PAD);
                 for side in 0..2 {
-                    if let (Some(shot), Some(x)) = (&step.ends[side], layout.bands[side]) {
+                    if let Some(shot) = &step.ends[side] {
                         let shown = shown(step, side, shot, previous[side]);
-                        draw_end(&mut svg, shot, x, y, shown);
+                        draw_end(&mut svg, shot, layout.bands[side], y, shown);
                         previous[side] = Some(shot);
                     }
                 }
@@ -110,6 +149,33 @@ pub fn draw(rows: &[Row], ends: Ends, size: u32) -> String {
         y += row_height;
     }
     svg.finish()
+}
+
+/// The alternative text: how to read the picture, then its rows in words.
+fn description(alternative: &Alternative) -> String {
+    let words = &alternative.words;
+    let mut text = "Time runs downward. ".to_string();
+    if !alternative.left_out.is_empty() {
+        text.push_str(&format!("{}. ", left_out_text(alternative)));
+    }
+    text.push_str(&words[..words.len().min(SPOKEN)].join(". "));
+    if words.len() > SPOKEN {
+        let more = words.len() - SPOKEN;
+        text.push_str(&format!(". {more} more rows are drawn and not told here"));
+    }
+    text
+}
+
+fn left_out_text(alternative: &Alternative) -> String {
+    format!("Not drawn: {}", alternative.left_out.join("; "))
+}
+
+fn left_out_lines(layout: &Layout, alternative: &Alternative) -> Vec<String> {
+    if alternative.left_out.is_empty() {
+        return Vec::new();
+    }
+    let text = left_out_text(alternative);
+    Pen::new(11.0, PALE, Anchor::Start).wrapped(&text, layout.width - 2.0 * MARGIN)
 }
 
 // How high each row is.
@@ -128,7 +194,7 @@ fn shown(step: &Step, side: usize, shot: &Shot, previous: Option<&Shot>) -> Show
         Some((at, range)) if *at == side => range.clone(),
         _ => 0..0,
     };
-    let looked = matches!(&step.what, What::Bytes { side: at, .. } if *at == side);
+    let looked = matches!(&step.what, What::Bytes { side: Some(at), .. } if *at == side);
     let reading = |c: &Connection| (c.open, c.peer_producer, c.consumer, c.told, c.urgent_heard);
     let writing = |c: &Connection| {
         (
@@ -152,11 +218,22 @@ fn shown(step: &Step, side: usize, shot: &Shot, previous: Option<&Shot>) -> Show
     }
 }
 
-fn heights(rows: &[Row]) -> Vec<f64> {
+fn heights(rows: &[Row], layout: &Layout) -> Vec<f64> {
     let mut previous: [Option<&Shot>; 2] = [None, None];
     rows.iter()
         .map(|row| match row {
-            Row::Caption(_) => CAPTION,
+            Row::Caption(text) => {
+                let lines = caption_lines(layout, text).len() as f64;
+                22.0 + CAPTION_LINE * lines
+            }
+            Row::Ends(ends, _) => {
+                previous = [None, None];
+                if *ends == [None, None] {
+                    0.0
+                } else {
+                    NAMES
+                }
+            }
             Row::Step(step) => {
                 let mut height = ladder_height(&step.what);
                 for side in 0..2 {
@@ -172,21 +249,54 @@ fn heights(rows: &[Row]) -> Vec<f64> {
         .collect()
 }
 
-fn ladder_height(what: &What) -> f64 {
-    match what {
-        What::Middle { .. } => BAND_HEIGHT,
-        What::Move { .. } => 54.0,
-        What::Call { .. } => 34.0,
-        What::Arrow { .. } => 36.0,
-        What::Bytes { hex, .. } => 20.0 + 14.0 * hex.len() as f64,
+/// The lines of a text and of what stands below it.
+struct Lines {
+    text: Vec<String>,
+    below: Vec<String>,
+}
+
+impl Lines {
+    fn of(what: &What) -> Lines {
+        let Said { text, below, .. } = what.said();
+        let (bold, room) = match what {
+            What::Call { .. } | What::Bytes { side: Some(_), .. } => (true, BESIDE),
+            What::Move { .. } => (true, MIDDLE),
+            _ => (false, MIDDLE),
+        };
+        let pen = match bold {
+            true => Pen::new(13.0, INK, Anchor::Start).bold(),
+            false => Pen::new(12.0, INK, Anchor::Start),
+        };
+        Lines {
+            text: pen.wrapped(text, room),
+            below: Pen::new(12.0, INK, Anchor::Start).wrapped(below, room),
+        }
+    }
+
+    /// How high both are together.
+    fn height(&self, first: f64) -> f64 {
+        first * self.text.len() as f64 + LINE * self.below.len() as f64
     }
 }
 
-/// Where in a row the ladder's circle or arrow stands.
-fn ladder_line(what: &What) -> f64 {
+fn ladder_height(what: &What) -> f64 {
+    let lines = Lines::of(what);
     match what {
-        What::Arrow { .. } => PAD + 18.0,
-        _ => PAD + BAND_HEIGHT / 2.0,
+        What::Middle { pool, .. } => {
+            let pool = if pool.is_some() {
+                POOL_HEIGHT + 6.0
+            } else {
+                0.0
+            };
+            (lines.height(LINE) + pool).max(BAND_HEIGHT)
+        }
+        What::Move { .. } => lines.height(LINE) + 38.0,
+        What::Call { .. } => (lines.height(BOLD_LINE) + 2.0).max(34.0),
+        What::Arrow { .. } => (lines.height(LINE) + 6.0).max(36.0),
+        What::Bytes { hex, side, .. } => {
+            let first = if side.is_some() { BOLD_LINE } else { LINE };
+            lines.height(first) + 4.0 + HEX_LINE * hex.len() as f64
+        }
     }
 }
 
@@ -201,25 +311,15 @@ fn end_height(shot: &Shot, shown: &Shown) -> f64 {
 
 // The head.
 
-fn draw_head(svg: &mut Svg, layout: &Layout, ends: Ends, size: u32) {
-    let title = Pen::new(15.0, INK, Anchor::Middle).bold();
+fn draw_head(svg: &mut Svg, layout: &Layout, left_out: &[String]) {
     let small = Pen::new(11.0, PALE, Anchor::Start);
     for side in 0..2 {
-        let name = match ends[side] {
-            Some(index) => format!("slot {}", index + 1),
-            None => "the peer".to_string(),
-        };
-        svg.write(layout.lines[side], HEAD - 12.0, title, &name);
-        let (Some(x), Some(index)) = (layout.bands[side], ends[side]) else {
+        if side == 0 && !layout.has_left() {
             continue;
-        };
-        let text = format!(
-            "element {}: {size} bytes, {} of data",
-            index + 1,
-            size.saturating_sub(4)
-        );
+        }
+        let x = layout.bands[side];
         let pen = Pen::new(14.0, INK, Anchor::Start).bold();
-        svg.write(x, 30.0, pen, &text);
+        svg.write(x, 30.0, pen, "an end's element");
         let notes = [
             "P the peer's producer, C our consumer, T the consumer last told",
             "below: the peer's element as this end knows it, by its own",
@@ -240,7 +340,7 @@ fn draw_head(svg: &mut Svg, layout: &Layout, ends: Ends, size: u32) {
             ],
         ];
         for (line, entries) in legend.iter().enumerate() {
-            let (mut at, y) = (x, 96.0 + 18.0 * line as f64);
+            let (mut at, y) = (x, 94.0 + 18.0 * line as f64);
             for (colour, text) in entries {
                 swatch(svg, at, y, colour);
                 let pen = Pen::new(11.0, INK, Anchor::Start);
@@ -265,6 +365,36 @@ fn draw_head(svg: &mut Svg, layout: &Layout, ends: Ends, size: u32) {
     }
     svg.disc(middle - 83.0, 92.0, 5.0, INK);
     svg.write(middle - 44.0, 96.0, pen, "call at this end");
+    let red = Pen::new(12.0, RED, Anchor::End);
+    svg.write(middle - 54.0, 116.0, red, "red");
+    svg.write(middle - 44.0, 116.0, pen, "a call that is refused");
+    for (line, text) in left_out.iter().enumerate() {
+        svg.write(MARGIN, HEAD + LINE * line as f64 + 4.0, small, text);
+    }
+}
+
+/// Who is at the sides from here on.
+fn draw_names(svg: &mut Svg, layout: &Layout, ends: Ends, size: u32, y: f64) {
+    if ends == [None, None] {
+        return;
+    }
+    let title = Pen::new(15.0, INK, Anchor::Middle).bold();
+    for side in 0..2 {
+        svg.write(layout.lines[side], y + 22.0, title, &name(ends[side]));
+        if let Some(index) = ends[side] {
+            let text = format!(
+                "element {}: {size} bytes, {} of data",
+                index + 1,
+                size.saturating_sub(4)
+            );
+            let (x, anchor) = match side {
+                0 => (layout.bands[0], Anchor::Start),
+                _ => (layout.bands[1] + BAND, Anchor::End),
+            };
+            let pen = Pen::new(12.0, PALE, anchor);
+            svg.write(x, y + 22.0, pen, &text);
+        }
+    }
 }
 
 const SOLID: &str = " stroke-width=\"1.6\"";
@@ -279,98 +409,133 @@ fn swatch(svg: &mut Svg, x: f64, y: f64, colour: &str) {
     }
 }
 
+const CAPTION_LINE: f64 = 16.0;
+
+fn caption_pen() -> Pen {
+    Pen::new(13.0, INK, Anchor::Start).bold()
+}
+
+fn caption_lines(layout: &Layout, text: &str) -> Vec<String> {
+    caption_pen().wrapped(text, layout.width - 2.0 * MARGIN - 24.0)
+}
+
 fn draw_caption(svg: &mut Svg, layout: &Layout, text: &str, y: f64) {
     let width = layout.width - 2.0 * MARGIN;
-    svg.rectangle(MARGIN, y + 6.0, width, CAPTION - 12.0, "#e4eaf0");
-    let pen = Pen::new(13.0, INK, Anchor::Start).bold();
-    svg.write(
-        MARGIN + 12.0,
-        y + 24.0,
-        pen,
-        &pen.fitted(text, width - 24.0),
-    );
+    let lines = caption_lines(layout, text);
+    let height = 10.0 + CAPTION_LINE * lines.len() as f64;
+    svg.rectangle(MARGIN, y + 6.0, width, height, "#e4eaf0");
+    for (line, text) in lines.iter().enumerate() {
+        let at = y + 24.0 + CAPTION_LINE * line as f64;
+        svg.write(MARGIN + 12.0, at, caption_pen(), text);
+    }
 }
 
 // The ladder.
 
 /// Whether a text of the group has room in a row.
 pub fn fits(text: &str) -> bool {
-    middle_pen(PALE).width(text) <= LADDER - 16.0
+    Pen::new(12.0, PALE, Anchor::Middle).width(text) <= MIDDLE
 }
 
-fn middle_pen(colour: &'static str) -> Pen {
-    Pen::new(12.0, colour, Anchor::Middle)
+/// Writes lines one below the other from a first one on; where the next would stand
+/// comes back.
+fn write_lines(svg: &mut Svg, x: f64, y: f64, pen: Pen, step: f64, lines: &[String]) -> f64 {
+    for (line, text) in lines.iter().enumerate() {
+        svg.write(x, y + step * line as f64, pen, text);
+    }
+    y + step * lines.len() as f64
 }
 
+/// A step's words, arrows and discs; y is the row's upper edge within its pad.
 fn draw_what(svg: &mut Svg, layout: &Layout, what: &What, y: f64) {
-    let ink = |refused: bool, otherwise: &'static str| if refused { RED } else { otherwise };
+    let said = what.said();
+    let lines = Lines::of(what);
+    let ink = |otherwise: &'static str| if said.refused { RED } else { otherwise };
+    let below = |anchor: Anchor| Pen::new(12.0, ink(PALE), anchor);
+    let middle = layout.middle();
+    let first = y + BAND_HEIGHT / 2.0 + 4.0;
     match what {
-        What::Middle { text, refused } => {
-            let pen = middle_pen(ink(*refused, PALE));
-            let text = pen.fitted(text, LADDER - 16.0);
-            svg.write(layout.middle(), y + 4.0, pen, &text);
+        What::Middle { pool, .. } => {
+            let colour = ink(if said.below.is_empty() { PALE } else { INK });
+            let pen = Pen::new(12.0, colour, Anchor::Middle);
+            let next = write_lines(svg, middle, first, pen, LINE, &lines.text);
+            let next = write_lines(svg, middle, next, below(Anchor::Middle), LINE, &lines.below);
+            if let Some(books) = pool {
+                draw_pool(svg, middle - POOL / 2.0, next - 8.0, books);
+            }
         }
-        What::Move { text, sides } => {
-            let pen = middle_pen(GREEN).bold();
-            let text = pen.fitted(text, LADDER - 16.0);
-            svg.write(layout.middle(), y + 4.0, pen, &text);
+        What::Move { sides, .. } => {
+            let pen = Pen::new(12.0, GREEN, Anchor::Middle).bold();
+            let next = write_lines(svg, middle, first, pen, LINE, &lines.text);
+            let next = write_lines(svg, middle, next, below(Anchor::Middle), LINE, &lines.below);
             for side in 0..2 {
                 let Some((goes, tells)) = &sides[side] else {
                     continue;
                 };
-                let (x, anchor) = beside(svg, layout, side, y + 22.0, GREEN);
+                let (x, anchor) = beside(svg, layout, side, next, GREEN);
                 let pen = Pen::new(13.0, GREEN, anchor).bold();
-                svg.write(x, y + 26.0, pen, goes);
-                let pen = Pen::new(12.0, PALE, anchor);
-                svg.write(x, y + 42.0, pen, tells);
+                svg.write(x, next + 4.0, pen, goes);
+                svg.write(x, next + 20.0, Pen::new(12.0, PALE, anchor), tells);
             }
         }
-        What::Call {
-            side,
-            text,
-            below,
-            refused,
-        } => {
-            let (x, anchor) = beside(svg, layout, *side, y, ink(*refused, INK));
-            let pen = Pen::new(13.0, ink(*refused, INK), anchor).bold();
-            svg.write(x, y + 4.0, pen, &pen.fitted(text, LADDER - 30.0));
-            let pen = Pen::new(12.0, ink(*refused, PALE), anchor);
-            svg.write(x, y + 20.0, pen, &pen.fitted(below, LADDER - 30.0));
+        What::Call { side, .. } => {
+            let (x, anchor) = beside(svg, layout, *side, y + BAND_HEIGHT / 2.0, ink(INK));
+            let pen = Pen::new(13.0, ink(INK), anchor).bold();
+            let next = write_lines(svg, x, first, pen, BOLD_LINE, &lines.text);
+            write_lines(svg, x, next, below(anchor), LINE, &lines.below);
         }
-        What::Bytes { side, text, hex } => {
-            let (x, anchor) = beside(svg, layout, *side, y, PALE);
-            let pen = Pen::new(13.0, INK, anchor).bold();
-            svg.write(x, y + 4.0, pen, text);
+        What::Bytes { side, hex, .. } => {
             let wide = Pen::new(11.0, INK, Anchor::Start).fixed();
             let widest = hex.iter().map(|line| wide.width(line)).fold(0.0, f64::max);
+            let (x, anchor, pen) = match side {
+                Some(side) => {
+                    let (x, anchor) = beside(svg, layout, *side, y + BAND_HEIGHT / 2.0, PALE);
+                    (x, anchor, Pen::new(13.0, INK, anchor).bold())
+                }
+                None => {
+                    let anchor = Anchor::Middle;
+                    (middle, anchor, Pen::new(12.0, INK, anchor))
+                }
+            };
+            let next = write_lines(svg, x, first, pen, BOLD_LINE, &lines.text);
             // The lines begin one below the other.
-            let start = if anchor == Anchor::End { x - widest } else { x };
-            for (line, bytes) in hex.iter().enumerate() {
-                svg.write(start, y + 20.0 + 14.0 * line as f64, wide, bytes);
-            }
+            let start = match anchor {
+                Anchor::Start => x,
+                Anchor::Middle => x - widest / 2.0,
+                Anchor::End => x - widest,
+            };
+            write_lines(svg, start, next, wide, HEX_LINE, hex);
         }
-        What::Arrow {
-            to,
-            text,
-            below,
-            refused,
-            message,
-        } => {
+        What::Arrow { to, message, .. } => {
             let (from, tip) = (layout.lines[1 - to], layout.lines[*to]);
             let towards = if tip > from { 1.0 } else { -1.0 };
-            let colour = ink(*refused, if *message { BLUE } else { INK });
+            let colour = ink(if *message { BLUE } else { INK });
             let style = if *message { DOTTED } else { SOLID };
-            let end = tip - towards * 8.0;
-            svg.line((from + towards * 2.0, y), (end, y), colour, style);
-            svg.head(tip - towards, y, towards, colour);
             let pen = Pen::new(12.0, colour, Anchor::Middle);
-            let text = pen.fitted(text, LADDER - 16.0);
-            svg.write(layout.middle(), y - 7.0, pen, &text);
-            let pen = Pen::new(12.0, ink(*refused, PALE), Anchor::Middle);
-            let below = pen.fitted(below, LADDER - 16.0);
-            svg.write(layout.middle(), y + 16.0, pen, &below);
+            let next = write_lines(svg, middle, y + 11.0, pen, LINE, &lines.text);
+            let line = next - 8.0;
+            let end = tip - towards * 8.0;
+            svg.line((from + towards * 2.0, line), (end, line), colour, style);
+            svg.head(tip - towards, line, towards, colour);
+            let pen = below(Anchor::Middle);
+            write_lines(svg, middle, line + 16.0, pen, LINE, &lines.below);
         }
     }
+}
+
+/// The 64 units of the pool, those of each block given out in one frame.
+fn draw_pool(svg: &mut Svg, x: f64, y: f64, books: &Books) {
+    let unit = POOL / UNITS as f64;
+    svg.rectangle(x, y, POOL, POOL_HEIGHT, FREE);
+    for block in books.blocks() {
+        let end = (block.start + block.size).min(UNITS);
+        let (from, width) = (block.start as f64 * unit, (end - block.start) as f64 * unit);
+        svg.rectangle(x + from, y, width, POOL_HEIGHT, TAKEN);
+        svg.frame(x + from, y, width, POOL_HEIGHT, VIOLET, false);
+    }
+    let edges: Vec<f64> = (1..UNITS).map(|edge| x + edge as f64 * unit).collect();
+    svg.rules(&edges, y, y + POOL_HEIGHT, GRID);
+    svg.frame(x, y, POOL, POOL_HEIGHT, PALE, false);
 }
 
 /// A disc on an end's line, and where text beside it starts or ends.

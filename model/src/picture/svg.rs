@@ -1,7 +1,20 @@
 //! The marks of an SVG.
 
-/// The width of a letter at size 1, about right for the fonts named below.
-const LETTER: f64 = 0.6;
+/// The widths of letters at size 1 in thousandths, from the blank on; those of the first
+/// font named below.
+const WIDTHS: [u16; 95] = [
+    318, 401, 460, 838, 636, 950, 780, 275, 390, 390, 500, 838, 318, 361, 318,
+    337, // blank to /
+    636, 636, 636, 636, 636, 636, 636, 636, 636, 636, 337, 337, 838, 838, 838, 531, // 0 to ?
+    1000, 684, 686, 698, 770, 632, 575, 775, 752, 295, 295, 656, 557, 863, 748, 787, // @ to O
+    603, 787, 695, 635, 611, 732, 684, 989, 685, 611, 685, 390, 337, 390, 838, 500, // P to _
+    500, 613, 635, 550, 635, 615, 352, 635, 634, 278, 278, 579, 278, 974, 634, 612, // ` to o
+    635, 635, 411, 521, 392, 634, 592, 818, 592, 592, 525, 636, 337, 636, 838, // p to ~
+];
+/// Other signs, bold ones by how much they are wider, and those of one width.
+const OTHER_WIDTH: f64 = 0.84;
+const BOLD_WIDTH: f64 = 1.12;
+const FIXED_WIDTH: f64 = 0.602;
 const FONTS: &str = "DejaVu Sans, Verdana, sans-serif";
 const FIXED: &str = "DejaVu Sans Mono, Consolas, monospace";
 
@@ -51,29 +64,60 @@ impl Pen {
 
     /// About how wide a text comes out.
     pub fn width(&self, text: &str) -> f64 {
-        text.chars().count() as f64 * self.size * LETTER
+        let bold = if self.bold { BOLD_WIDTH } else { 1.0 };
+        let letter = |letter: char| {
+            if self.fixed {
+                return FIXED_WIDTH;
+            }
+            let place = (letter as usize).checked_sub(usize::from(b' '));
+            let width = place.and_then(|place| WIDTHS.get(place));
+            width.map_or(OTHER_WIDTH, |&width| f64::from(width) / 1000.0) * bold
+        };
+        text.chars().map(letter).sum::<f64>() * self.size
     }
 
-    /// Cuts a text that would be wider than there is room for.
-    pub fn fitted(&self, text: &str, room: f64) -> String {
-        if self.width(text) <= room {
-            return text.to_string();
+    /// Breaks a text into lines that fit: at blanks, and within a word that alone is
+    /// too wide. No text has no lines.
+    pub fn wrapped(&self, text: &str, room: f64) -> Vec<String> {
+        let mut lines: Vec<String> = Vec::new();
+        for word in text.split(' ').filter(|word| !word.is_empty()) {
+            if let Some(line) = lines.last_mut() {
+                let longer = format!("{line} {word}");
+                if self.width(&longer) <= room {
+                    *line = longer;
+                    continue;
+                }
+            }
+            let mut part = String::new();
+            for letter in word.chars() {
+                part.push(letter);
+                if part.chars().count() > 1 && self.width(&part) > room {
+                    part.pop();
+                    lines.push(part);
+                    part = letter.to_string();
+                }
+            }
+            lines.push(part);
         }
-        let most = (room / (self.size * LETTER)) as usize;
-        let kept: String = text.chars().take(most.saturating_sub(1)).collect();
-        format!("{}\u{2026}", kept.trim_end())
+        lines
     }
 }
 
 impl Svg {
-    pub fn new(width: f64, height: f64, paper: &str) -> Svg {
+    /// The title is what the picture is called, the description its words for those who
+    /// do not see it.
+    pub fn new(width: f64, height: f64, paper: &str, title: &str, description: &str) -> Svg {
         let mut svg = Svg {
             text: String::new(),
         };
         svg.add(&format!(
             "<svg xmlns=\"http://www.w3.org/2000/svg\" width=\"{width:.0}\" height=\"{height:.0}\" \
-             viewBox=\"0 0 {width:.0} {height:.0}\" font-family=\"{FONTS}\">"
+             viewBox=\"0 0 {width:.0} {height:.0}\" font-family=\"{FONTS}\" role=\"img\" \
+             aria-labelledby=\"title description\">"
         ));
+        svg.add(&format!("<title id=\"title\">{}</title>", escaped(title)));
+        let description = escaped(description);
+        svg.add(&format!("<desc id=\"description\">{description}</desc>"));
         svg.rectangle(0.0, 0.0, width, height, paper);
         svg
     }
