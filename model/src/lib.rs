@@ -12,6 +12,7 @@
 #![allow(clippy::needless_range_loop)]
 #![allow(clippy::large_enum_variant)]
 
+pub mod cast;
 pub mod clc;
 pub mod compare;
 pub mod count;
@@ -21,6 +22,7 @@ pub mod generate;
 pub mod links;
 pub mod llc;
 pub mod pair;
+pub mod pcap;
 pub mod picture;
 pub mod pool;
 pub mod random;
@@ -28,4 +30,5 @@ pub mod replay;
 pub mod setup;
 pub mod smcr;
 pub mod traces;
+pub mod walk;
 pub mod words;

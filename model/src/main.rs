@@ -5,7 +5,7 @@ use std::io::{self, BufReader, BufWriter, Read, Write};
 use std::process::ExitCode;
 
 use model::pair::{breaks, lists};
-use model::{compare, count, generate, picture, replay, traces};
+use model::{compare, count, generate, pcap, picture, replay, traces};
 
 const USAGE: &str = "\
 model run                                  answer the calls on standard input
@@ -15,7 +15,8 @@ model generate SEED orders [COUNT] FIRST SECOND [PERMUTATION]
 model count                                count what a list on standard input reaches
 model compare PROGRAM SECONDS [SEED]       compare a program with the model for so long
 model compare PROGRAM calls COUNT [SEED]   compare a program with the model over so many calls
-model picture                              draw a list with two ends as SVG
+model picture                              draw a list of calls as SVG
+model pcap                                 write the messages of a list as a capture (pcapng)
 model pair SECONDS [SEED]                  check what is read over lists of two groups for so long
 model pair --break PREMISE                 show what comes out without a premise
 model traces DIR                           write DIR/stdin and DIR/stdout
@@ -107,6 +108,12 @@ fn command(words: &[&str]) -> Result<ExitCode, Failure> {
         ["picture"] => {
             let svg = picture::picture(&standard_input()?);
             io::stdout().lock().write_all(svg.as_bytes())?;
+            Ok(ExitCode::SUCCESS)
+        }
+        ["pcap"] => {
+            let captured = pcap::capture(&standard_input()?);
+            io::stdout().lock().write_all(&captured.file)?;
+            eprint!("{}", captured.text());
             Ok(ExitCode::SUCCESS)
         }
         ["traces", directory] => {

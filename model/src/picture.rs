@@ -4,10 +4,9 @@
 //! the group, or one, whose peer is somewhere else. Every line of the list that
 //! is not skipped has its words in the picture, a line that does not parse too.
 //!
-//! Here is what is drawn; `cast` says who is at the sides, `tell` has the words,
-//! `draw` says how, and `svg` writes the marks.
+//! Here is what is drawn; `crate::cast` says who is at the sides, `tell` has the
+//! words, `draw` says how, and `svg` writes the marks.
 
-mod cast;
 mod draw;
 mod svg;
 mod tell;
@@ -16,12 +15,12 @@ use std::collections::BTreeSet;
 use std::ops::Range;
 use std::rc::Rc;
 
-use crate::links::{Exchange, Queue};
+use crate::cast::{self, Cast, Ends};
 use crate::pool::Books;
-use crate::replay::{lines, skipped, Answer, BadLine, Line, Replay};
+use crate::replay::{Answer, Line, Replay};
 use crate::smcr::*;
+use crate::walk::{walk, Before, Made};
 use crate::words::listed;
-use cast::{Cast, Ends};
 
 /// One thing to draw, from the top down.
 enum Row {
@@ -101,47 +100,6 @@ pub fn picture(input: &[u8]) -> String {
     draw::draw(&rows, &alternative(&rows))
 }
 
-/// What the calls may change beside the memory, as it was before one.
-struct Before {
-    table: Vec<Connection>,
-    links: [bool; LINKS],
-    exchange: Exchange,
-    queue: Queue,
-}
-
-/// A line of the list: skipped, one that does not parse, or a call with its answer.
-enum Made<'a> {
-    Skipped,
-    Bad(BadLine),
-    Call(&'a Line, &'a Answer),
-}
-
-/// Makes the calls of a list one after the other. `each` gets the line's place in
-/// the list, the line, what became of it, what was before and all that is after.
-fn replayed(input: &[u8], mut each: impl FnMut(usize, &[u8], Made, &Before, &Replay)) {
-    let mut replay = Replay::new();
-    for (place, line) in lines(input).into_iter().enumerate() {
-        let group = &replay.group;
-        let before = Before {
-            table: group.table.to_vec(),
-            links: group.links,
-            exchange: group.exchange,
-            queue: group.queue,
-        };
-        if skipped(line) {
-            each(place, line, Made::Skipped, &before, &replay);
-            continue;
-        }
-        match replay.parse(line) {
-            Ok(call) => {
-                let answer = replay.execute(&call);
-                each(place, line, Made::Call(&call, &answer), &before, &replay);
-            }
-            Err(reason) => each(place, line, Made::Bad(reason), &before, &replay),
-        }
-    }
-}
-
 /// What the picture knows while it goes through the list.
 struct Stage<'a> {
     cast: &'a Cast,
@@ -161,7 +119,7 @@ fn collect(input: &[u8], cast: &Cast) -> Vec<Row> {
         moved: BTreeSet::new(),
         elements: Vec::new(),
     };
-    replayed(input, |place, line, made, before, after| match made {
+    walk(input, |place, line, made, before, after| match made {
         Made::Skipped => {
             let text = String::from_utf8_lossy(line);
             let text = text.trim_start_matches('#').trim();

@@ -4,10 +4,10 @@
 
 use std::ops::Range;
 
-use super::cast::Ends;
 use super::svg::{Anchor, Pen, Svg};
 use super::tell::{pair, sign};
 use super::{name, Alternative, Row, Said, Shot, Step, What};
+use crate::cast::Ends;
 use crate::pool::{Books, UNITS};
 use crate::smcr::*;
 

@@ -2,8 +2,8 @@
 
 use std::collections::BTreeSet;
 
-use super::cast::{element_of, heard_at, Ends};
-use super::{side_of, Before, Said, What};
+use super::{side_of, Said, What};
+use crate::cast::{element_of, heard_at, Ends};
 use crate::clc::Clc;
 use crate::failover::{failover_message, tells};
 use crate::gauge::{Gauge, Health};
@@ -14,6 +14,7 @@ use crate::pool::Books;
 use crate::replay::{push_hex, Answer, BadLine, Line, Replay};
 use crate::setup::{Due, SetUp, Settings};
 use crate::smcr::*;
+use crate::walk::Before;
 use crate::words::{counted, kind_name, listed, refusal_words};
 
 /// The most bytes of a call that are quoted.

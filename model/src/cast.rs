@@ -1,11 +1,11 @@
-//! Who is at the sides of each line: the slot that it concerns and that slot's
-//! peer, where the peer is a slot of the group too.
+//! Who is at the two sides of each line of a list: the slot that it concerns and
+//! that slot's peer, where the peer is a slot of the group too.
 
 use std::collections::{BTreeMap, BTreeSet};
 
-use super::{replayed, Made};
 use crate::replay::Line;
 use crate::smcr::*;
+use crate::walk::{walk, Made};
 
 /// The slots at the left and at the right, counted from 0. Where the left one is
 /// missing, the peer is not in the group; without both, no slot is drawn.
@@ -30,11 +30,20 @@ struct Pair {
 pub struct Cast {
     ends: Vec<Ends>,
     seen: Vec<Seen>,
+    pairs: Vec<Pair>,
+    begun: Vec<Begun>,
+}
+
+/// A slot's connection begins at a line.
+struct Begun {
+    place: usize,
+    group: usize,
+    connection: (usize, usize),
 }
 
 impl Cast {
     pub fn of(input: &[u8]) -> Cast {
-        let (seen, pairs) = look(input);
+        let (seen, pairs, begun) = look(input);
         let mut ends = Vec::new();
         for place in 0..seen.len() {
             let now = match seen[place].concerns {
@@ -43,7 +52,22 @@ impl Cast {
             };
             ends.push(now);
         }
-        Cast { ends, seen }
+        Cast {
+            ends,
+            seen,
+            pairs,
+            begun,
+        }
+    }
+
+    /// The two ends of the connection that a slot has at a line, counted from 0.
+    pub fn ends_of(&self, place: usize, slot: usize) -> Ends {
+        let group = self.seen[place].group;
+        let until = self.begun.partition_point(|begun| begun.place <= place);
+        let fits = |begun: &&Begun| begun.group == group && begun.connection.0 == slot;
+        let number = self.begun[..until].iter().rev().find(fits);
+        let connection = number.map_or((slot, 0), |begun| begun.connection);
+        pair_of(&self.pairs, place, group, connection)
     }
 
     pub fn ends(&self, place: usize) -> Ends {
@@ -67,14 +91,15 @@ impl Cast {
 }
 
 /// What each line concerns, and which connections name each other.
-fn look(input: &[u8]) -> (Vec<Seen>, Vec<Pair>) {
+fn look(input: &[u8]) -> (Vec<Seen>, Vec<Pair>, Vec<Begun>) {
     let mut seen: Vec<Seen> = Vec::new();
     let mut pairs: Vec<Pair> = Vec::new();
+    let mut begun: Vec<Begun> = Vec::new();
     let mut group = 0;
     // How often each slot was opened or laid, and with whom it was last seen.
     let mut connections: Vec<usize> = Vec::new();
     let mut latest: BTreeMap<usize, [(usize, usize); 2]> = BTreeMap::new();
-    replayed(input, |place, _, made, before, after| {
+    walk(input, |place, _, made, before, after| {
         let table = &after.group.table;
         let mut concerns = None;
         if let Made::Call(call, answer) = made {
@@ -89,6 +114,11 @@ fn look(input: &[u8]) -> (Vec<Seen>, Vec<Pair>) {
             if let Some(index) = index {
                 if begins && answer.refusal().is_none() {
                     connections[index] += 1;
+                    begun.push(Begun {
+                        place,
+                        group,
+                        connection: (index, connections[index]),
+                    });
                 }
                 concerns = Some((index, connections[index]));
                 if let Some(mate) = mate(table, index) {
@@ -110,7 +140,7 @@ fn look(input: &[u8]) -> (Vec<Seen>, Vec<Pair>) {
             concerns,
         });
     });
-    (seen, pairs)
+    (seen, pairs, begun)
 }
 
 /// The slot that a call is made on, or whose element it looks at or lays.
