@@ -1,7 +1,9 @@
 //! The replay format: its example, what it skips, what does not parse, and what
 //! each line prints.
 
-use model::replay::answer_all;
+use std::collections::{BTreeMap, BTreeSet};
+
+use model::replay::{answer_all, WORDS};
 
 /// An index, and a key and a base for each link: an address is the offset.
 const AT: &str = "1 0 0 0 0 0 0 0 0";
@@ -283,4 +285,116 @@ fn the_plate_example() {
     let input = std::fs::read(format!("{folder}/plate.txt")).unwrap();
     let output = std::fs::read_to_string(format!("{folder}/plate.expected.txt")).unwrap();
     assert_eq!(String::from_utf8(answer_all(&input)).unwrap(), output);
+}
+
+const PAGE: &str = include_str!("../../docs/replay-format.md");
+
+/// The words of which a longer one on the page stands for: `NAME` in its block, then
+/// words, on lines indented further until the next name.
+fn longer_words() -> BTreeMap<String, Vec<String>> {
+    let block = PAGE.split("The longer words are\n").nth(1).unwrap();
+    let mut names: BTreeMap<String, Vec<String>> = BTreeMap::new();
+    let mut name = String::new();
+    let lines = block.lines().skip(1);
+    for line in lines.take_while(|line| line.starts_with("    ")) {
+        let mut words = line.split_whitespace();
+        if !line.starts_with("     ") {
+            name = words.next().unwrap().to_string();
+        }
+        names
+            .entry(name.clone())
+            .or_default()
+            .extend(words.map(str::to_string));
+    }
+    names
+}
+
+/// The page's first table has just the lines that parse, with their counts of words.
+#[test]
+fn the_page_has_every_line() {
+    let longer = longer_words();
+    assert_eq!(longer.len(), 3);
+    let table = PAGE.split("## Output").next().unwrap();
+    let mut said: BTreeMap<String, BTreeSet<usize>> = BTreeMap::new();
+    let rows = table.lines().filter(|line| line.starts_with("| `"));
+    for row in rows {
+        let form = row.split('`').nth(1).unwrap();
+        let mut words = form.split(' ');
+        let first = words.next().unwrap();
+        let mut counts = BTreeSet::from([1]);
+        for word in words {
+            let more = longer.get(word).map_or(1, Vec::len);
+            let longer: BTreeSet<usize> = counts.iter().map(|count| count + more).collect();
+            if word.starts_with('[') {
+                counts.extend(longer);
+            } else {
+                counts = longer;
+            }
+        }
+        assert_eq!(said.insert(first.to_string(), counts), None, "{first}");
+    }
+    let parsed: BTreeMap<String, BTreeSet<usize>> = WORDS
+        .iter()
+        .map(|(word, counts)| (word.to_string(), counts.iter().copied().collect()))
+        .collect();
+    assert_eq!(said, parsed);
+}
+
+/// What the page says that its examples print is what they print.
+#[test]
+fn the_page_has_the_answers() {
+    let examples = PAGE.split("## Examples").nth(1).unwrap();
+    let mut blocks: Vec<String> = Vec::new();
+    let mut inside = false;
+    for line in examples.lines() {
+        match line.strip_prefix("    ") {
+            Some(code) if inside => blocks.last_mut().unwrap().push_str(&format!("{code}\n")),
+            Some(code) => blocks.push(format!("{code}\n")),
+            None => {}
+        }
+        inside = line.starts_with("    ");
+    }
+    assert_eq!(blocks.len(), 6);
+    for pair in blocks.chunks(2) {
+        let printed = String::from_utf8(answer_all(pair[0].as_bytes())).unwrap();
+        assert_eq!(printed, pair[1]);
+    }
+}
+
+/// Every kind of line prints as the page's table says: its own word first.
+#[test]
+fn every_line_prints_its_word() {
+    let list = include_str!("../../examples/every.txt");
+    let mut printed: BTreeSet<String> = BTreeSet::new();
+    let mut replay = model::replay::Replay::new();
+    for line in list.lines().filter(|line| !line.starts_with('#')) {
+        let mut out = Vec::new();
+        replay.answer_line(line.as_bytes(), &mut out);
+        let answer = String::from_utf8(out).unwrap();
+        let first = |text: &str| text.split([' ', '\n']).next().unwrap().to_string();
+        let (word, begins) = (first(line), first(&answer));
+        let expected = match word.as_str() {
+            "table" => "slot",
+            word => word,
+        };
+        let other = match word.as_str() {
+            "close" => begins == "reset",
+            "read" => begins == "torn",
+            "noise" => answer == "bad line\n",
+            _ => false,
+        };
+        assert!(
+            begins == expected || begins == "refused" || other,
+            "{line}: {answer}"
+        );
+        if begins != "refused" {
+            printed.insert(word);
+        }
+    }
+    for (word, _) in WORDS {
+        assert!(
+            printed.contains(*word),
+            "{word} is refused wherever it stands"
+        );
+    }
 }

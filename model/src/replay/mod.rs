@@ -8,7 +8,7 @@ mod parse;
 mod print;
 
 pub use line::{Answer, BadLine, Line};
-pub use parse::{marks, set_marks, skipped};
+pub use parse::{marks, set_marks, skipped, WORDS};
 pub use print::{print_line, push_hex};
 
 use crate::clc::Clc;

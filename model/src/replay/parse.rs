@@ -106,7 +106,7 @@ fn gauged_link(word: &[u8]) -> Result<u8, BadLine> {
 }
 
 /// The first words, and how many words a line may have, the first included.
-const WORDS: &[(&str, &[usize])] = &[
+pub const WORDS: &[(&str, &[usize])] = &[
     ("group", &[4, 5]),
     ("open", &[15]),
     ("free", &[2]),
