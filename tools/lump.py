@@ -50,6 +50,11 @@ def deps():
     return found
 
 
+def shared(saved, to):
+    """What was saved, for one more run: the prover puts a new file in the place of an old one, so the files can be links."""
+    shutil.copytree(saved, to, copy_function=os.link)
+
+
 class Tree:
     """The crates as the check sees them: each by its folder."""
 
