@@ -6,7 +6,7 @@ use mathlib.Core.Bool.{Bool, true, false, cond}
 use native.Mathlib.Omega.{arith}
 use lib.Dec.{eqb}
 use borrow.Author.Tests.{ne-eqb, le-leb, lt-leb}
-use Rattle.llc.specs.Llc.{between, classOf}
+use Rattle.llc.specs.Llc.{classOf}
 use Rattle.llcfields.specs.Layouts.{codeOf, kindOf, namedB, KindsNamed}
 
 far : (x : ℕ) → 10 ≤ x → eqb (codeOf (kindOf x)) x ≡ eqb (classOf x) 1
@@ -25,7 +25,7 @@ far x h =
       lt-leb x 4 (omega arith),
       lt-leb x 9 (omega arith),
     )
-    (ne-eqb 9 x (λ e. omega (arith, e)) ∙ go (eqb x 0xFE) (between 0x80 0xBF x))
+    (ne-eqb 9 x (λ e. omega (arith, e)) ∙ search go)
   where
     go : (f o : Bool) → false ≡ eqb (cond f 2 (cond o 3 0)) 1
     go true o = refl

@@ -1,22 +1,25 @@
 -- Request 2026-05, "Proved", of the call.
 -- Assumes nothing.
-use Prim.Native.Nat.{ℕ, suc, _≤_, _<_}
-use mathlib.Core.Path.{_≡_, _∙_, refl, ap}
+use Prim.Native.Nat.{ℕ, suc, _/_, _≤_, _<_}
+use mathlib.Core.Path.{_≡_, _∙_, refl, ap, sym, subst}
 use mathlib.Core.Logic.{_⊎_, inl, inr}
 use mathlib.Core.Bool.{Bool, true, false, _&&_, cond}
-use mathlib.Core.List.{List}
+use mathlib.Core.List.{List, []}
 use native.Mathlib.Omega.{arith}
+use lib.ListN.{length}
 use lib.Dec.{eqb, leb}
-use borrow.Author.Tests.{ne-eqb, le-leb, leb-true, leb-false, eqb-false}
+use Rattle.layout.specs.Layout.{numberAt}
+use borrow.Author.Tests.{ne-eqb, le-leb, leb-true, leb-false, eqb-true, eqb-false}
 use Rattle.layout.proofs.Bits.{and-left, and-right}
 use Rattle.clc.specs.declared.Kind.{Kind}
 use Rattle.clc.specs.declared.Kind.the-variants.{Nothing, Proposal, Accept, Confirm, Decline}
 use Rattle.clc.specs.declared.Message.{Message}
 use Rattle.clc.specs.Codes.{bytesOfCode, codeOf, noCode}
-use Rattle.clc.specs.Clc.{typeOf, kindIn, messageOf, readOf, tidyOf}
-use Rattle.clc.specs.Places.{declineAt}
+use Rattle.clc.specs.Clc.{typeOf, beginsB, messageB, kindOf, kindIn, messageOf, messageIn, readOf, tidyOf}
+use Rattle.clc.specs.Places.{declineAt, endpointAt}
 use Rattle.clc.proofs.Codes.{code-most, size-back, small}
-use Rattle.clc.proofs.Messages.{decline-of}
+use Rattle.clc.proofs.Messages.{is-message, endpoint-size, kind-in, kind-none, read-kind, decline-of}
+use Rattle.clc.proofs.Reading.{accept-read, confirm-read}
 use Rattle.setup.specs.declared.Settings.{Settings}
 use Rattle.setup.specs.declared.Due.{Due}
 use Rattle.setup.specs.declared.Arguments.{Arguments}
@@ -28,9 +31,13 @@ use Rattle.setup.specs.declared.Answer.{Answer}
 use Rattle.setup.specs.Setup.{dueType, ourProposal, ours, ourAccept, ourConfirm, ourDecline, argumentsOf, silent, saying, plain}
 use Rattle.setup.specs.Setup.{opens, declines, takenB, answeredOf, heardOf, setupOf}
 use Rattle.setup.specs.Statements.{Typed, said, Says, StartEqual, HeardDecline, EveryMessage, first, second, third, fourth}
-use Rattle.setup.specs.Statements.{openedWith, Exchange, ServerDeclined, ClientDeclined}
+use Rattle.setup.specs.Statements.{AnswersDue, TooLarge, Declined, openedWith, Exchange, ServerDeclined, ClientDeclined}
 use Rattle.setup.proofs.Ours.{Fine, accept-fine, confirm-fine, decline-fine, proposal-fine, say-back, say-kind, says, accept-tidy}
 use Rattle.setup.proofs.Ours.{confirm-tidy, decline-tidy}
+
+proposal-type : (s : Settings) → typeOf (ourProposal s .kind) < 4
+unfolding ourProposal
+proposal-type s = omega arith
 
 pub start-equal : StartEqual
 unfolding setupOf
@@ -230,45 +237,55 @@ client-declined c s l tc ts low high ks =
     heard-of-confirm c s l tc ts hc hs ks ∙ heard-large-confirm s (ourConfirm c) refl (taken-large (codeOf (c .size)) low) in
     record { declined = said-kind _ (ourDecline s) _ (decline-fine s ts) e4; server = said-outcome _ (ourDecline s) _ e4 }
 
--- every message answered is one of ours
-abbrev One : Settings → Answer → Type 0
-One s a = (a .count ≡ 0) ⊎ (Says a (ourProposal s) ⊎ (Says a (ourAccept s) ⊎ (Says a (ourConfirm s) ⊎ Says a (ourDecline s))))
+-- every message answered is one of ours, by what is due
+abbrev One : Settings → Due → Answer → Type 0
+One s due a = (a .count ≡ 0) ⊎ AnswersDue s due a
 
-either : (s : Settings) (t : Bool) (a b : Answer) → One s a → One s b → One s (cond t a b)
-either s true a b x y = x
-either s false a b x y = y
+either : (s : Settings) (due : Due) (t : Bool) (a b : Answer) → One s due a → One s due b → One s due (cond t a b)
+either s due true a b x y = x
+either s due false a b x y = y
 
-none-said : (s : Settings) (o : Outcome) → One s (silent o)
+none-said : (s : Settings) (due : Due) (o : Outcome) → One s due (silent o)
 unfolding silent
-none-said s o = inl refl
+none-said s due o = inl refl
 
 module _ (s : Settings) (t : Typed s) (h : codeOf (s .size) < noCode) where
-  proposal-said : (o : Outcome) → One s (saying (ourProposal s) o)
-  proposal-said o = let p = proposal-fine s t in inr (inl (says (ourProposal s) (p .fit) (p .short) o))
+  proposal-said : (o : Outcome) → Says (saying (ourProposal s) o) (ourProposal s)
+  proposal-said o = let p = proposal-fine s t in says (ourProposal s) (p .fit) (p .short) o
 
-  accept-said : (o : Outcome) → One s (saying (ourAccept s) o)
-  accept-said o = let p = accept-fine s t h in inr (inr (inl (says (ourAccept s) (p .fit) (p .short) o)))
+  accept-said : (o : Outcome) → Says (saying (ourAccept s) o) (ourAccept s)
+  accept-said o = let p = accept-fine s t h in says (ourAccept s) (p .fit) (p .short) o
 
-  confirm-said : (o : Outcome) → One s (saying (ourConfirm s) o)
-  confirm-said o = let p = confirm-fine s t h in inr (inr (inr (inl (says (ourConfirm s) (p .fit) (p .short) o))))
+  confirm-said : (o : Outcome) → Says (saying (ourConfirm s) o) (ourConfirm s)
+  confirm-said o = let p = confirm-fine s t h in says (ourConfirm s) (p .fit) (p .short) o
 
-  decline-said : (o : Outcome) → One s (saying (ourDecline s) o)
-  decline-said o = let p = decline-fine s t in inr (inr (inr (inr (says (ourDecline s) (p .fit) (p .short) o))))
+  pub decline-said : (o : Outcome) → Says (saying (ourDecline s) o) (ourDecline s)
+  decline-said o = let p = decline-fine s t in says (ourDecline s) (p .fit) (p .short) o
 
-  answered-said : (m : Message) (d : ℕ) → One s (answeredOf s m d)
+  answered-said : (due : Due) (m : Message) → 1 ≤ dueType due → One s due (answeredOf s m (dueType due))
   unfolding answeredOf
-  answered-said m d =
-      either s (eqb d 1) _ _ (accept-said plain)
-      (either s (takenB (m .code)) _ _
-      (either s (eqb d 2) _ _ (confirm-said (opens s m)) (none-said s (opens s m)))
-      (decline-said (declines 1)))
+  answered-said Due.Nothing m g = absurd (omega arith)
+  answered-said Due.Proposal m g = inr (accept-said plain)
+  answered-said Due.Accept m g =
+      either s Due.Accept (takenB (m .code)) _ _ (inr (inl (confirm-said (opens s m)))) (inr (inr (decline-said (declines 1))))
+  answered-said Due.Confirm m g =
+      either s Due.Confirm (takenB (m .code)) _ _ (none-said s Due.Confirm (opens s m)) (inr (decline-said (declines 1)))
 
-  heard-said : (d : ℕ) (m : Message) → One s (heardOf s d m)
+  heard-said : (due : Due) (m : Message) → 1 ≤ dueType due → One s due (heardOf s (dueType due) m)
   unfolding heardOf
-  heard-said d m =
-      either s (eqb (typeOf (m .kind)) 0) _ _ (none-said s (Refused 2))
-      (either s (eqb (typeOf (m .kind)) 4) _ _ (none-said s (declines (m .diagnosis)))
-      (either s (eqb (typeOf (m .kind)) d) _ _ (answered-said m d) (none-said s (Refused 3))))
+  heard-said due m g =
+      either s due (eqb (typeOf (m .kind)) 0) _ _ (none-said s due (Refused 2))
+      (either s due (eqb (typeOf (m .kind)) 4) _ _ (none-said s due (declines (m .diagnosis)))
+      (either s due (eqb (typeOf (m .kind)) (dueType due)) _ _ (answered-said due m g) (none-said s due (Refused 3))))
+
+  due-said : (due : Due) (l : List ℕ) → One s due (setupOf s due l)
+  due-said Due.Nothing l = subst (One s Due.Nothing) (sym (start-is s h l)) (inr (proposal-said plain))
+  due-said Due.Proposal l =
+      subst (One s Due.Proposal) (sym (hears s h l Due.Proposal (omega arith))) (heard-said Due.Proposal (readOf l) (omega arith))
+  due-said Due.Accept l =
+      subst (One s Due.Accept) (sym (hears s h l Due.Accept (omega arith))) (heard-said Due.Accept (readOf l) (omega arith))
+  due-said Due.Confirm l =
+      subst (One s Due.Confirm) (sym (hears s h l Due.Confirm (omega arith))) (heard-said Due.Confirm (readOf l) (omega arith))
 
 below : (n : ℕ) → n ≤ noCode → eqb n noCode ≡ false → n < noCode
 below n h e = let ne : n ≡ noCode → ⊥ = eqb-false n noCode e in go (leb (suc n) noCode) refl ne
@@ -277,15 +294,182 @@ below n h e = let ne : n ≡ noCode → ⊥ = eqb-false n noCode e in go (leb (s
     go true f ne = leb-true (suc n) noCode f
     go false f ne = absurd (ne (omega (arith, leb-false (suc n) noCode f)))
 
-pub every-message : EveryMessage
+uncoded : (s : Settings) (due : Due) (l : List ℕ) → eqb (codeOf (s .size)) noCode ≡ true → setupOf s due l ≡ silent (Refused 1)
 unfolding setupOf
-every-message s due l t = go (eqb (codeOf (s .size)) noCode) refl
-  where
-    rest : Answer
-    rest = cond (eqb (dueType due) 0) (saying (ourProposal s) plain) (heardOf s (dueType due) (readOf l))
+uncoded s due l e = simp e
 
-    go : (b : Bool) → eqb (codeOf (s .size)) noCode ≡ b → One s (cond b (silent (Refused 1)) rest)
-    go true e = none-said s (Refused 1)
-    go false e =
-        let h : codeOf (s .size) < noCode = below (codeOf (s .size)) (code-most (s .size)) e in
-        either s (eqb (dueType due) 0) _ _ (proposal-said s t h plain) (heard-said s t h (dueType due) (readOf l))
+-- N has no code, or one
+pub by-code : (s : Settings) (due : Due) (l : List ℕ) → (setupOf s due l ≡ silent (Refused 1)) ⊎ (codeOf (s .size) < noCode)
+by-code s due l = go (eqb (codeOf (s .size)) noCode) refl
+  where
+    go : (b : Bool) → eqb (codeOf (s .size)) noCode ≡ b → (setupOf s due l ≡ silent (Refused 1)) ⊎ (codeOf (s .size) < noCode)
+    go true e = inl (uncoded s due l e)
+    go false e = inr (below (codeOf (s .size)) (code-most (s .size)) e)
+
+pub every-message : EveryMessage
+every-message s due l t = go (by-code s due l)
+  where
+    go : (setupOf s due l ≡ silent (Refused 1)) ⊎ (codeOf (s .size) < noCode) → One s due (setupOf s due l)
+    go (inl e) = subst (One s due) (sym e) (none-said s due (Refused 1))
+    go (inr h) = due-said s t h due l
+
+-- DECLINED BY US EXACTLY WHEN
+clash : {A : Type 0} (x y : Kind) → typeOf x < typeOf y → x ≡ y → A
+clash x y h e = absurd (omega (arith, h, ap typeOf e))
+
+-- what is read of an Accept or a Confirm
+endpoint-code : (l : List ℕ) (k : Kind) → 2 ≤ typeOf k → typeOf k ≤ 3 → kindIn l ≡ k → readOf l .code ≡ numberAt l 50 1 / 16
+unfolding kindOf endpointAt
+endpoint-code l k low high e = go (messageB l) refl
+  where
+    typed : (t : ℕ) → kindOf t ≡ k → (t ≡ 1 → ⊥) × (t ≡ 4 → ⊥)
+    typed t c = ((λ one. absurd (omega (arith, low, ap typeOf (sym c ∙ ap kindOf one)))), (λ four. absurd (omega (arith, high, ap typeOf (sym c ∙ ap kindOf four)))))
+
+    read : (j : Kind) → j ≡ k → length l ≡ 68 → kindIn l ≡ j → readOf l .code ≡ numberAt l 50 1 / 16
+    read Nothing c n i = absurd (omega (arith, low, ap typeOf c))
+    read Proposal c n i = absurd (omega (arith, low, ap typeOf c))
+    read Accept c n i = ap (λ (m : Message). m .code) (read-kind l Accept i ∙ accept-read l (omega (arith, n)))
+    read Confirm c n i = ap (λ (m : Message). m .code) (read-kind l Confirm i ∙ confirm-read l (omega (arith, n)))
+    read Decline c n i = absurd (omega (arith, high, ap typeOf c))
+
+    go : (b : Bool) → messageB l ≡ b → readOf l .code ≡ numberAt l 50 1 / 16
+    go true m =
+        let c = sym (kind-in l (numberAt l 4 1) m refl) ∙ e in
+        let n = typed (numberAt l 4 1) c in
+        read k refl (endpoint-size l (is-message l m .sized) (n .0) (n .1)) e
+    go false m = absurd (omega (arith, low, ap typeOf (sym (kind-none l m) ∙ e)))
+
+read-type : (l : List ℕ) → readOf l .kind ≡ kindIn l
+unfolding readOf messageIn messageOf
+read-type l = refl
+
+no-bytes : messageB [] ≡ false
+unfolding messageB beginsB
+no-bytes = refl
+
+silent-kind : (o : Outcome) → kindIn (said (silent o)) ≡ Nothing
+unfolding silent
+silent-kind o = kind-none [] no-bytes
+
+module _ (s : Settings) (due : Due) (l : List ℕ) (t : Typed s) where
+  -- then it is a Decline
+  declined-is : TooLarge s due l → setupOf s due l ≡ saying (ourDecline s) (declines 1)
+  declined-is x = go (x .heard)
+    where
+      go : ((due ≡ Due.Accept) × (kindIn l ≡ Accept)) ⊎ ((due ≡ Due.Confirm) × (kindIn l ≡ Confirm))
+          → setupOf s due l ≡ saying (ourDecline s) (declines 1)
+      go (inl a) =
+          let c = endpoint-code l Accept (omega arith) (omega arith) (a .1) in
+          ap (λ (d : Due). setupOf s d l) (a .0)
+          ∙ hears s (x .coded) l Due.Accept (omega arith)
+          ∙ heard-large-accept s (readOf l) (read-type l ∙ a .1) (taken-large (readOf l .code) (omega (arith, c, x .code)))
+      go (inr a) =
+          let c = endpoint-code l Confirm (omega arith) (omega arith) (a .1) in
+          ap (λ (d : Due). setupOf s d l) (a .0)
+          ∙ hears s (x .coded) l Due.Confirm (omega arith)
+          ∙ heard-large-confirm s (readOf l) (read-type l ∙ a .1) (taken-large (readOf l .code) (omega (arith, c, x .code)))
+
+  -- a Decline comes of nothing else
+  not-silent : {A : Type 0} (o : Outcome) → kindIn (said (silent o)) ≡ Decline → A
+  not-silent o e = clash Nothing Decline (omega arith) (sym (silent-kind o) ∙ e)
+
+  not-said : {A : Type 0} (m : Message) (o : Outcome) → Fine m → typeOf (m .kind) < 4 → kindIn (said (saying m o)) ≡ Decline → A
+  not-said m o p h e = absurd (omega (arith, h, ap typeOf (sym (say-kind m (p .fit) (p .short) o) ∙ e)))
+
+  module _ (h : codeOf (s .size) < noCode) where
+    tested : (m : Message) (d : ℕ) (none declined due-is one taken two : Bool)
+        → kindIn
+        (said
+        (cond none (silent (Refused 2))
+        (cond declined (silent (declines (m .diagnosis)))
+        (cond due-is
+        (cond one (saying (ourAccept s) plain)
+        (cond taken (cond two (saying (ourConfirm s) (opens s m)) (silent (opens s m))) (saying (ourDecline s) (declines 1))))
+        (silent (Refused 3))))))
+        ≡ Decline
+        → (due-is ≡ true) × (one ≡ false) × (taken ≡ false)
+    unfolding ours
+    tested m d true b c e f g x = not-silent _ x
+    tested m d false true c e f g x = not-silent _ x
+    tested m d false false false e f g x = not-silent _ x
+    tested m d false false true true f g x = not-said (ourAccept s) _ (accept-fine s t h) (omega arith) x
+    tested m d false false true false true true x = not-said (ourConfirm s) _ (confirm-fine s t h) (omega arith) x
+    tested m d false false true false true false x = not-silent _ x
+    tested m d false false true false false g x = (refl, refl, refl)
+
+    by-tests : (d : ℕ) (m : Message) → kindIn (said (heardOf s d m)) ≡ Decline
+        → (eqb (typeOf (m .kind)) d ≡ true) × (eqb d 1 ≡ false) × (takenB (m .code) ≡ false)
+    unfolding heardOf answeredOf
+    by-tests d m x =
+        tested m d (eqb (typeOf (m .kind)) 0) (eqb (typeOf (m .kind)) 4) (eqb (typeOf (m .kind)) d) (eqb d 1) (takenB (m .code)) (eqb d 2) x
+
+    large : (c : ℕ) → takenB c ≡ false → 3 ≤ c
+    large c e = go (leb 3 c) refl
+      where
+        go : (b : Bool) → leb 3 c ≡ b → 3 ≤ c
+        go true f = leb-true 3 c f
+        go false f = let u : true ≡ false = sym (taken-small c (omega (arith, leb-false 3 c f))) ∙ e in let z : _≡_ {A = ℕ} 0 1 = cc in absurd (omega arith)
+
+    kind-of : (k j : Kind) → eqb (typeOf k) (typeOf j) ≡ true → 2 ≤ typeOf j → typeOf j ≤ 3 → k ≡ j
+    kind-of k j e a b = go k j (eqb-true (typeOf k) (typeOf j) e) a b
+      where
+        go : (k j : Kind) → typeOf k ≡ typeOf j → 2 ≤ typeOf j → typeOf j ≤ 3 → k ≡ j
+        go Accept Accept e a b = refl
+        go Confirm Confirm e a b = refl
+        go Nothing j e a b = absurd (omega (arith, e, a))
+        go Proposal j e a b = absurd (omega (arith, e, a))
+        go Decline j e a b = absurd (omega (arith, e, b))
+        go Accept Nothing e a b = absurd (omega (arith, e))
+        go Accept Proposal e a b = absurd (omega (arith, e))
+        go Accept Confirm e a b = absurd (omega (arith, e))
+        go Accept Decline e a b = absurd (omega (arith, e))
+        go Confirm Nothing e a b = absurd (omega (arith, e))
+        go Confirm Proposal e a b = absurd (omega (arith, e))
+        go Confirm Accept e a b = absurd (omega (arith, e))
+        go Confirm Decline e a b = absurd (omega (arith, e))
+
+    -- of an Accept or a Confirm that was due
+    of-due : (j : Kind) → 2 ≤ typeOf j → typeOf j ≤ 3 → kindIn (said (heardOf s (typeOf j) (readOf l))) ≡ Decline
+        → (kindIn l ≡ j) × (3 ≤ numberAt l 50 1 / 16)
+    of-due j a b x =
+        let y = by-tests (typeOf j) (readOf l) x in
+        let k = kind-of (kindIn l) j (ap (λ (k : Kind). eqb (typeOf k) (typeOf j)) (sym (read-type l)) ∙ y .0) a b in
+        let c = endpoint-code l j a b k in
+        (k, omega (arith, c, large (readOf l .code) (y .2)))
+
+  from-decline : kindIn (said (setupOf s due l)) ≡ Decline → TooLarge s due l
+  from-decline x = go (by-code s due l)
+    where
+      by-due : (h : codeOf (s .size) < noCode) (d : Due) → due ≡ d → kindIn (said (setupOf s d l)) ≡ Decline → TooLarge s due l
+      by-due h Due.Nothing e y =
+          let z = ap (λ (a : Answer). kindIn (said a)) (sym (start-is s h l)) ∙ y in
+          not-said (ourProposal s) plain (proposal-fine s t) (proposal-type s) z
+      by-due h Due.Proposal e y =
+          let z = ap (λ (a : Answer). kindIn (said a)) (sym (hears s h l Due.Proposal (omega arith))) ∙ y in
+          let u : true ≡ false = by-tests h 1 (readOf l) z .1 in
+          let n : _≡_ {A = ℕ} 0 1 = cc in
+          absurd (omega arith)
+      by-due h Due.Accept e y =
+          let z = ap (λ (a : Answer). kindIn (said a)) (sym (hears s h l Due.Accept (omega arith))) ∙ y in
+          let r = of-due h Accept (omega arith) (omega arith) z in
+          record { coded = h; heard = inl (e, r .0); code = r .1 }
+      by-due h Due.Confirm e y =
+          let z = ap (λ (a : Answer). kindIn (said a)) (sym (hears s h l Due.Confirm (omega arith))) ∙ y in
+          let r = of-due h Confirm (omega arith) (omega arith) z in
+          record { coded = h; heard = inr (e, r .0); code = r .1 }
+
+      go : (setupOf s due l ≡ silent (Refused 1)) ⊎ (codeOf (s .size) < noCode) → TooLarge s due l
+      go (inl e) = not-silent (Refused 1) (ap (λ (a : Answer). kindIn (said a)) (sym e) ∙ x)
+      go (inr h) = by-due h due refl x
+
+pub declined : Declined
+unfolding ourDecline
+declined s due l t =
+    record {
+      exactly = (from-decline s due l t, (λ x. said-kind _ (ourDecline s) _ (decline-fine s t) (declined-is s due l t x)));
+      so =
+          λ x. (
+            said-outcome _ (ourDecline s) _ (declined-is s due l t x),
+            subst (λ (a : Answer). Says a (ourDecline s)) (sym (declined-is s due l t x)) (decline-said s t (x .coded) (declines 1)),
+          );
+    }

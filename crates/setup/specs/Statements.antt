@@ -1,8 +1,8 @@
 -- Request 2026-05, "Proved": the claims about the call; proofs/Theorems proves them.
 -- Assumes nothing.
-use Prim.Native.Nat.{ℕ, _-_, _≤_, _<_}
+use Prim.Native.Nat.{ℕ, _-_, _/_, _≤_, _<_}
 use mathlib.Core.Path.{_≡_}
-use mathlib.Core.Logic.{_⊎_}
+use mathlib.Core.Logic.{_⊎_, _↔_}
 use mathlib.Core.Bool.{true, cond}
 use mathlib.Core.List.{List}
 use lib.ListN.{length, take, drop}
@@ -16,8 +16,8 @@ use Rattle.clc.specs.Places.{zeros}
 use Rattle.setup.specs.declared.Settings.{Settings}
 use Rattle.setup.specs.declared.Due.{Due}
 use Rattle.setup.specs.declared.Arguments.{Arguments}
-use Rattle.setup.specs.declared.Opening.the-variants.{Open}
-use Rattle.setup.specs.declared.Diagnosis.the-variants.{NoDiagnosis}
+use Rattle.setup.specs.declared.Opening.the-variants.{NoOpen, Open}
+use Rattle.setup.specs.declared.Diagnosis.the-variants.{NoDiagnosis, Number}
 use Rattle.setup.specs.declared.Outcome.the-variants.{Answered}
 use Rattle.setup.specs.declared.Answer.{Answer}
 use Rattle.setup.specs.Setup.{dueType, ourProposal, ourAccept, ourConfirm, ourDecline, silent, plain, declines, setupOf}
@@ -62,11 +62,34 @@ pub record Says (a : Answer) (m : Message) : Type 0 where
   pub one : messageB (said a) ≡ true
   pub back : readOf (said a) ≡ tidyOf m
 
+-- column "message" by what is due: none, our Proposal; a Proposal, our Accept; an Accept, our Confirm or Decline; a Confirm, our Decline
+abbrev pub AnswersDue : Settings → Due → Answer → Type 0
+AnswersDue s Due.Nothing a = Says a (ourProposal s)
+AnswersDue s Due.Proposal a = Says a (ourAccept s)
+AnswersDue s Due.Accept a = Says a (ourConfirm s) ⊎ Says a (ourDecline s)
+AnswersDue s Due.Confirm a = Says a (ourDecline s)
+
 abbrev pub EveryMessage : Type 0
 EveryMessage =
     (s : Settings) (due : Due) (l : List ℕ) → Typed s
     → let a = setupOf s due l in
-    (a .count ≡ 0) ⊎ (Says a (ourProposal s) ⊎ (Says a (ourAccept s) ⊎ (Says a (ourConfirm s) ⊎ Says a (ourDecline s))))
+    (a .count ≡ 0) ⊎ AnswersDue s due a
+
+-- "A CODE FROM THE PEER THAT MEANS MORE THAN 65,540 BYTES, OR NOTHING, IS DECLINED WITH DIAGNOSIS 1, AND NOTHING ELSE IS": N has a code, the
+-- Accept or Confirm that is due is heard, and its code, the high half of byte 50, is 3 or more (3 to 5 mean 131,072 bytes and more, 6 to
+-- 15 nothing)
+pub record TooLarge (s : Settings) (due : Due) (l : List ℕ) : Type 0 where
+  pub coded : codeOf (s .size) < noCode
+  pub heard : ((due ≡ Due.Accept) × (kindIn l ≡ Accept)) ⊎ ((due ≡ Due.Confirm) × (kindIn l ≡ Confirm))
+  pub code : 3 ≤ numberAt l 50 1 / 16
+
+-- exactly then the message answered is a Decline, and then it is ours with diagnosis 1, and there is no open
+pub record DeclinedBy (s : Settings) (due : Due) (l : List ℕ) : Type 0 where
+  pub exactly : (kindIn (said (setupOf s due l)) ≡ Decline) ↔ TooLarge s due l
+  pub so : TooLarge s due l → (setupOf s due l .outcome ≡ Answered NoOpen (Number 1)) × Says (setupOf s due l) (ourDecline s)
+
+abbrev pub Declined : Type 0
+Declined = (s : Settings) (due : Due) (l : List ℕ) → Typed s → DeclinedBy s due l
 
 -- "THE EXCHANGE": c begins; each end hears what the other answered last
 unfoldable pub first : Settings → List ℕ → Answer

@@ -1,0 +1,1 @@
+// Definitions and theorems only: worked rows of the pool's books.
