@@ -1,25 +1,30 @@
 //! `model`: the commands.
 
 use std::fs;
-use std::io::{self, BufReader, BufWriter, Read, Write};
+use std::io::{self, BufReader, BufWriter, IsTerminal, Read, Write};
 use std::process::ExitCode;
 
 use model::pair::{breaks, lists};
 use model::{compare, count, generate, pcap, picture, replay, traces};
 
 const USAGE: &str = "\
+How the model is used:
+
 model run                                  answer the calls on standard input
+model picture                              draw the list on standard input as SVG
+model pcap                                 write its messages as a capture (pcapng) for Wireshark
+model count                                count what the list on standard input reaches
 model generate SEED KIND [COUNT]           write a list of calls: traffic, hostile or exhaust
 model generate SEED orders [COUNT] FIRST SECOND [PERMUTATION]
                                            write two allowed orders of one list
-model count                                count what a list on standard input reaches
 model compare PROGRAM SECONDS [SEED]       compare a program with the model for so long
 model compare PROGRAM calls COUNT [SEED]   compare a program with the model over so many calls
-model picture                              draw a list of calls as SVG
-model pcap                                 write the messages of a list as a capture (pcapng)
 model pair SECONDS [SEED]                  check what is read over lists of two groups for so long
 model pair --break PREMISE                 show what comes out without a premise
 model traces DIR                           write DIR/stdin and DIR/stdout
+model help                                 print this
+
+Lists are in the replay format: docs/replay-format.md.
 ";
 
 fn main() -> ExitCode {
@@ -27,8 +32,8 @@ fn main() -> ExitCode {
     let words: Vec<&str> = arguments.iter().map(String::as_str).collect();
     match command(&words) {
         Ok(code) => code,
-        Err(Failure::Usage) => {
-            eprint!("{USAGE}");
+        Err(Failure::Usage(why)) => {
+            eprint!("model: {why}\n\n{USAGE}");
             ExitCode::from(2)
         }
         Err(Failure::Io(error)) if error.kind() == io::ErrorKind::BrokenPipe => ExitCode::SUCCESS,
@@ -40,7 +45,8 @@ fn main() -> ExitCode {
 }
 
 enum Failure {
-    Usage,
+    /// What is wrong with the words.
+    Usage(String),
     Io(io::Error),
 }
 
@@ -50,9 +56,15 @@ impl From<io::Error> for Failure {
     }
 }
 
+/// A failure for words that are wrong.
+fn wrong<T>(why: impl Into<String>) -> Result<T, Failure> {
+    Err(Failure::Usage(why.into()))
+}
+
 fn command(words: &[&str]) -> Result<ExitCode, Failure> {
     match words {
         ["run"] => {
+            say_if_typed();
             let input = BufReader::with_capacity(1 << 16, io::stdin().lock());
             let output = BufWriter::with_capacity(1 << 16, io::stdout().lock());
             replay::run(input, output)?;
@@ -67,7 +79,7 @@ fn command(words: &[&str]) -> Result<ExitCode, Failure> {
             let (first, second, third) = match files {
                 [first, second] => (*first, *second, format!("{second}.permutation")),
                 [first, second, third] => (*first, *second, (*third).to_string()),
-                _ => return Err(Failure::Usage),
+                _ => return wrong("orders are written to two files, FIRST and SECOND"),
             };
             let pair = generate::orders::pair(seed, count.unwrap_or(generate::orders::COUNT));
             fs::write(first, &pair.first)?;
@@ -110,6 +122,13 @@ fn command(words: &[&str]) -> Result<ExitCode, Failure> {
             io::stdout().lock().write_all(svg.as_bytes())?;
             Ok(ExitCode::SUCCESS)
         }
+        ["help" | "--help" | "-h"] => {
+            io::stdout().lock().write_all(USAGE.as_bytes())?;
+            Ok(ExitCode::SUCCESS)
+        }
+        ["pcap"] if io::stdout().is_terminal() => {
+            wrong("a capture is no text for a terminal: model pcap < LIST > FILE.pcapng")
+        }
         ["pcap"] => {
             let captured = pcap::capture(&standard_input()?);
             io::stdout().lock().write_all(&captured.file)?;
@@ -120,9 +139,17 @@ fn command(words: &[&str]) -> Result<ExitCode, Failure> {
             traces::write(directory)?;
             Ok(ExitCode::SUCCESS)
         }
-        _ => Err(Failure::Usage),
+        [] => wrong("no command is named"),
+        [command, ..] if COMMANDS.contains(command) => {
+            wrong(format!("`{command}` does not take these words"))
+        }
+        [command, ..] => wrong(format!("`{command}` is no command")),
     }
 }
+
+const COMMANDS: [&str; 9] = [
+    "run", "picture", "pcap", "count", "generate", "compare", "pair", "traces", "help",
+];
 
 fn paired(seconds: u64, seed: u64) -> Result<ExitCode, Failure> {
     match lists::run_for(seconds, seed) {
@@ -142,8 +169,7 @@ fn paired(seconds: u64, seed: u64) -> Result<ExitCode, Failure> {
 fn broken(name: &str) -> Result<ExitCode, Failure> {
     let Some(found) = breaks::BREAKS.iter().find(|found| found.name == name) else {
         let names: Vec<&str> = breaks::BREAKS.iter().map(|found| found.name).collect();
-        eprintln!("PREMISE is one of: {}", names.join(", "));
-        return Err(Failure::Usage);
+        return wrong(format!("PREMISE is one of: {}", names.join(", ")));
     };
     let text = breaks::text(found);
     io::stdout().lock().write_all(text.as_bytes())?;
@@ -156,20 +182,33 @@ fn generated(seed: u64, kind: &str, count: Option<u64>) -> Result<ExitCode, Fail
         "traffic" => generate::traffic::list(seed, count.unwrap_or(generate::traffic::COUNT)),
         "hostile" => generate::hostile::list(seed, count),
         "exhaust" => generate::exhaust::list(seed),
-        _ => return Err(Failure::Usage),
+        _ => {
+            return wrong(format!(
+                "`{kind}` is no KIND: traffic, hostile, exhaust or orders"
+            ))
+        }
     };
     io::stdout().lock().write_all(&text)?;
     Ok(ExitCode::SUCCESS)
 }
 
 fn number(word: &str) -> Result<u64, Failure> {
-    word.parse().map_err(|_| Failure::Usage)
+    let why = || Failure::Usage(format!("`{word}` is no number"));
+    word.parse().map_err(|_| why())
 }
 
 fn standard_input() -> io::Result<Vec<u8>> {
+    say_if_typed();
     let mut input = Vec::new();
     io::stdin().lock().read_to_end(&mut input)?;
     Ok(input)
+}
+
+/// Who types the list should know that it is waited for.
+fn say_if_typed() {
+    if io::stdin().is_terminal() {
+        eprintln!("model: reads a list from standard input, as from a file: model .. < LIST");
+    }
 }
 
 fn exit(good: bool) -> ExitCode {
