@@ -1,0 +1,23 @@
+-- THE CLAIM: every row comes out as it says. Assumes nothing.
+use Rattle.conn_rows.specs.Coherent as Coherent
+use Rattle.conn_rows.specs.Refused as Refused
+use Rattle.conn_rows.specs.States as States
+use Rattle.conn_rows.specs.Sends as Sends
+use Rattle.conn_rows.specs.Receives as Receives
+use Rattle.conn_rows.specs.Hears as Hears
+use Rattle.conn_rows.specs.Ends as Ends
+use Rattle.conn_rows.specs.Opens as Opens
+use Rattle.conn_rows.specs.Moves as Moves
+
+pub record RowsRight : Type 0 where
+  pub coherent : Coherent.RowsRight
+  pub refused : Refused.RowsRight
+  pub states : States.RowsRight
+  pub marks : States.MarksRight
+  pub aborted : States.AbortedRight
+  pub sends : Sends.RowsRight
+  pub receives : Receives.RowsRight
+  pub hears : Hears.RowsRight
+  pub ends : Ends.RowsRight
+  pub opens : Opens.RowsRight
+  pub moves : Moves.RowsRight

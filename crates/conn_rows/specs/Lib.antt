@@ -1,0 +1,11 @@
+pub mod Rows
+pub mod Coherent
+pub mod Refused
+pub mod States
+pub mod Sends
+pub mod Receives
+pub mod Hears
+pub mod Ends
+pub mod Opens
+pub mod Moves
+pub mod All
