@@ -4,7 +4,6 @@
 use Prim.Native.Nat.{ℕ, _+_, _*_, _^_}
 use mathlib.Core.Bool.{Bool, true, false}
 use mathlib.Core.List.{List, [], _∷_, _++_, map}
-use lib.ListN.{replicate}
 use Rattle.closing.specs.declared.Marks.{Marks}
 use Rattle.closing.specs.declared.State.the-variants.{PeerAbortWait}
 use Rattle.connection.specs.declared.Record.{Record}
@@ -98,42 +97,35 @@ forbidden =
 
 -- 1: S 1 to 255, N 8 to 65,540, a memory of S x N bytes, a table of S records. No bytes are placed at an offset that is none; a heard
 -- message, that closes nothing, in the same group
-abbrev slotOf8 : Record
+abbrev pub slotOf8 : Record
 slotOf8 =
     rec me peer (inw (cur 4 0) (cur 4 0) (cur 4 0) 0x7788 false false noUrgent) outs none
 
-abbrev sized : ℕ → ℕ → List Record → List ℕ → Group
+abbrev pub sized : ℕ → ℕ → List Record → List ℕ → Group
 sized s n t m = grouped s n t links13 m
 
-abbrev ofSlots : ℕ → ℕ → Group
-ofSlots s b = sized s 8 (replicate s slotOf8) (zeros b)
-
-abbrev one : ℕ → ℕ → Group
+abbrev pub one : ℕ → ℕ → Group
 one n b = sized 1 n (slotOf8 ∷ []) (zeros b)
 
 abbrev noBytes : Request
 noBytes = place 99 []
 
-abbrev wrongSize : Group → List Row
+abbrev pub wrongSize : Group → List Row
 wrongSize g = refused g (on 1 noBytes) 1 ∷ refused g (hear []) 1 ∷ refused g (manage (freeSlot 9)) 1 ∷ []
 
-abbrev rightSize : Group → ℕ → Row
+abbrev pub rightSize : Group → ℕ → Row
 rightSize g k = silent g (on k noBytes) accepted g
 
 abbrev sizes : List Row
 sizes =
     wrongSize (sized 0 8 [] [])
-    ++ (wrongSize (ofSlots 256 2048)
     ++ (wrongSize (one 7 7)
     ++ (wrongSize (sized 2 7 (slotOf8 ∷ slotOf8 ∷ []) (zeros 14))
-    ++ (wrongSize (one 65541 65541)
     ++ (wrongSize (one 8 7)
     ++ (wrongSize (one 8 9)
     ++ (wrongSize (sized 2 8 (slotOf8 ∷ []) (zeros 16))
     ++ (wrongSize (sized 2 8 (slotOf8 ∷ slotOf8 ∷ slotOf8 ∷ []) (zeros 16))
-    ++ (rightSize (ofSlots 255 2040) 255 ∷ rightSize (ofSlots 255 2040) 1 ∷ rightSize (one 8 8) 1 ∷ rightSize (one 65540 65540) 1 ∷
-    rightSize (sized 2 32771 (slotOf8 ∷ slotOf8 ∷ []) (zeros 65542)) 2 ∷
-    [])))))))))
+    ++ (rightSize (one 8 8) 1 ∷ rightSize (sized 2 8 (slotOf8 ∷ slotOf8 ∷ []) (zeros 16)) 2 ∷ [])))))))
 
 -- 6: the connection's own link. On each link: with this one alone active, and with all others
 abbrev onLink : ℕ → Record
