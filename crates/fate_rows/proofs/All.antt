@@ -1,5 +1,7 @@
 -- Every row comes out as it says, by computation. Assumes nothing.
 use mathlib.Core.Path.{refl}
+use lib.Ieee.{add, sub, mul, lt, ofInt, ofBits}
+use Rattle.gauge.specs.Gauge.{smoothed, lateAt, sampledOf, healthOf}
 use Rattle.layout.specs.Layout.{bitsOf, numberOf, spread, gather, layOut, writtenOf, numberAt}
 use Rattle.llc.specs.Llc.{classOf}
 use Rattle.llcfields.specs.Layouts.{kindOf, namedB, tableOf, valueAt, valuesIn, reduced, filled, readOf, reducedOf, thirdFirst, laidRows}
@@ -9,12 +11,12 @@ use Rattle.exchange.specs.Exchange.{queued, oldest, withoutOldest, runsOver, en
 use Rattle.exchange.specs.Fates.{arrivingOf, fates, fateAt, fateNamed, badMtu, fateOf, actsB, outsideB, takenExchange, takenTouch, maySend}
 use Rattle.exchange.specs.Fates.{sentExchange, sentTouch}
 use Rattle.connection.specs.Connection.{zeroRecord, coherentB}
-use Rattle.table.specs.Table.{sizesB, activeB, withLink, withGauge, linkSet}
+use Rattle.table.specs.Table.{sizesB, activeB, gaugeAt, withLink, withGauge, linkSet}
 use Rattle.failover.specs.Failover.{targetOf, planOf, goneB, movesB, tellsB, movedOf, toldOf, movedAll, messagesOf, countOf, bufferLeft}
 use Rattle.linkcalls.specs.Calls.{noFields, fieldsIn, touched, upTaken, noneUp, takenUp, settledOf, unchanged, changeTouch, changedOf}
 use Rattle.linkcalls.specs.Calls.{downB, optionalB, messageB, messageRefusal, repliesB, replyValues, messageWork, noReply, heardWork}
 use Rattle.linkcalls.specs.Calls.{nothingHeard, heardOf, sendRefusal, sentWork, sentOf}
-use Rattle.rules.specs.Rules.{refuses, linkRefusal, failsOver, linkDoes, linkMessageDoes, linkSendDoes}
+use Rattle.rules.specs.Rules.{refuses, linkRefusal, failsOver, linkDoes, linkMessageDoes, linkSendDoes, sampleRefusal, sampleDoes}
 use Rattle.fate_rows.specs.Example.{played, example, expected, turns, inTurn, tests, tested}
 use Rattle.fate_rows.specs.Fates as Fates
 use Rattle.fate_rows.specs.Stages as Stages
@@ -22,6 +24,7 @@ use Rattle.fate_rows.specs.Sends as Sends
 use Rattle.fate_rows.specs.Refused as Refused
 use Rattle.fate_rows.specs.Waiting as Waiting
 use Rattle.fate_rows.specs.Downs as Downs
+use Rattle.fate_rows.specs.Samples as Samples
 use Rattle.fate_rows.specs.All.{HeardRight, RestRight}
 
 pub heard-right : HeardRight
@@ -49,3 +52,8 @@ unfolding bitsOf numberOf spread gather layOut writtenOf numberAt classOf
     refuses linkRefusal failsOver linkDoes linkMessageDoes linkSendDoes
     Sends.rows Refused.rows Waiting.rows Downs.rows
 rest-right = record { sends = refl; refused = refl; waiting = refl; downs = refl }
+
+pub samples-right : Samples.RowsRight
+unfolding smoothed lateAt sampledOf healthOf add sub mul lt ofInt ofBits activeB gaugeAt withGauge refuses sampleRefusal sampleDoes
+    zeroRecord Samples.rows
+samples-right = refl

@@ -1,4 +1,4 @@
--- THE CLAIM: every row comes out as it says. Two theorems, proofs/All, so that neither takes much memory. Assumes nothing.
+-- THE CLAIM: every row comes out as it says. Three theorems, proofs/All, so that none takes much memory. Assumes nothing.
 use Rattle.fate_rows.specs.Example.{ExampleRight, TurnsRight, TestLinkRight}
 use Rattle.fate_rows.specs.Fates as Fates
 use Rattle.fate_rows.specs.Stages as Stages

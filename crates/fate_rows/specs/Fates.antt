@@ -72,6 +72,9 @@ rows =
     ∷ across Client (m01 ask 2) dropped dropped dropped queued
     -- 02 request from client
     ∷ across Server (m02 ask 0 0 3 5) taken dropped queued queued
+    -- whatever its mtu
+    ∷ across Server (m02 ask 0 0 3 0) taken dropped queued queued
+    ∷ across Server (m02 ask 0 0 3 6) taken dropped queued queued
     -- 02 request from server; its mtu is 1 to 5
     ∷ across Client (m02 ask 0 0 3 5) begins dropped dropped begins
     ∷ across Client (m02 ask 0 0 3 1) begins dropped dropped begins

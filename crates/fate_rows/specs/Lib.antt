@@ -6,4 +6,5 @@ pub mod Sends
 pub mod Refused
 pub mod Waiting
 pub mod Downs
+pub mod Samples
 pub mod All

@@ -78,6 +78,7 @@ rows =
     -- of an 02: from the server, not a denied one
     ∷ hears (laid Client idle) 2 (m02 ask 0 0 0 5) (refused 14)
     ∷ hears (laid Client idle) 2 (m02 ask 0 0 5 5) (refused 14)
+    ∷ hears (laid Client idle) 2 (m02 ask 1 0 5 5) (refused 14)
     ∷ hears (laid Client idle) 2 (m02 ask 0 0 1 5) (also (to (at 1 2 1)) taken)
     ∷ hears (laid Client idle) 2 (m02 ask 0 0 4 5) (also (to (at 1 2 4)) taken)
     ∷ hears (laid Client idle) 2 (m02 ask 0 0 0 6) (deniedWith (m02 re 1 2 0 6))
@@ -134,6 +135,7 @@ rows =
     -- of an 02, but not the client's request, nor a reply with Z
     ∷ sends (laid Server idle) 2 (m02 ask 0 0 0 5) (refused 14)
     ∷ sends (laid Server idle) 2 (m02 ask 0 0 5 5) (refused 14)
+    ∷ sends (laid Server idle) 2 (m02 ask 1 0 5 5) (refused 14)
     ∷ sends (laid Server idle) 2 (m02 ask 0 0 4 5) (also (to (at 1 2 4)) sent)
     ∷ sends (laid Client idle) 2 (m02 ask 0 0 0 5) sent
     ∷ sends (laid Client idle) 2 (m02 ask 0 0 5 5) sent

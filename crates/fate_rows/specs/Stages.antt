@@ -121,6 +121,14 @@ rows =
     ∷ fromPeer (at 11 1 0) (m09 re 0 0) (to idle) (off 1 (m08 re 0 4) ∷ off 1 (m06 re 0 0 4) ∷ off 2 (m09 re 0 0) ∷ [])
     ∷ fromPeer (at 11 1 0) (m09 re 1 0x80) (to idle) []
     ∷ answered (at 11 1 0) (m09 ask 0 0) (m09 re 0 0)
+    -- none of these looks at w
+    ∷ fromPeer (at 6 1 3) (m06 re 0 0 4) (to idle) []
+    ∷ fromPeer (at 7 1 3) (m06 re 0 0 4) (to (at 8 1 3)) []
+    ∷ fromUs (at 8 1 3) (m08 ask 0 3) (to (at 9 1 3)) []
+    ∷ fromUs (at 8 1 3) (m08 ask 0 4) (to (at 10 1 3)) []
+    ∷ fromPeer (at 9 1 3) (m08 re 0 4) (to idle) []
+    ∷ fromPeer (at 10 1 3) (m08 re 0 4) (to (at 8 1 3)) []
+    ∷ fromPeer (at 11 1 3) (m09 re 0 0) (to idle) []
     -- at every other stage they are not due
     ∷ elsewhere Server (m02 re 0 0 3 5) (0 ∷ 2 ∷ 3 ∷ 4 ∷ 5 ∷ 6 ∷ 7 ∷ 8 ∷ 9 ∷ 10 ∷ 11 ∷ [])
     ∷ elsewhere Client (m03 ask 3) (0 ∷ 1 ∷ 3 ∷ 4 ∷ 5 ∷ 6 ∷ 7 ∷ 8 ∷ 9 ∷ 10 ∷ 11 ∷ [])

@@ -4,7 +4,8 @@ use Prim.Native.Nat.{ℕ, zero, suc, _+_}
 use mathlib.Core.Path.{_≡_}
 use mathlib.Core.List.{List, [], _∷_, _++_, map}
 use lib.ListN.{replicate}
-use Rattle.llcfields.specs.declared.Kind.the-variants.{ConfirmLink, AddLink, AddLinkContinuation, DeleteLink, ConfirmRkey, TestLink, ConfirmRkeyContinuation, DeleteRkey}
+use Rattle.llcfields.specs.declared.Kind.the-variants.{ConfirmLink, AddLink, AddLinkContinuation, DeleteLink, ConfirmRkey, TestLink}
+use Rattle.llcfields.specs.declared.Kind.the-variants.{ConfirmRkeyContinuation, DeleteRkey}
 use Rattle.llcfields.specs.Layouts.{codeOf, kindOf}
 use Rattle.llc.specs.Llc.{classOf}
 

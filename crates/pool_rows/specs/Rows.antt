@@ -1,5 +1,5 @@
--- Request 2026-12 row by row: books, a call, its answer and the books that it leaves. Books and numbers are worked by hand from the page; no
--- definition of `pool` but its calls and answers stands in what a row expects. proofs/Rows proves them by computation. Assumes nothing.
+-- Request 2026-12 row by row: books, a call, its answer and the books that it leaves. Books and numbers are worked by hand from the page;
+-- of `pool` only its calls and answers stand in what a row expects. proofs/Rows proves them by computation. Assumes nothing.
 use Prim.Native.Nat.{ℕ, zero, suc}
 use mathlib.Core.Path.{_≡_}
 use mathlib.Core.List.{List, [], _∷_, _++_, map}

@@ -75,9 +75,9 @@ EveryMessage =
     → let a = setupOf s due l in
     (a .count ≡ 0) ⊎ AnswersDue s due a
 
--- "A CODE FROM THE PEER THAT MEANS MORE THAN 65,540 BYTES, OR NOTHING, IS DECLINED WITH DIAGNOSIS 1, AND NOTHING ELSE IS": N has a code, the
--- Accept or Confirm that is due is heard, and its code, the high half of byte 50, is 3 or more (3 to 5 mean 131,072 bytes and more, 6 to
--- 15 nothing)
+-- DECLINED EXACTLY WHEN: "a code from the peer that means more than 65,540 bytes, or nothing, is declined with diagnosis 1, and nothing
+-- else is". N has a code, the Accept or Confirm that is due is heard, and its code, the high half of byte 50, is 3 or more (3 to 5 mean
+-- 131,072 bytes and more, 6 to 15 nothing)
 pub record TooLarge (s : Settings) (due : Due) (l : List ℕ) : Type 0 where
   pub coded : codeOf (s .size) < noCode
   pub heard : ((due ≡ Due.Accept) × (kindIn l ≡ Accept)) ⊎ ((due ≡ Due.Confirm) × (kindIn l ≡ Confirm))

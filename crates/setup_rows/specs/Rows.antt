@@ -108,7 +108,9 @@ abbrev ourMask : List ℕ
 ourMask = ourHead 1 52 0x10 ++ (ourPort ++ octets 14 0x0000_FFFFFE00_17_0000_00_E2D4C3D9)
 
 abbrev ourPrefixes : ℕ → ℕ → ℕ → List ℕ
-ourPrefixes n bytes length = ourHead 1 length 0x10 ++ (ourPort ++ (octets 9 0x0000_00000000_00_0000 ++ (n ∷ (counting 64 bytes ++ octets 4 0xE2D4C3D9))))
+ourPrefixes n bytes length =
+    ourHead 1 length 0x10
+    ++ (ourPort ++ (octets 9 0x0000_00000000_00_0000 ++ (n ∷ (counting 64 bytes ++ octets 4 0xE2D4C3D9))))
 
 abbrev ourEndpoint : ℕ → ℕ → ℕ → List ℕ
 ourEndpoint type seven code =
