@@ -95,6 +95,15 @@ struct Shot {
 
 /// The picture of a list.
 pub fn picture(input: &[u8]) -> String {
+    drawn(input).finish()
+}
+
+/// The texts of a list's picture that leave it at a side or meet another.
+pub fn crowded(input: &[u8]) -> Vec<String> {
+    drawn(input).crowded()
+}
+
+fn drawn(input: &[u8]) -> svg::Svg {
     let cast = Cast::of(input);
     let rows = collect(input, &cast);
     draw::draw(&rows, &alternative(&rows))

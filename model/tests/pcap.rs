@@ -5,6 +5,7 @@ use std::collections::BTreeMap;
 use std::io::Write;
 use std::net::Ipv6Addr;
 use std::process::{Command, Stdio};
+use std::sync::Once;
 
 use model::clc::Clc;
 use model::llc::{layout, Fields, KINDS};
@@ -261,22 +262,40 @@ fn what_is_left_out() {
 
 // What tshark reads.
 
-/// What tshark says of a file, or nothing where it is not installed.
+/// The version whose fields and slips these tests know.
+const VERSION: &str = "4.0.";
+
+/// Says once, past the capture of passing tests' words, why tshark is not asked.
+fn not_asked(why: &str) {
+    static SAID: Once = Once::new();
+    SAID.call_once(|| {
+        let _ = writeln!(
+            std::io::stderr(),
+            "{why}: what Wireshark reads is not tested"
+        );
+    });
+}
+
+/// What tshark says of a file, or nothing where it is not installed or of another version.
 fn tshark(file: &[u8], arguments: &[&str]) -> Option<String> {
-    let mut child = match Command::new("tshark")
+    let Ok(version) = Command::new("tshark").arg("--version").output() else {
+        not_asked("tshark is not installed");
+        return None;
+    };
+    let version = String::from_utf8_lossy(&version.stdout).into_owned();
+    let first = version.lines().next().unwrap_or("tshark says no version");
+    if !first.contains(&format!(" {VERSION}")) {
+        not_asked(&format!("{first} (not {VERSION}x)"));
+        return None;
+    }
+    let mut child = Command::new("tshark")
         .args(["-r", "-"])
         .args(arguments)
         .stdin(Stdio::piped())
         .stdout(Stdio::piped())
         .stderr(Stdio::null())
         .spawn()
-    {
-        Ok(child) => child,
-        Err(_) => {
-            println!("tshark is not installed: what it reads of a capture is not tested here");
-            return None;
-        }
-    };
+        .unwrap();
     let mut input = child.stdin.take().unwrap();
     let file = file.to_vec();
     let writer = std::thread::spawn(move || input.write_all(&file));

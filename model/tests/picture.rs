@@ -2,7 +2,7 @@
 //! blocked writer. The gate holds the stored pictures to the program.
 
 use model::generate::{exhaust, hostile, traffic};
-use model::picture::picture;
+use model::picture::{crowded, picture};
 use model::replay::answer_all;
 
 const STALE_INK: &str = "#8c2f24";
@@ -324,4 +324,21 @@ fn what_is_left_out_is_said() {
     let svg = drawn(&["group 1 40 40", "link 1 1", "memory 0 32"]);
     assert!(!svg.contains("Not drawn") && !svg.contains('\u{2026}'));
     assert!(drawn(&[]).contains("Not drawn: anything: the list has no lines"));
+}
+
+/// No text leaves the picture or meets another: large numbers, long messages, many slots.
+#[test]
+fn texts_keep_clear_of_each_other() {
+    let lists = [
+        EVERY.as_bytes().to_vec(),
+        traffic::list(1, 400),
+        traffic::list(5, 200),
+        traffic::list(6, 400),
+        traffic::list(7, 300),
+        hostile::list(1, Some(900)),
+        exhaust::list(1),
+    ];
+    for list in lists {
+        assert_eq!(crowded(&list), Vec::<String>::new());
+    }
 }

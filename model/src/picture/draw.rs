@@ -102,7 +102,7 @@ pub fn without_bytes(size: usize) -> bool {
     BAND / (size.max(1) as f64) < CELL_TEXT_FROM
 }
 
-pub fn draw(rows: &[Row], alternative: &Alternative) -> String {
+pub fn draw(rows: &[Row], alternative: &Alternative) -> Svg {
     let layout = Layout::of(rows);
     let heights = heights(rows, &layout);
     let left_out = left_out_lines(&layout, alternative);
@@ -148,7 +148,7 @@ pub fn draw(rows: &[Row], alternative: &Alternative) -> String {
         }
         y += row_height;
     }
-    svg.finish()
+    svg
 }
 
 /// The alternative text: how to read the picture, then its rows in words.
@@ -587,13 +587,24 @@ struct Band {
 struct Flag {
     names: String,
     at: Cursor,
+    /// Where the place is, and up to where its label may go.
     x: f64,
+    most: f64,
     level: usize,
 }
 
 impl Flag {
-    fn width(&self) -> f64 {
-        Pen::new(11.0, INK, Anchor::Start).width(&self.text()) + 8.0
+    /// From where to where the label goes: to the right of its place, and further left
+    /// where it would leave its column.
+    fn span(&self) -> (f64, f64) {
+        let width = Pen::new(11.0, INK, Anchor::Start).width(&self.text()) + 8.0;
+        let start = self.x.min(self.most - width);
+        (start, start + width)
+    }
+
+    fn meets(&self, other: &Flag) -> bool {
+        let (mine, others) = (self.span(), other.span());
+        self.level == other.level && mine.0 < others.1 && others.0 < mine.1
     }
 
     fn text(&self) -> String {
@@ -723,6 +734,7 @@ impl Band {
                     names: name.to_string(),
                     at,
                     x: self.at(i64::from(at.offset)),
+                    most: self.x + BAND + OVERHANG - 6.0,
                     level: 0,
                 }),
             }
@@ -730,14 +742,9 @@ impl Band {
         flags.sort_by(|a, b| b.x.total_cmp(&a.x));
         for later in 1..flags.len() {
             let (before, rest) = flags.split_at_mut(later);
-            let end = rest[0].x + rest[0].width();
-            rest[0].level = (0..)
-                .find(|&level| {
-                    before
-                        .iter()
-                        .all(|flag| flag.level != level || end <= flag.x)
-                })
-                .unwrap_or(0);
+            while before.iter().any(|flag| rest[0].meets(flag)) {
+                rest[0].level += 1;
+            }
         }
         flags
     }
@@ -754,9 +761,12 @@ impl Band {
             let y = self.bottom() + LABELS * (flag.level + 1) as f64;
             let colour = if flag.names == "T" { BROWN } else { INK };
             let style = " stroke-width=\"1.4\"";
-            svg.line((flag.x, self.bottom() - 4.0), (flag.x, y), colour, style);
+            let start = flag.span().0;
+            // A line beside its label, or down to it.
+            let end = if start < flag.x { y - 10.0 } else { y };
+            svg.line((flag.x, self.bottom() - 4.0), (flag.x, end), colour, style);
             let pen = Pen::new(11.0, colour, Anchor::Start);
-            svg.write(flag.x + 4.0, y - 1.0, pen, &flag.text());
+            svg.write(start + 4.0, y - 1.0, pen, &flag.text());
         }
     }
 }
@@ -766,21 +776,7 @@ impl Band {
 fn strip(svg: &mut Svg, shot: &Shot, x: f64, y: f64) {
     let c = &shot.record;
     let size = c.n_peer();
-    let at = |offset: i64| x + STRIP * offset.clamp(0, size) as f64 / size.max(1) as f64;
     let length = distance(c.peer_consumer, c.producer, size);
-    svg.rectangle(x, y, STRIP, STRIP_HEIGHT, FREE);
-    svg.rectangle(x, y, at(FIRST_OFFSET) - x, STRIP_HEIGHT, FAINT);
-    if good(length, size) {
-        let start = i64::from(c.peer_consumer.offset);
-        let first = length.min(size - start);
-        for (offset, part) in [(start, first), (FIRST_OFFSET, length - first)] {
-            if part > 0 {
-                let width = at(offset + part) - at(offset);
-                svg.rectangle(at(offset), y, width, STRIP_HEIGHT, TAKEN);
-            }
-        }
-    }
-    svg.frame(x, y, STRIP, STRIP_HEIGHT, PALE, false);
     let pen = Pen::new(11.0, VIOLET, Anchor::Start);
     let (red, room) = (Pen::new(11.0, RED, Anchor::Start).bold(), c.room());
     let mut notes = vec![
@@ -797,7 +793,24 @@ fn strip(svg: &mut Svg, shot: &Shot, x: f64, y: f64) {
         let pen = Pen::new(11.0, GREEN, Anchor::Start).bold();
         notes.push((pen, format!("link {}", c.link)));
     }
-    let mut at = x + STRIP + 9.0;
+    // Long notes leave it less room.
+    let wide: f64 = notes.iter().map(|(pen, note)| pen.width(note) + 7.0).sum();
+    let whole = STRIP.min(BAND + OVERHANG - 18.0 - wide).max(20.0);
+    let at = |offset: i64| x + whole * offset.clamp(0, size) as f64 / size.max(1) as f64;
+    svg.rectangle(x, y, whole, STRIP_HEIGHT, FREE);
+    svg.rectangle(x, y, at(FIRST_OFFSET) - x, STRIP_HEIGHT, FAINT);
+    if good(length, size) {
+        let start = i64::from(c.peer_consumer.offset);
+        let first = length.min(size - start);
+        for (offset, part) in [(start, first), (FIRST_OFFSET, length - first)] {
+            if part > 0 {
+                let width = at(offset + part) - at(offset);
+                svg.rectangle(at(offset), y, width, STRIP_HEIGHT, TAKEN);
+            }
+        }
+    }
+    svg.frame(x, y, whole, STRIP_HEIGHT, PALE, false);
+    let mut at = x + whole + 9.0;
     for (pen, note) in notes {
         svg.write(at, y + STRIP_HEIGHT, pen, &note);
         at += pen.width(&note) + 7.0;

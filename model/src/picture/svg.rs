@@ -20,6 +20,15 @@ const FIXED: &str = "DejaVu Sans Mono, Consolas, monospace";
 
 pub struct Svg {
     text: String,
+    width: f64,
+    /// Where each text stands.
+    written: Vec<Place>,
+}
+
+/// A text and about what it covers: left, top, right, bottom.
+struct Place {
+    text: String,
+    edges: [f64; 4],
 }
 
 /// Where a piece of text is anchored.
@@ -109,6 +118,8 @@ impl Svg {
     pub fn new(width: f64, height: f64, paper: &str, title: &str, description: &str) -> Svg {
         let mut svg = Svg {
             text: String::new(),
+            width,
+            written: Vec::new(),
         };
         svg.add(&format!(
             "<svg xmlns=\"http://www.w3.org/2000/svg\" width=\"{width:.0}\" height=\"{height:.0}\" \
@@ -120,6 +131,26 @@ impl Svg {
         svg.add(&format!("<desc id=\"description\">{description}</desc>"));
         svg.rectangle(0.0, 0.0, width, height, paper);
         svg
+    }
+
+    /// The texts that leave the picture at a side or meet another.
+    pub fn crowded(&self) -> Vec<String> {
+        let mut places: Vec<&Place> = self.written.iter().collect();
+        places.sort_by(|a, b| a.edges[1].total_cmp(&b.edges[1]));
+        let mut crowded = Vec::new();
+        for (number, place) in places.iter().enumerate() {
+            let [left, _, right, bottom] = place.edges;
+            if left < 0.0 || right > self.width {
+                crowded.push(format!("{} leaves the picture", place.text));
+            }
+            let below = places[number + 1..].iter();
+            for other in below.take_while(|other| other.edges[1] < bottom - 1.0) {
+                if left < other.edges[2] - 1.0 && other.edges[0] < right - 1.0 {
+                    crowded.push(format!("{} meets {}", place.text, other.text));
+                }
+            }
+        }
+        crowded
     }
 
     pub fn finish(mut self) -> String {
@@ -148,6 +179,17 @@ impl Svg {
             Anchor::Middle => " text-anchor=\"middle\"",
             Anchor::End => " text-anchor=\"end\"",
         };
+        let wide = pen.width(text);
+        let left = match pen.anchor {
+            Anchor::Start => x,
+            Anchor::Middle => x - wide / 2.0,
+            Anchor::End => x - wide,
+        };
+        let (top, bottom) = (y - 0.75 * pen.size, y + 0.2 * pen.size);
+        self.written.push(Place {
+            text: text.to_string(),
+            edges: [left, top, left + wide, bottom],
+        });
         let bold = if pen.bold {
             " font-weight=\"bold\""
         } else {
