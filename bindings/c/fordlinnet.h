@@ -16,9 +16,14 @@
  * connection's link, and a link message's reply over the link that it came from.
  *
  * When an element may be used again (RFC 7609, 4.4.2). A slot that closed by C sent and C heard, or by A heard, has nothing of its connection
- * under way to it, if the peer's writes arrive before the messages that announce them: that is proved, and it may be opened again. A slot
- * closed by fordlinnet_free may have: a write of the old connection that arrives after the next open is read as the new connection's bytes,
- * and no call is refused. Open it again only when no such write can arrive: the old queue pair is down, or the old key is revoked.
+ * under way to it, if the peer keeps the order of writes and messages: that is proved (NothingUnderWay, in
+ * crates/only_sent/specs/Reuse.antt), and it may be opened again. A slot closed by fordlinnet_free may be opened again only when no write
+ * of the old connection can arrive: the queue pair is down, or the key was revoked. No call can know that, and none is refused: a write
+ * that does arrive is read as the new connection's bytes (bindings/c/reuse.c shows it). fordlinnet_free_when_no_write_can_arrive is free
+ * under a name that says what the caller swears.
+ *
+ * ABI. FORDLINNET_ABI is the number of this header's structs and functions; an archive has a symbol fordlinnet_abi_<number>, and a program
+ * that calls fordlinnet_fresh does not link with another's. CHANGELOG.md says when it moves.
  *
  * Failover (RFC 7609, 4.6). Where link change, link message or link send takes links down, each open, coherent connection on them moves to
  * the lowest-numbered active link, which its record then names. For each that did not send A a message with F stands in the call's buffer,
@@ -41,6 +46,10 @@
 #ifdef __cplusplus
 extern "C" {
 #endif
+
+/* The number of what follows, and the archive's word for it: see the head. */
+#define FORDLINNET_ABI 1
+extern const uint32_t fordlinnet_abi_1;
 
 /* THE NUMBERS */
 
@@ -70,6 +79,9 @@ enum {
 /* The bytes of every message, CDC and link messages alike. */
 enum { FORDLINNET_MESSAGE_LENGTH = 44 };
 
+/* The links, and the message values that any kind of link message has at most. */
+enum { FORDLINNET_LINKS = 4, FORDLINNET_VALUES = 12 };
+
 /* What an answer says, and the fields that then hold something; all others are zero. In every answer of a group's call `links` holds the
  * links as they are now, and `message` the 44 bytes where `made`. */
 enum {
@@ -77,7 +89,7 @@ enum {
     FORDLINNET_REFUSED = 1,   /* refusal */
     FORDLINNET_ACCEPTED = 2,  /* nothing beside the message, where one is made */
     FORDLINNET_SENT = 3,      /* n bytes taken; placings: 0, 1 or 2 of first and second */
-    FORDLINNET_GATHERED = 4,  /* n bytes taken; ask fordlinnet_piece for the pieces */
+    FORDLINNET_GATHERED = 4,  /* n bytes taken; ask fordlinnet_next_piece for the pieces */
     FORDLINNET_WAS_READ = 5,  /* n bytes now stand at the front of out */
     FORDLINNET_TORN = 6,      /* read: the eye catcher is damaged; an abort message is made */
     FORDLINNET_HEARD = 7,     /* moved: how far the peer's producer moved; state */
@@ -94,7 +106,7 @@ enum {
 /* The refusals of a group's calls and of the pool's, each given exactly when: */
 enum {
     FORDLINNET_WRONG_SIZES = 1,    /* S, N, the memory's length or the table's is wrong; in the calls on links, the buffer has less than
-                                      44 x S bytes */
+                                      FORDLINNET_MESSAGE_LENGTH x S bytes */
     FORDLINNET_NOT_OPEN = 2,       /* slot outside 1 to S, or closed (for open: outside only) */
     FORDLINNET_INCOHERENT = 3,     /* the open record is not coherent; pool: books with blocks that overlap, leave the pool, have another
                                       size or start off a multiple of theirs */
@@ -158,6 +170,96 @@ enum {
     FORDLINNET_TEST_LINK = 7,                 /* R, user1, user2 */
     FORDLINNET_CONFIRM_RKEY_CONTINUATION = 8, /* R, Z, num, link1, key1, addr1, link2, key2, addr2, link3, key3, addr3 */
     FORDLINNET_DELETE_RKEY = 9                /* R, Z, count, mask, key1 to key8 */
+};
+
+/* Where each value stands in fordlinnet_fields.values, by kind. R (0 a request, 1 a reply) is always the first. A MAC is 48 bits, a GID's
+ * 16 bytes are two values, the high half first, and so is the user data of TEST LINK. */
+enum { FORDLINNET_R = 0 };
+enum {
+    FORDLINNET_CONFIRM_LINK_MAC = 1,
+    FORDLINNET_CONFIRM_LINK_GID1 = 2,
+    FORDLINNET_CONFIRM_LINK_GID2 = 3,
+    FORDLINNET_CONFIRM_LINK_QP = 4,
+    FORDLINNET_CONFIRM_LINK_LINK = 5,
+    FORDLINNET_CONFIRM_LINK_USER = 6,
+    FORDLINNET_CONFIRM_LINK_MAX = 7
+};
+enum {
+    FORDLINNET_ADD_LINK_Z = 1, /* rejected */
+    FORDLINNET_ADD_LINK_REASON = 2,
+    FORDLINNET_ADD_LINK_MAC = 3,
+    FORDLINNET_ADD_LINK_GID1 = 4,
+    FORDLINNET_ADD_LINK_GID2 = 5,
+    FORDLINNET_ADD_LINK_QP = 6,
+    FORDLINNET_ADD_LINK_LINK = 7,
+    FORDLINNET_ADD_LINK_MTU = 8,
+    FORDLINNET_ADD_LINK_PSN = 9
+};
+enum {
+    FORDLINNET_ADD_LINK_CONTINUATION_LINK = 1,
+    FORDLINNET_ADD_LINK_CONTINUATION_NUM = 2,
+    FORDLINNET_ADD_LINK_CONTINUATION_REF1 = 3,
+    FORDLINNET_ADD_LINK_CONTINUATION_KEY1 = 4,
+    FORDLINNET_ADD_LINK_CONTINUATION_ADDR1 = 5,
+    FORDLINNET_ADD_LINK_CONTINUATION_REF2 = 6,
+    FORDLINNET_ADD_LINK_CONTINUATION_KEY2 = 7,
+    FORDLINNET_ADD_LINK_CONTINUATION_ADDR2 = 8
+};
+enum {
+    FORDLINNET_DELETE_LINK_A = 1, /* all links */
+    FORDLINNET_DELETE_LINK_O = 2, /* in order */
+    FORDLINNET_DELETE_LINK_LINK = 3,
+    FORDLINNET_DELETE_LINK_REASON = 4
+};
+enum {
+    FORDLINNET_CONFIRM_RKEY_Z = 1, /* negative */
+    FORDLINNET_CONFIRM_RKEY_C = 2, /* to be tried again */
+    FORDLINNET_CONFIRM_RKEY_NUM = 3,
+    FORDLINNET_CONFIRM_RKEY_KEY = 4,
+    FORDLINNET_CONFIRM_RKEY_ADDR = 5,
+    FORDLINNET_CONFIRM_RKEY_LINK1 = 6,
+    FORDLINNET_CONFIRM_RKEY_KEY1 = 7,
+    FORDLINNET_CONFIRM_RKEY_ADDR1 = 8,
+    FORDLINNET_CONFIRM_RKEY_LINK2 = 9,
+    FORDLINNET_CONFIRM_RKEY_KEY2 = 10,
+    FORDLINNET_CONFIRM_RKEY_ADDR2 = 11
+};
+enum { FORDLINNET_TEST_LINK_USER1 = 1, FORDLINNET_TEST_LINK_USER2 = 2 };
+enum {
+    FORDLINNET_CONFIRM_RKEY_CONTINUATION_Z = 1, /* negative */
+    FORDLINNET_CONFIRM_RKEY_CONTINUATION_NUM = 2,
+    FORDLINNET_CONFIRM_RKEY_CONTINUATION_LINK1 = 3,
+    FORDLINNET_CONFIRM_RKEY_CONTINUATION_KEY1 = 4,
+    FORDLINNET_CONFIRM_RKEY_CONTINUATION_ADDR1 = 5,
+    FORDLINNET_CONFIRM_RKEY_CONTINUATION_LINK2 = 6,
+    FORDLINNET_CONFIRM_RKEY_CONTINUATION_KEY2 = 7,
+    FORDLINNET_CONFIRM_RKEY_CONTINUATION_ADDR2 = 8,
+    FORDLINNET_CONFIRM_RKEY_CONTINUATION_LINK3 = 9,
+    FORDLINNET_CONFIRM_RKEY_CONTINUATION_KEY3 = 10,
+    FORDLINNET_CONFIRM_RKEY_CONTINUATION_ADDR3 = 11
+};
+enum {
+    FORDLINNET_DELETE_RKEY_Z = 1, /* negative */
+    FORDLINNET_DELETE_RKEY_COUNT = 2,
+    FORDLINNET_DELETE_RKEY_MASK = 3,
+    FORDLINNET_DELETE_RKEY_KEY1 = 4 /* key k stands k - 1 further on, up to key 8 */
+};
+
+/* The stages of an exchange (fordlinnet_exchange.stage), by the message that is due next; v is the link that it is run over, w the link
+ * that it names. A delete runs at the server alone, an exchange of keys at the end that began it. */
+enum {
+    FORDLINNET_NO_EXCHANGE = 0,
+    FORDLINNET_ADD_LINK_REPLY_DUE = 1,              /* the client's, over v */
+    FORDLINNET_ADD_LINK_NEXT_DUE = 2,               /* the server's continuation over v, or its CONFIRM LINK over w */
+    FORDLINNET_ADD_LINK_CONTINUATION_REPLY_DUE = 3, /* the client's, over v */
+    FORDLINNET_CONFIRM_LINK_REPLY_DUE = 4,          /* the client's, over w, which then is active */
+    FORDLINNET_DELETE_LINK_REPLY_DUE = 5,           /* the peer's, over v; w then goes down */
+    FORDLINNET_CONFIRM_RKEY_REPLY_DUE = 6,          /* the peer's, over v; all keys are told */
+    FORDLINNET_CONFIRM_RKEY_REPLY_DUE_MORE = 7,     /* the same, and a continuation follows */
+    FORDLINNET_CONFIRM_RKEY_NEXT_DUE = 8,           /* our continuation, over v */
+    FORDLINNET_CONFIRM_RKEY_NEXT_REPLY_DUE = 9,     /* the peer's reply to it, over v; all keys are told */
+    FORDLINNET_CONFIRM_RKEY_NEXT_REPLY_DUE_MORE = 10, /* the same, and a continuation follows */
+    FORDLINNET_DELETE_RKEY_REPLY_DUE = 11           /* the peer's, over v */
 };
 
 /* The fate of a link message; 0 where none is named. */
@@ -263,7 +365,8 @@ struct fordlinnet_gauge {
     bool late;
 };
 
-/* The exchange of link messages that runs: its stage, 0 where none runs, the link that it is run over, and the link that it names. */
+/* The exchange of link messages that runs: its stage (FORDLINNET_NO_EXCHANGE where none runs), the link that it is run over, and the link
+ * that it names. */
 struct fordlinnet_exchange {
     uint8_t stage;
     uint8_t v;
@@ -273,7 +376,7 @@ struct fordlinnet_exchange {
 /* A link message that waits for the exchange's end, as it was heard, and the link that it came over. */
 struct fordlinnet_waiting {
     uint8_t link;
-    uint8_t bytes[44];
+    uint8_t bytes[FORDLINNET_MESSAGE_LENGTH];
 };
 
 /* Those that wait, oldest first. */
@@ -331,14 +434,14 @@ struct fordlinnet_answer {
     double mean;
     double worst;
     bool made;
-    uint8_t message[44]; /* zeros where none is made */
+    uint8_t message[FORDLINNET_MESSAGE_LENGTH]; /* zeros where none is made */
     struct fordlinnet_links links;
 };
 
 /* A link message's kind and values, in the order above; the rest is zero. Of a value only as many bits are written as its field has. */
 struct fordlinnet_fields {
     uint8_t kind;
-    uint64_t values[12];
+    uint64_t values[FORDLINNET_VALUES];
 };
 
 /* A message taken up from the queue, where `some`: the link that it came over, its fate and its fields. */
@@ -368,11 +471,11 @@ struct fordlinnet_link_answer {
     struct fordlinnet_taken_up up;
     uint32_t count;
     bool made;
-    uint8_t message[44]; /* zeros where none is made */
+    uint8_t message[FORDLINNET_MESSAGE_LENGTH]; /* zeros where none is made */
     struct fordlinnet_links links;
 };
 
-/* The answer of a gather, and the record as the call found it, by which fordlinnet_piece cuts the pieces. */
+/* The answer of a gather, and the record as the call found it, by which fordlinnet_next_piece cuts the pieces. */
 struct fordlinnet_gathered {
     struct fordlinnet_answer answer;
     struct fordlinnet_record found;
@@ -407,26 +510,28 @@ struct fordlinnet_pool_answer {
     struct fordlinnet_books books; /* as they are now */
 };
 
-/* Our settings for set-up. */
+/* Our settings for set-up: what our messages carry, and what our open will be given. */
 struct fordlinnet_settings {
-    uint32_t size; /* N, our element size */
-    uint8_t peer[8];
-    uint8_t gid[16];
-    uint8_t mac[6];
-    uint8_t mask[4];
-    uint8_t masklen;
-    uint8_t count;
+    uint32_t size;         /* N, our element size, eye catcher included. 16,384, 32,768, 65,536, 131,072, 262,144 and 524,288 have a code;
+                              any other is refused with FORDLINNET_SETUP_NO_CODE. A group's elements end at 65,540 bytes, so that the first
+                              three are of use */
+    uint8_t peer[8];       /* our peer ID */
+    uint8_t gid[16];       /* our GID */
+    uint8_t mac[6];        /* our MAC */
+    uint8_t mask[4];       /* the subnet mask of our Proposal; not looked at where count is above 0, nor is masklen */
+    uint8_t masklen;       /* its significant bits */
+    uint8_t count;         /* how many prefixes our Proposal carries; above 8 counts as 8 */
     uint8_t prefixes[136]; /* eight times a prefix of 16 bytes and its length */
-    bool first;
-    uint32_t qp;
-    uint8_t mtu;
-    uint32_t psn;
-    uint32_t key;
-    uint64_t base;
-    uint8_t slot;
-    uint32_t own;
-    uint8_t link;
-    uint32_t key1; /* the peer's memory on the other links; that on `link` is heard */
+    bool first;            /* server: whether the Accept says first contact */
+    uint32_t qp;           /* our queue pair's number, 24 bits */
+    uint8_t mtu;           /* its MTU's code, 4 bits */
+    uint32_t psn;          /* its initial packet sequence number, 24 bits */
+    uint32_t key;          /* the key of our memory on `link`, which the peer is told */
+    uint64_t base;         /* the address of its first byte there */
+    uint8_t slot;          /* our slot, which is also our element's index for the peer */
+    uint32_t own;          /* our alert token, by which hear will find the connection */
+    uint8_t link;          /* the connection's link, 1 to 4 */
+    uint32_t key1;         /* the peer's memory on links 1 to 4; of the one that is `link`, what is heard counts */
     uint64_t base1;
     uint32_t key2;
     uint64_t base2;
@@ -556,8 +661,8 @@ struct fordlinnet_view fordlinnet_view_link(struct fordlinnet_links links, uint8
 struct fordlinnet_record fordlinnet_closed_record(void);
 struct fordlinnet_links fordlinnet_links_down(bool server);
 
-/* The pool: books with nothing given out; taking a block of 1, 2, 4, 8, 16, 32 or 64 units, refused with 3, 18, 19; returning one, refused
- * with 3, 20. */
+/* The pool: books with nothing given out (fordlinnet_fresh_books, by its better name); taking a block of 1, 2, 4, 8, 16, 32 or 64 units,
+ * refused with 3, 18, 19; returning one, refused with 3, 20. No call gives anything back to a system: books are a value. */
 struct fordlinnet_books fordlinnet_pool_free(void);
 struct fordlinnet_pool_answer fordlinnet_pool_take(struct fordlinnet_books books, uint32_t units);
 struct fordlinnet_pool_answer fordlinnet_pool_return(struct fordlinnet_books books, uint32_t start, uint32_t units);
@@ -586,9 +691,59 @@ struct fordlinnet_pool_answer fordlinnet_shape_pool_answer(void);
 struct fordlinnet_settings fordlinnet_shape_settings(uint32_t one);
 struct fordlinnet_setup_answer fordlinnet_shape_setup_answer(uint32_t one);
 
+/* The structs have on this compiler the sizes that the archive has; bindings/c/shapes.c holds every field to it. */
+#ifdef __cplusplus
+#define FORDLINNET_HAS(s, size) static_assert(sizeof(struct fordlinnet_##s) == (size), "struct fordlinnet_" #s)
+#else
+#define FORDLINNET_HAS(s, size) _Static_assert(sizeof(struct fordlinnet_##s) == (size), "struct fordlinnet_" #s)
+#endif
+FORDLINNET_HAS(record, 168);
+FORDLINNET_HAS(links, 296);
+FORDLINNET_HAS(command, 112);
+FORDLINNET_HAS(answer, 440);
+FORDLINNET_HAS(link_command, 112);
+FORDLINNET_HAS(link_answer, 584);
+FORDLINNET_HAS(gathered, 608);
+FORDLINNET_HAS(piece, 24);
+FORDLINNET_HAS(view, 24);
+FORDLINNET_HAS(pool_answer, 76);
+FORDLINNET_HAS(settings, 280);
+FORDLINNET_HAS(setup_answer, 304);
+
 /* EACH CALL UNDER ITS OWN NAME */
 
-/* A group: what every call is lent. The caller fills it; `links` is brought up to date by each call. */
+#if defined(__GNUC__)
+#define FORDLINNET_COLD __attribute__((noinline, cold, unused))
+#else
+#define FORDLINNET_COLD
+#endif
+
+struct fordlinnet_group;
+
+/* A call as a tracer sees it: the command, of one kind or the other, and what it is lent; after the call, its answer. A gather has the number
+ * FORDLINNET_GATHER, its head in `bytes`. */
+enum { FORDLINNET_GATHER = 15 };
+struct fordlinnet_seen {
+    const struct fordlinnet_command *command;           /* or null */
+    const struct fordlinnet_link_command *link_command; /* or null */
+    const uint8_t *bytes;
+    size_t length;
+    const uint8_t *body;
+    size_t body_length;
+    const uint8_t *out;
+    size_t room;
+    const struct fordlinnet_answer *answer;           /* null before the call, and of a call on links */
+    const struct fordlinnet_link_answer *link_answer; /* null before the call, and of any other */
+    const struct fordlinnet_record *found;            /* a gather's, after the call */
+};
+
+/* Who is told of each call of a group, before it and after it. fordlinnet_trace.h has one that writes the calls down for `replay`. */
+struct fordlinnet_tracer {
+    void (*before)(struct fordlinnet_tracer *to, const struct fordlinnet_group *g, const struct fordlinnet_seen *call);
+    void (*after)(struct fordlinnet_tracer *to, const struct fordlinnet_group *g, const struct fordlinnet_seen *call);
+};
+
+/* A group: what every call is lent. The caller fills it, and begins with zeros; `links` is brought up to date by each call. */
 struct fordlinnet_group {
     uint32_t s;                      /* elements and slots, 1 to 255 */
     uint32_t n;                      /* bytes of an element, 8 to 65,540 */
@@ -597,14 +752,19 @@ struct fordlinnet_group {
     struct fordlinnet_record *table; /* s records: slot k is entry k - 1 */
     size_t table_length;
     struct fordlinnet_links links;
+    struct fordlinnet_tracer *tracer; /* null: nobody is told, which costs a test a call */
 };
 
-/* A fresh group, as client or as server: every slot closed, every link down, no exchange, memory all zeros. */
-static inline void fordlinnet_fresh(struct fordlinnet_group *g, bool server) {
+/* A fresh group, as client or as server: every slot closed, every link down, no exchange, memory all zeros. It asks for the archive of this
+ * header's ABI: a program with another does not link, and one that finds another's shared library in spite of its name is told so by
+ * false, with nothing done. */
+static inline bool fordlinnet_fresh(struct fordlinnet_group *g, bool server) {
     size_t i;
+    if (fordlinnet_abi_1 != FORDLINNET_ABI) return false;
     for (i = 0; i < g->table_length; i++) g->table[i] = fordlinnet_closed_record();
     for (i = 0; i < g->memory_length; i++) g->memory[i] = 0;
     g->links = fordlinnet_links_down(server);
+    return true;
 }
 
 static inline struct fordlinnet_command fordlinnet_command_of(uint32_t number, uint32_t slot) {
@@ -620,31 +780,42 @@ static inline struct fordlinnet_command fordlinnet_command_of(uint32_t number, u
 static inline struct fordlinnet_answer fordlinnet_call(struct fordlinnet_group *g, struct fordlinnet_command c, const uint8_t *bytes,
                                                        size_t length, uint8_t *out, size_t room) {
     uint8_t none[1] = {0}, nowhere[1] = {0};
-    struct fordlinnet_answer a =
-        fordlinnet_make(g->s, g->n, g->memory, g->memory_length, g->table, g->table_length, g->links, c, length ? bytes : none, length,
+    struct fordlinnet_seen seen = {&c, 0, bytes, length, 0, 0, out, room, 0, 0, 0};
+    struct fordlinnet_answer a;
+    if (g->tracer) g->tracer->before(g->tracer, g, &seen);
+    a = fordlinnet_make(g->s, g->n, g->memory, g->memory_length, g->table, g->table_length, g->links, c, length ? bytes : none, length,
                         room ? out : nowhere, room);
     g->links = a.links;
+    seen.answer = &a;
+    if (g->tracer) g->tracer->after(g->tracer, g, &seen);
     return a;
 }
 
 /* Management */
 
-/* Opens a closed slot: zeroes its element, writes the eye catcher. After fordlinnet_free only where no write of the old connection can
- * arrive (see the head). Refused with 1, 2, 10, 12, 13, 6, 11, tested in this order. */
+/* Opens a closed slot: zeroes its element, writes the eye catcher. A slot closed by C sent and C heard, or by A heard, has nothing under way
+ * to it; one closed by fordlinnet_free may be opened again only when no write of the old connection can arrive: the queue pair is down, or
+ * the key was revoked (see the head). Refused with 1, 2, 10, 12, 13, 6, 11, tested in this order. */
 static inline struct fordlinnet_answer fordlinnet_open(struct fordlinnet_group *g, uint32_t slot, struct fordlinnet_opening opening) {
     struct fordlinnet_command c = fordlinnet_command_of(FORDLINNET_OPEN, slot);
     c.opening = opening;
     return fordlinnet_call(g, c, 0, 0, 0, 0);
 }
 
-/* Closes a slot in PeerAbortWait. It does not say that nothing is under way to the element: before the slot is opened again the caller must
- * know that no write of this connection can arrive (see the head). Hearing the peer's A closes the slot too, and does say so. Refused with
- * 1, 2, 3, 7. */
+/* Document 01's free: closes a slot in PeerAbortWait. No memory is given back. It does not say that nothing is under way to the element: the
+ * slot may be opened again only when no write of this connection can arrive: the queue pair is down, or the key was revoked (see the head).
+ * Hearing the peer's A closes the slot too, and does say so. Refused with 1, 2, 3, 7. */
 static inline struct fordlinnet_answer fordlinnet_free(struct fordlinnet_group *g, uint32_t slot) {
     return fordlinnet_call(g, fordlinnet_command_of(FORDLINNET_FREE, slot), 0, 0, 0, 0);
 }
 
-/* The calls on the links. Each is lent a buffer of at least 44 x S bytes, apart from memory and table, or is refused with 1; what `count`
+/* The same, by a caller who swears that no write of this connection can arrive any more, since its queue pair is down or its key was
+ * revoked. The slot may then be opened again at once. */
+static inline struct fordlinnet_answer fordlinnet_free_when_no_write_can_arrive(struct fordlinnet_group *g, uint32_t slot) {
+    return fordlinnet_free(g, slot);
+}
+
+/* The calls on the links. Each is lent a buffer of at least FORDLINNET_MESSAGE_LENGTH x S bytes, apart from memory and table, or is refused with 1; what `count`
  * says of it is sent over the new link as the head of this file has it: after all writes on the old link are done or were put again in
  * order, else the peer aborts the connection; before any later message. Pieces of a gather found before the call still name the old link,
  * as placings handed out before it do. */
@@ -656,17 +827,21 @@ static inline struct fordlinnet_link_command fordlinnet_link_command_of(uint32_t
     c.link = link;
     c.up = false;
     c.fields.kind = 0;
-    for (i = 0; i < 12; i++) c.fields.values[i] = 0;
+    for (i = 0; i < FORDLINNET_VALUES; i++) c.fields.values[i] = 0;
     return c;
 }
 
 static inline struct fordlinnet_link_answer fordlinnet_link_call(struct fordlinnet_group *g, struct fordlinnet_link_command c,
                                                                  const uint8_t *bytes, size_t length, uint8_t *out, size_t room) {
     uint8_t none[1] = {0}, nowhere[1] = {0};
-    struct fordlinnet_link_answer a =
-        fordlinnet_make_link(g->s, g->n, g->memory, g->memory_length, g->table, g->table_length, g->links, c, length ? bytes : none,
-                             length, room ? out : nowhere, room);
+    struct fordlinnet_seen seen = {0, &c, bytes, length, 0, 0, out, room, 0, 0, 0};
+    struct fordlinnet_link_answer a;
+    if (g->tracer) g->tracer->before(g->tracer, g, &seen);
+    a = fordlinnet_make_link(g->s, g->n, g->memory, g->memory_length, g->table, g->table_length, g->links, c, length ? bytes : none, length,
+                             room ? out : nowhere, room);
     g->links = a.links;
+    seen.link_answer = &a;
+    if (g->tracer) g->tracer->after(g->tracer, g, &seen);
     return a;
 }
 
@@ -720,10 +895,16 @@ static inline struct fordlinnet_answer fordlinnet_urgent_send(struct fordlinnet_
 static inline struct fordlinnet_gathered fordlinnet_gather(struct fordlinnet_group *g, uint32_t slot, const uint8_t *head,
                                                            size_t head_length, const uint8_t *body, size_t body_length) {
     uint8_t none[1] = {0};
-    struct fordlinnet_gathered a =
-        fordlinnet_make_gather(g->s, g->n, g->memory, g->memory_length, g->table, g->table_length, g->links, slot,
+    struct fordlinnet_command c = fordlinnet_command_of(FORDLINNET_GATHER, slot);
+    struct fordlinnet_seen seen = {&c, 0, head, head_length, body, body_length, 0, 0, 0, 0, 0};
+    struct fordlinnet_gathered a;
+    if (g->tracer) g->tracer->before(g->tracer, g, &seen);
+    a = fordlinnet_make_gather(g->s, g->n, g->memory, g->memory_length, g->table, g->table_length, g->links, slot,
                                head_length ? head : none, head_length, body_length ? body : none, body_length);
     g->links = a.answer.links;
+    seen.answer = &a.answer;
+    seen.found = &a.found;
+    if (g->tracer) g->tracer->after(g->tracer, g, &seen);
     return a;
 }
 
@@ -744,10 +925,18 @@ static inline struct fordlinnet_link_states fordlinnet_states_of(const struct fo
     return states;
 }
 
-/* The same with a small answer, and the faster of the two: the refusal's number, or 0. */
+/* The four calls below with a small answer are the faster form of a place, a send, a read and a hear. A traced group makes the plain call in
+ * their place, which answers the same. */
+static FORDLINNET_COLD uint8_t fordlinnet_place_traced(struct fordlinnet_group *g, uint32_t slot, uint32_t offset, const uint8_t *bytes,
+                                                       size_t length) {
+    return (uint8_t)fordlinnet_place(g, slot, offset, bytes, length).refusal;
+}
+
+/* A place with a small answer, and faster than fordlinnet_place: the refusal's number, or 0. */
 static inline uint8_t fordlinnet_place_direct(struct fordlinnet_group *g, uint32_t slot, uint32_t offset, const uint8_t *bytes,
                                               size_t length) {
     uint8_t none[1] = {0};
+    if (g->tracer) return fordlinnet_place_traced(g, slot, offset, bytes, length);
     return fordlinnet_make_place(g->s, g->n, g->memory, g->memory_length, g->table, g->table_length, fordlinnet_states_of(g), slot, offset,
                                  length ? bytes : none, length);
 }
@@ -757,18 +946,52 @@ static inline struct fordlinnet_answer fordlinnet_read(struct fordlinnet_group *
     return fordlinnet_call(g, fordlinnet_command_of(FORDLINNET_READ, slot), 0, 0, out, room);
 }
 
+/* The message of a plain answer, where the small one has it. */
+static inline void fordlinnet_message_to(uint8_t *message, const struct fordlinnet_answer *a) {
+    int i;
+    for (i = 0; a->made && i < FORDLINNET_MESSAGE_LENGTH; i++) message[i] = a->message[i];
+}
+
+static FORDLINNET_COLD struct fordlinnet_send_answer fordlinnet_send_traced(struct fordlinnet_group *g, uint32_t slot, const uint8_t *bytes,
+                                                                            size_t length, uint8_t *message) {
+    struct fordlinnet_answer a = fordlinnet_send(g, slot, bytes, length);
+    struct fordlinnet_send_answer r;
+    r.refusal = (uint8_t)a.refusal;
+    r.made = a.made;
+    r.placings = (uint8_t)a.placings;
+    r.taken = a.n;
+    r.first = a.first;
+    r.second = a.second;
+    fordlinnet_message_to(message, &a);
+    return r;
+}
+
 /* A send with a small answer, and faster than fordlinnet_send: a message that is made is written to `message`, which has 44 bytes. */
 static inline struct fordlinnet_send_answer fordlinnet_send_direct(struct fordlinnet_group *g, uint32_t slot, const uint8_t *bytes,
                                                                    size_t length, uint8_t *message) {
     uint8_t none[1] = {0};
+    if (g->tracer) return fordlinnet_send_traced(g, slot, bytes, length, message);
     return fordlinnet_make_send(g->s, g->n, g->memory, g->memory_length, g->table, g->table_length, fordlinnet_states_of(g), slot,
                                 length ? bytes : none, length, message, 44);
 }
 
-/* The same with a small answer, and the faster of the two: a message that is made is written to `message`, which has 44 bytes. */
+static FORDLINNET_COLD struct fordlinnet_read_answer fordlinnet_read_traced(struct fordlinnet_group *g, uint32_t slot, uint8_t *out,
+                                                                            size_t room, uint8_t *message) {
+    struct fordlinnet_answer a = fordlinnet_read(g, slot, out, room);
+    struct fordlinnet_read_answer r;
+    r.refusal = (uint8_t)a.refusal;
+    r.torn = a.said == FORDLINNET_TORN;
+    r.made = a.made;
+    r.count = a.n;
+    fordlinnet_message_to(message, &a);
+    return r;
+}
+
+/* A read with a small answer, and faster than fordlinnet_read: a message that is made is written to `message`, which has 44 bytes. */
 static inline struct fordlinnet_read_answer fordlinnet_read_direct(struct fordlinnet_group *g, uint32_t slot, uint8_t *out, size_t room,
                                                                  uint8_t *message) {
     uint8_t none[1] = {0};
+    if (g->tracer) return fordlinnet_read_traced(g, slot, out, room, message);
     return fordlinnet_make_read(g->s, g->n, g->memory, g->memory_length, g->table, g->table_length, fordlinnet_states_of(g), slot,
                                 room ? out : none, room, message, 44);
 }
@@ -779,10 +1002,23 @@ static inline struct fordlinnet_answer fordlinnet_hear(struct fordlinnet_group *
     return fordlinnet_call(g, fordlinnet_command_of(FORDLINNET_HEAR, 0), bytes, length, 0, 0);
 }
 
-/* The same with a small answer, and the faster of the two: a message that is made is written to `answer`, which has 44 bytes. */
+static FORDLINNET_COLD struct fordlinnet_hear_answer fordlinnet_hear_traced(struct fordlinnet_group *g, const uint8_t *bytes, size_t length,
+                                                                            uint8_t *answer) {
+    struct fordlinnet_answer a = fordlinnet_hear(g, bytes, length);
+    struct fordlinnet_hear_answer r;
+    r.refusal = (uint8_t)a.refusal;
+    r.made = a.made;
+    r.state = (uint8_t)a.state;
+    r.moved = a.moved;
+    fordlinnet_message_to(answer, &a);
+    return r;
+}
+
+/* A hear with a small answer, and faster than fordlinnet_hear: a message that is made is written to `answer`, which has 44 bytes. */
 static inline struct fordlinnet_hear_answer fordlinnet_hear_direct(struct fordlinnet_group *g, const uint8_t *bytes, size_t length,
                                                                    uint8_t *answer) {
     uint8_t none[1] = {0};
+    if (g->tracer) return fordlinnet_hear_traced(g, bytes, length, answer);
     return fordlinnet_make_hear(g->s, g->n, g->memory, g->memory_length, g->table, g->table_length, fordlinnet_states_of(g),
                                 length ? bytes : none, length, answer, 44);
 }
@@ -807,6 +1043,65 @@ static inline struct fordlinnet_setup_answer fordlinnet_setup(struct fordlinnet_
                                                               size_t length) {
     uint8_t none[1] = {0};
     return fordlinnet_make_setup(settings, due, length ? bytes : none, length);
+}
+
+/* Books of which nothing was given out. */
+static inline struct fordlinnet_books fordlinnet_fresh_books(void) { return fordlinnet_pool_free(); }
+
+/* A refusal of a group's call in words. */
+static inline const char *fordlinnet_refusal_words(uint32_t refusal) {
+    switch (refusal) {
+        case FORDLINNET_WRONG_SIZES: return "S, N, the memory's length or the table's is wrong, or a call on links is lent a short buffer";
+        case FORDLINNET_NOT_OPEN: return "the slot is outside 1 to S, or closed";
+        case FORDLINNET_INCOHERENT: return "the open record is not coherent";
+        case FORDLINNET_MALFORMED: return "not 44 bytes, or their first or second byte is wrong";
+        case FORDLINNET_NO_TOKEN: return "no open slot has the token, or it is 0";
+        case FORDLINNET_LINK_DOWN: return "the connection's or named link is down (not for 01 on the link being added)";
+        case FORDLINNET_STATE_FORBIDS: return "the state forbids";
+        case FORDLINNET_CURSOR_RULE: return "a cursor rule of hear is broken";
+        case FORDLINNET_NOT_FREE: return "a placed byte is outside the data or not free";
+        case FORDLINNET_ALREADY_OPEN: return "the slot is already open";
+        case FORDLINNET_TOKEN_HELD: return "the own token is held by another open slot";
+        case FORDLINNET_BAD_OPENING: return "a zero token, or the peer's element is out of range";
+        case FORDLINNET_NO_LINK: return "the link number is outside 1 to 4";
+        case FORDLINNET_CARRIED_LINK: return "a carried link number acted on is outside 1 to 4";
+        case FORDLINNET_BARRED: return "a fifth link message to queue, or a link send that is barred or replies unasked";
+        case FORDLINNET_NOT_NEXT: return "the sequence number is not the next";
+        case FORDLINNET_NO_SAMPLE: return "the answer time is no sample";
+        case FORDLINNET_NO_SIZE: return "not 1, 2, 4, 8, 16, 32 or 64 units";
+        case FORDLINNET_NO_BLOCK: return "no block of that size is free";
+        case FORDLINNET_NOT_GIVEN_OUT: return "not given out in that place and size";
+        default: return "no refusal";
+    }
+}
+
+/* A refusal of the pool in words: 3 is of its books. */
+static inline const char *fordlinnet_pool_refusal_words(uint32_t refusal) {
+    return refusal == FORDLINNET_INCOHERENT ? "the pool's books are not coherent" : fordlinnet_refusal_words(refusal);
+}
+
+/* A refusal of set-up in words. */
+static inline const char *fordlinnet_setup_refusal_words(uint32_t refusal) {
+    switch (refusal) {
+        case FORDLINNET_SETUP_NO_CODE: return "our element size has no code";
+        case FORDLINNET_SETUP_NO_MESSAGE: return "the bytes are no message of A.2";
+        case FORDLINNET_SETUP_NOT_DUE: return "the message is not due";
+        default: return "no refusal";
+    }
+}
+
+/* A state by its name in RFC 7609. */
+static inline const char *fordlinnet_state_words(uint32_t state) {
+    switch (state) {
+        case FORDLINNET_ACTIVE: return "Active";
+        case FORDLINNET_PEER_CLOSE_WAIT_1: return "PeerCloseWait1";
+        case FORDLINNET_PEER_CLOSE_WAIT_2: return "PeerCloseWait2";
+        case FORDLINNET_APP_CLOSE_WAIT_1: return "AppCloseWait1";
+        case FORDLINNET_APP_CLOSE_WAIT_2: return "AppCloseWait2";
+        case FORDLINNET_PEER_ABORT_WAIT: return "PeerAbortWait";
+        case FORDLINNET_CLOSED: return "Closed";
+        default: return "no state";
+    }
 }
 
 /* Set-up's arguments as open takes them, beside their slot. */

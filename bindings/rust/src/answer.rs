@@ -1,7 +1,7 @@
 //! What the calls answer.
 
 use crate::{Message, Quiet};
-use std::fmt;
+use core::fmt;
 
 /// The state of a connection, by its marks (RFC 7609, Figure 22).
 #[derive(Clone, Copy, Debug, PartialEq, Eq, Hash)]
@@ -86,7 +86,7 @@ impl Placings {
     }
 }
 
-impl std::ops::Deref for Placings {
+impl core::ops::Deref for Placings {
     type Target = [Placing];
 
     fn deref(&self) -> &[Placing] {
@@ -96,7 +96,7 @@ impl std::ops::Deref for Placings {
 
 impl<'a> IntoIterator for &'a Placings {
     type Item = &'a Placing;
-    type IntoIter = std::slice::Iter<'a, Placing>;
+    type IntoIter = core::slice::Iter<'a, Placing>;
 
     fn into_iter(self) -> Self::IntoIter {
         self.as_slice().iter()

@@ -5,8 +5,10 @@
 //! implements [`Memory`] by hand promises it.
 
 use crate::{Heard, Links, Message, Opening, Placing, Placings, Read, Record, Refusal, Role, Sent, State};
-use std::marker::PhantomData;
-use std::mem::MaybeUninit;
+use alloc::boxed::Box;
+use alloc::vec::Vec;
+use core::marker::PhantomData;
+use core::mem::MaybeUninit;
 
 #[cfg(test)]
 mod shapes;
@@ -735,6 +737,19 @@ pub(crate) fn make_link<M: Memory + ?Sized>(
     };
     *links = answer.links;
     answer
+}
+
+/// A copy of a slot's element, and where it begins; `None` where the memory does not have it.
+pub(crate) fn element<M: Memory + ?Sized>(memory: &mut M, n: u32, slot: u32) -> Option<(usize, Vec<u8>)> {
+    let (start, length) = memory.parts();
+    let (at, size) = ((slot as usize).checked_sub(1)?.checked_mul(n as usize)?, n as usize);
+    if at.checked_add(size)? > length {
+        return None;
+    }
+    let mut bytes = alloc::vec![0; size];
+    // SAFETY: the memory is valid for its length, and the copy is new.
+    unsafe { core::ptr::copy_nonoverlapping(start.add(at), bytes.as_mut_ptr(), size) };
+    Some((at, bytes))
 }
 
 /// What a console shows of a link.

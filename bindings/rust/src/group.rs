@@ -2,12 +2,15 @@
 
 use crate::border::{self, health, said, Answer, Command, Lent, LinkCommand, Memory, Number, RawLinkAnswer};
 use crate::quiet::{Freed, NotOpened, Quiet, Unasked};
+use crate::trace::{Trace, Tracer};
 use crate::{
     Closed, Exchange, Gathered, Health, Heard, LinkChanged, LinkFields, LinkHeard, LinkSent, Links, Message, Opening, Placings, Queue,
     Read, Record, Refusal, Role, Sent, State,
 };
-use std::borrow::BorrowMut;
-use std::fmt;
+use alloc::vec;
+use alloc::vec::Vec;
+use core::borrow::BorrowMut;
+use core::fmt;
 
 /// A group: a memory of S elements of N bytes, a table of S records, and four links with what link messages need.
 ///
@@ -25,6 +28,7 @@ pub struct Group<M = Vec<u8>, T = Vec<Record>, L = Links> {
     links: L,
     room: Room,
     unasked: Unasked,
+    trace: Trace,
 }
 
 /// Room for a message of every slot, which the calls on links are lent. What it holds is no part of the group, and it is made when it is
@@ -66,7 +70,7 @@ impl Group {
     /// The most elements that a group has.
     pub const MOST_ELEMENTS: u32 = 255;
     /// The least and the most bytes of an element.
-    pub const ELEMENT_SIZES: std::ops::RangeInclusive<u32> = 8..=65_540;
+    pub const ELEMENT_SIZES: core::ops::RangeInclusive<u32> = 8..=65_540;
 
     /// A fresh group of its own, as a client: every slot closed, every link down, memory all zeros.
     ///
@@ -110,7 +114,7 @@ impl Group {
         let memory = vec![0; s as usize * n as usize];
         let table = vec![border::closed_record(); s as usize];
         let unasked = Unasked::first(s);
-        Ok(Group { s, n, memory, table, links: border::links_down(role), room: Room::default(), unasked })
+        Ok(Group { s, n, memory, table, links: border::links_down(role), room: Room::default(), unasked, trace: Trace::from_environment() })
     }
 }
 
@@ -129,7 +133,8 @@ impl<M, T, L> Group<M, T, L> {
     /// # Ok::<(), Refusal>(())
     /// ```
     pub fn lend(s: u32, n: u32, memory: M, table: T, links: L) -> Group<M, T, L> {
-        Group { s, n, memory, table, links, room: Room::default(), unasked: Unasked::default() }
+        let (room, unasked, trace) = (Room::default(), Unasked::default(), Trace::from_environment());
+        Group { s, n, memory, table, links, room, unasked, trace }
     }
 
     /// The right to open a slot for the first time: of a fresh group ([`Group::fresh`]) once for each slot, then `None`. A group over lent
@@ -145,6 +150,33 @@ impl<M, T, L> Group<M, T, L> {
     /// ```
     pub fn never_opened(&mut self, slot: u32) -> Option<Quiet> {
         self.unasked.take(slot)
+    }
+
+    /// Tells of every call from now on, in the lines that the program `replay` reads: first the group as it is, then each call, and below
+    /// it its answer behind `#> `, as replay prints it. What is changed by hand or by a card between calls is laid in by lines of its own.
+    /// A clone of the group is not traced.
+    ///
+    /// With the crate's feature `std` the variable `FORDLINNET_TRACE` does the same to every group of a program: it names files, to which
+    /// the process's number and the group's are added.
+    ///
+    /// ```
+    /// use fordlinnet::Group;
+    /// use std::sync::{Arc, Mutex};
+    ///
+    /// let mut group = Group::fresh(1, 64)?;
+    /// let lines = Arc::new(Mutex::new(Vec::new()));
+    /// let kept = lines.clone();
+    /// group.trace(move |line| kept.lock().unwrap().push(line.to_string()));
+    /// group.link_change(2, true)?;
+    /// assert!(group.shutdown(1).is_err());
+    /// let lines = lines.lock().unwrap();
+    /// assert_eq!(lines[..4], ["group 1 64 64 1", "#> group", "link 2 1", "#> link count 0 out -"]);
+    /// assert_eq!(lines[4..], ["shutdown 1", "#> refused 2"]);
+    /// # Ok::<(), fordlinnet::Refusal>(())
+    /// ```
+    #[cfg(feature = "trace")]
+    pub fn trace(&mut self, line: impl FnMut(&str) + Send + Sync + 'static) {
+        self.trace = Trace::to(line);
     }
 
     /// S, the elements and slots.
@@ -271,6 +303,10 @@ where
     /// Open as the rules have it, with no word about the element: for tests that make any call at any time. [`Group::open`] is the call.
     #[doc(hidden)]
     pub fn open_at_any_time(&mut self, slot: u32, opening: &Opening) -> Result<(), Refusal> {
+        if self.trace.on() {
+            let line = |t: &mut Tracer| t.opens(slot, opening);
+            return self.traced(None, line, |g| g.open_at_any_time(slot, opening), |t, a| t.opened(slot, a));
+        }
         let command = Command { opening: *opening, ..command(Number::Open, slot) };
         refused(&self.call(command, &[], &mut []))
     }
@@ -285,6 +321,10 @@ where
     ///
     /// [`Sizes`](Refusal::Sizes), [`Slot`](Refusal::Slot), [`Incoherent`](Refusal::Incoherent), [`State`](Refusal::State).
     pub fn free(&mut self, slot: u32) -> Result<Freed, Refusal> {
+        if self.trace.on() {
+            let line = |t: &mut Tracer| t.call(format_args!("free {slot}"));
+            return self.traced(None, line, |g| g.free(slot), |t, a| t.word("free", a));
+        }
         refused(&self.call(command(Number::Free, slot), &[], &mut []))?;
         Ok(Freed::new(slot))
     }
@@ -305,6 +345,10 @@ where
     /// # Ok::<(), fordlinnet::Refusal>(())
     /// ```
     pub fn sample(&mut self, link: u8, milliseconds: u32) -> Result<Health, Refusal> {
+        if self.trace.on() {
+            let line = |t: &mut Tracer| t.call(format_args!("sample {link} {milliseconds}"));
+            return self.traced(None, line, |g| g.sample(link, milliseconds), |t, a| t.sampled(a));
+        }
         let command = Command { link, ms: milliseconds, ..command(Number::Sample, 0) };
         let answer = self.call(command, &[], &mut []);
         refused(&answer)?;
@@ -397,6 +441,11 @@ where
     ///
     /// [`Sizes`](Refusal::Sizes), [`LinkNumber`](Refusal::LinkNumber).
     pub fn link_change(&mut self, link: u8, up: bool) -> Result<LinkChanged, Refusal> {
+        if self.trace.on() {
+            let s = self.s;
+            let line = |t: &mut Tracer| t.on_links(format_args!("link {link} {}", u8::from(up)), s, None);
+            return self.traced(None, line, |g| g.link_change(link, up), |t, a| t.link_changed(a));
+        }
         self.own_desk().change(link, up)
     }
 
@@ -406,6 +455,11 @@ where
     ///
     /// As [`Group::link_change`].
     pub fn link_change_into(&mut self, link: u8, up: bool, out: &mut [u8]) -> Result<LinkChanged, Refusal> {
+        if self.trace.on() {
+            let (s, room) = (self.s, Some(out.len()));
+            let line = |t: &mut Tracer| t.on_links(format_args!("link {link} {}", u8::from(up)), s, room);
+            return self.traced(None, line, |g| g.link_change_into(link, up, out), |t, a| t.link_changed(a));
+        }
         self.desk(out).change(link, up)
     }
 
@@ -433,6 +487,11 @@ where
     /// # Ok::<(), fordlinnet::Refusal>(())
     /// ```
     pub fn link_message(&mut self, link: u8, bytes: &[u8]) -> Result<LinkHeard, Refusal> {
+        if self.trace.on() {
+            let s = self.s;
+            let line = |t: &mut Tracer| t.link_hears(link, bytes, s, None);
+            return self.traced(None, line, |g| g.link_message(link, bytes), |t, a| t.link_heard(a));
+        }
         self.own_desk().message(link, bytes)
     }
 
@@ -442,6 +501,11 @@ where
     ///
     /// As [`Group::link_message`].
     pub fn link_message_into(&mut self, link: u8, bytes: &[u8], out: &mut [u8]) -> Result<LinkHeard, Refusal> {
+        if self.trace.on() {
+            let (s, room) = (self.s, Some(out.len()));
+            let line = |t: &mut Tracer| t.link_hears(link, bytes, s, room);
+            return self.traced(None, line, |g| g.link_message_into(link, bytes, out), |t, a| t.link_heard(a));
+        }
         self.desk(out).message(link, bytes)
     }
 
@@ -465,6 +529,11 @@ where
     /// # Ok::<(), Refusal>(())
     /// ```
     pub fn link_send(&mut self, link: u8, fields: &LinkFields) -> Result<LinkSent, Refusal> {
+        if self.trace.on() {
+            let s = self.s;
+            let line = |t: &mut Tracer| t.link_sends(link, fields, s, None);
+            return self.traced(None, line, |g| g.link_send(link, fields), |t, a| t.link_sent(a));
+        }
         self.own_desk().send(link, fields)
     }
 
@@ -474,6 +543,11 @@ where
     ///
     /// As [`Group::link_send`].
     pub fn link_send_into(&mut self, link: u8, fields: &LinkFields, out: &mut [u8]) -> Result<LinkSent, Refusal> {
+        if self.trace.on() {
+            let (s, room) = (self.s, Some(out.len()));
+            let line = |t: &mut Tracer| t.link_sends(link, fields, s, room);
+            return self.traced(None, line, |g| g.link_send_into(link, fields, out), |t, a| t.link_sent(a));
+        }
         self.desk(out).send(link, fields)
     }
 
@@ -537,6 +611,10 @@ where
     /// [`State`](Refusal::State) after D, C or A sent or C heard; and what every call tests.
     #[inline]
     pub fn send(&mut self, slot: u32, bytes: &[u8]) -> Result<Sent, Refusal> {
+        if self.trace.on() {
+            let line = |t: &mut Tracer| t.bytes(format_args!("send {slot}"), bytes);
+            return self.traced(None, line, |g| g.send(slot, bytes), |t, a| t.sent("send", a));
+        }
         let lent = Lent { s: self.s, n: self.n, memory: &mut self.memory, table: self.table.as_mut() };
         let links: &Links = self.links.borrow();
         border::send(lent, links.active, slot, bytes)
@@ -548,6 +626,10 @@ where
     ///
     /// As [`Group::send`].
     pub fn urgent_send(&mut self, slot: u32, bytes: &[u8]) -> Result<Sent, Refusal> {
+        if self.trace.on() {
+            let line = |t: &mut Tracer| t.bytes(format_args!("urgent {slot}"), bytes);
+            return self.traced(None, line, |g| g.urgent_send(slot, bytes), |t, a| t.sent("urgent", a));
+        }
         sent(&self.call(command(Number::UrgentSend, slot), bytes, &mut []))
     }
 
@@ -570,6 +652,10 @@ where
     /// # Ok::<(), fordlinnet::Refusal>(())
     /// ```
     pub fn gather<'a>(&mut self, slot: u32, head: &'a [u8], body: &'a [u8]) -> Result<Gathered<'a>, Refusal> {
+        if self.trace.on() {
+            let line = |t: &mut Tracer| t.gathers(slot, head, body);
+            return self.traced(None, line, |g| g.gather(slot, head, body), |t, a| t.gathered(a));
+        }
         let lent = Lent { s: self.s, n: self.n, memory: &mut self.memory, table: self.table.as_mut() };
         let gathered = border::gather(lent, self.links.borrow_mut(), slot, head, body);
         let answer = &gathered.answer;
@@ -585,6 +671,10 @@ where
     /// [`State`](Refusal::State) after A sent or D or C heard; [`Placing`](Refusal::Placing); and what every call tests.
     #[inline]
     pub fn place(&mut self, slot: u32, offset: u32, bytes: &[u8]) -> Result<(), Refusal> {
+        if self.trace.on() {
+            let line = |t: &mut Tracer| t.bytes(format_args!("place {slot} {offset}"), bytes);
+            return self.traced(None, line, |g| g.place(slot, offset, bytes), |t, a| t.placed(slot, offset, bytes, a));
+        }
         let lent = Lent { s: self.s, n: self.n, memory: &mut self.memory, table: self.table.as_mut() };
         let links: &Links = self.links.borrow();
         match border::place(lent, links.active, slot, offset, bytes) {
@@ -600,6 +690,14 @@ where
     /// [`State`](Refusal::State) after C or A sent; and what every call tests.
     #[inline]
     pub fn read(&mut self, slot: u32, out: &mut [u8]) -> Result<Read, Refusal> {
+        if self.trace.on() {
+            let room = out.len();
+            let call = |g: &mut Self| {
+                let read = g.read(slot, out);
+                (read, out)
+            };
+            return self.traced(Some(slot), |t| t.reads(slot, room), call, |t, (a, out)| t.read(a, out)).0;
+        }
         let lent = Lent { s: self.s, n: self.n, memory: &mut self.memory, table: self.table.as_mut() };
         let links: &Links = self.links.borrow();
         border::read(lent, links.active, slot, out)
@@ -619,6 +717,9 @@ where
     /// and [`CursorRule`](Refusal::CursorRule).
     #[inline]
     pub fn hear(&mut self, bytes: &[u8]) -> Result<Heard, Refusal> {
+        if self.trace.on() {
+            return self.traced(None, |t| t.bytes(format_args!("hear"), bytes), |g| g.hear(bytes), |t, a| t.heard(a));
+        }
         // the slot that a message with C or A is for, while its record still names the token
         let named = if Message::may_close(bytes) { self.slot_of(bytes) } else { None };
         let lent = Lent { s: self.s, n: self.n, memory: &mut self.memory, table: self.table.as_mut() };
@@ -650,6 +751,10 @@ where
     ///
     /// [`State`](Refusal::State) after D, C or A sent; and what every call tests.
     pub fn shutdown(&mut self, slot: u32) -> Result<Message, Refusal> {
+        if self.trace.on() {
+            let line = |t: &mut Tracer| t.call(format_args!("shutdown {slot}"));
+            return self.traced(None, line, |g| g.shutdown(slot), |t, a| t.told("shutdown", a));
+        }
         told(&self.call(command(Number::Shutdown, slot), &[], &mut []))
     }
 
@@ -660,6 +765,10 @@ where
     ///
     /// [`State`](Refusal::State) after C or A sent; and what every call tests.
     pub fn close(&mut self, slot: u32) -> Result<Closed, Refusal> {
+        if self.trace.on() {
+            let line = |t: &mut Tracer| t.call(format_args!("close {slot}"));
+            return self.traced(None, line, |g| g.close(slot), |t, a| t.closed(a));
+        }
         let answer = self.call(command(Number::Close, slot), &[], &mut []);
         refused(&answer)?;
         let message = Message::made(answer.message);
@@ -672,6 +781,10 @@ where
     ///
     /// [`State`](Refusal::State) after A sent; and what every call tests.
     pub fn abort(&mut self, slot: u32) -> Result<Message, Refusal> {
+        if self.trace.on() {
+            let line = |t: &mut Tracer| t.call(format_args!("abort {slot}"));
+            return self.traced(None, line, |g| g.abort(slot), |t, a| t.told("abort", a));
+        }
         told(&self.call(command(Number::Abort, slot), &[], &mut []))
     }
 
@@ -679,6 +792,36 @@ where
     fn call(&mut self, command: Command, bytes: &[u8], out: &mut [u8]) -> Answer {
         let lent = Lent { s: self.s, n: self.n, memory: &mut self.memory, table: self.table.as_mut() };
         border::make(lent, self.links.borrow_mut(), command, bytes, out)
+    }
+}
+
+/// What a traced call does: its line, the call itself with the hook out of its way, and the answer. `reads` is the slot whose element the
+/// call reads.
+impl<M, T, L> Group<M, T, L>
+where
+    M: Memory,
+    T: AsMut<[Record]>,
+    L: BorrowMut<Links>,
+{
+    #[cold]
+    #[inline(never)]
+    fn traced<A>(
+        &mut self,
+        reads: Option<u32>,
+        line: impl FnOnce(&mut Tracer),
+        call: impl FnOnce(&mut Self) -> A,
+        answered: impl FnOnce(&mut Tracer, &A),
+    ) -> A {
+        let Some(mut tracer) = self.trace.take() else { return call(self) };
+        let length = self.memory.parts().1;
+        let element = reads.and_then(|slot| border::element(&mut self.memory, self.n, slot));
+        tracer.before((self.s, self.n), length, self.table.as_mut(), self.links.borrow_mut(), element);
+        line(&mut tracer);
+        let answer = call(self);
+        answered(&mut tracer, &answer);
+        tracer.after(self.table.as_mut(), self.links.borrow_mut());
+        self.trace.put(tracer);
+        answer
     }
 }
 

@@ -67,13 +67,29 @@
 //! [`close`](Group::close) or [`hear`](Group::hear) that closes a slot answers with one, and [`Group::free`] answers with a [`Freed`],
 //! which becomes one by the caller's word ([`Freed::no_write_can_arrive`]).
 //!
+//! # Traces
+//!
+//! [`Group::trace`], or the variable `FORDLINNET_TRACE`, writes a group's calls and answers down as the program `replay` reads them, so that
+//! a run can be made again by the proved program, compared, and drawn.
+//!
 //! # Building
 //!
 //! `bindings/archive` at the top of the repository proves the archive and leaves it in `target/staticlib`, where the build script looks;
 //! `FORDLINNET_LIB` names another directory.
 
+#![no_std]
 #![warn(missing_docs)]
 #![deny(unsafe_code, unsafe_op_in_unsafe_fn)]
+
+/// The programs of the two pages that show one.
+#[cfg(doctest)]
+#[doc = include_str!("../README.md")]
+#[doc = include_str!("../../../docs/CALLING.md")]
+struct Pages;
+
+extern crate alloc;
+#[cfg(any(test, feature = "std"))]
+extern crate std;
 
 mod answer;
 #[allow(unsafe_code)]
@@ -87,6 +103,7 @@ mod quiet;
 mod record;
 mod refusal;
 mod setup;
+mod trace;
 
 pub use answer::{Closed, Health, Heard, Placing, Placings, Read, Sent, State};
 pub use border::{Memory, SharedMemory};

@@ -2,7 +2,8 @@
 
 use crate::border::{said, RawFields, RawLinkAnswer, RawTakenUp};
 use crate::Message;
-use std::fmt;
+use alloc::vec::Vec;
+use core::fmt;
 
 /// The named kinds of link messages (RFC 7609, Appendix A.3), by their first byte.
 ///

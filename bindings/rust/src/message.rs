@@ -1,7 +1,7 @@
 //! The 44-byte message.
 
 use crate::{Cursor, Refusal};
-use std::fmt;
+use core::fmt;
 
 /// A CDC message: 44 bytes (RFC 7609, Appendix A.4).
 ///

@@ -41,7 +41,15 @@ impl Books {
     ///
     /// # Errors
     ///
-    /// [`Incoherent`](Refusal::Incoherent), [`NoSize`](Refusal::NoSize), [`NoBlock`](Refusal::NoBlock).
+    /// [`Books`](Refusal::Books), [`NoSize`](Refusal::NoSize), [`NoBlock`](Refusal::NoBlock).
+    ///
+    /// ```
+    /// use fordlinnet::{Books, Refusal};
+    ///
+    /// let mut books = Books::of([3; 64]);
+    /// assert_eq!(books.take(4), Err(Refusal::Books));
+    /// assert_eq!(Refusal::Books.to_string(), "refusal 3: the pool's books are not coherent");
+    /// ```
     pub fn take(&mut self, units: u32) -> Result<u32, Refusal> {
         self.after(border::pool_take(RawBooks { sizes: self.sizes }, units))
     }
@@ -50,7 +58,7 @@ impl Books {
     ///
     /// # Errors
     ///
-    /// [`Incoherent`](Refusal::Incoherent), [`NotGivenOut`](Refusal::NotGivenOut).
+    /// [`Books`](Refusal::Books), [`NotGivenOut`](Refusal::NotGivenOut).
     pub fn give_back(&mut self, start: u32, units: u32) -> Result<(), Refusal> {
         self.after(border::pool_return(RawBooks { sizes: self.sizes }, start, units)).map(|_| ())
     }
@@ -58,7 +66,10 @@ impl Books {
     fn after(&mut self, answer: border::PoolAnswer) -> Result<u32, Refusal> {
         self.sizes = answer.books.sizes;
         match answer.said {
-            said::REFUSED => Err(crate::refusal::given(answer.refusal)),
+            said::REFUSED => Err(match crate::refusal::given(answer.refusal) {
+                Refusal::Incoherent => Refusal::Books,
+                refusal => refusal,
+            }),
             _ => Ok(answer.start),
         }
     }

@@ -1,8 +1,8 @@
 //! When an element may be used again.
 
 use crate::Refusal;
-use std::error::Error;
-use std::fmt;
+use core::error::Error;
+use core::fmt;
 
 /// The right to open a slot: no write of an earlier connection can arrive in its element.
 ///

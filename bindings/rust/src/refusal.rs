@@ -1,7 +1,7 @@
 //! When the desk says no.
 
-use std::error::Error;
-use std::fmt;
+use core::error::Error;
+use core::fmt;
 
 /// Why a call was refused: one number of the list in document 01 and its change requests, in the list's words.
 ///
@@ -22,7 +22,7 @@ pub enum Refusal {
     Sizes = 1,
     /// The slot is outside 1 to S, or closed (for open: outside only).
     Slot = 2,
-    /// The open record is not coherent; the pool: the books are not.
+    /// The open record is not coherent.
     Incoherent = 3,
     /// Not 44 bytes, or their first or second byte is wrong.
     Malformed = 4,
@@ -58,10 +58,13 @@ pub enum Refusal {
     NoBlock = 19,
     /// The pool: not given out in that place and size.
     NotGivenOut = 20,
+    /// The pool: the books are not coherent, with blocks that overlap, leave the pool, have another size or start off a multiple of theirs.
+    /// In the list it is number 3, as an incoherent record is.
+    Books,
 }
 
 impl Refusal {
-    /// Every refusal, by its number.
+    /// Every refusal of the list, by its number; [`Refusal::Books`] is number 3 too.
     pub const ALL: [Refusal; 20] = [
         Refusal::Sizes,
         Refusal::Slot,
@@ -87,10 +90,13 @@ impl Refusal {
 
     /// Its number in the list.
     pub const fn number(self) -> u8 {
-        self as u8
+        match self {
+            Refusal::Books => Refusal::Incoherent as u8,
+            _ => self as u8,
+        }
     }
 
-    /// The refusal of a number; `None` for a number that the list does not have.
+    /// The refusal of a number, as a group's call gives it; `None` for a number that the list does not have.
     pub fn from_number(number: u8) -> Option<Refusal> {
         Refusal::ALL.into_iter().find(|refusal| refusal.number() == number)
     }
@@ -118,6 +124,7 @@ impl Refusal {
             Refusal::NoSize => "not 1, 2, 4, 8, 16, 32 or 64 units",
             Refusal::NoBlock => "no block of that size is free",
             Refusal::NotGivenOut => "not given out in that place and size",
+            Refusal::Books => "the pool's books are not coherent",
         }
     }
 }

@@ -2,8 +2,9 @@
 
 use crate::border::{self, said, RawSettings};
 use crate::{Opening, RToken, Remote};
-use std::error::Error;
-use std::fmt;
+use alloc::vec::Vec;
+use core::error::Error;
+use core::fmt;
 
 /// A prefix of an interface's address, and its length.
 #[derive(Clone, Copy, Debug, Default, PartialEq, Eq, Hash)]

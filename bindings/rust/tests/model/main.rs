@@ -11,6 +11,7 @@ use model::random::Random;
 use model::replay::{lines, skipped, Answer, Line, Replay};
 use model::{llc, smcr};
 use ours::Ours;
+use std::sync::{Arc, Mutex};
 
 const CALLS: usize = 100_000;
 
@@ -125,6 +126,46 @@ fn a_hundred_thousand_calls() {
     }
     assert!(tally.fates.iter().all(|&count| count > 0), "a fate was not reached");
     assert!(tally.taken_up[Fate::Taken as usize] > 0 && tally.taken_up[Fate::Dropped as usize] > 0, "nothing was taken up");
+}
+
+/// Traced lists, made again from their traces by the second program: every answer is the one that the trace has. What the lists change by
+/// hand, records, links and bytes, comes to the trace as well.
+#[test]
+fn traces_replayed() {
+    let mut calls = 0;
+    for seed in 1..=3 {
+        for list in [hostile::list(seed, None), link_list(seed), traffic::list(seed, traffic::COUNT)] {
+            let text = Arc::new(Mutex::new(String::new()));
+            let (mut ours, mut reader) = (Ours::traced(&text), Replay::new());
+            for line in lines(&list) {
+                if skipped(line) {
+                    continue;
+                }
+                let Ok(call) = reader.parse(line) else { continue };
+                reader.execute(&call);
+                ours.execute(&call);
+            }
+            drop(ours);
+            let text = text.lock().expect("no panic").clone();
+            let wanted: Vec<&str> = text.lines().filter_map(|line| line.strip_prefix("#> ")).collect();
+            let (mut theirs, mut given) = (Replay::new(), Vec::new());
+            for line in lines(text.as_bytes()) {
+                if !skipped(line) {
+                    let call = theirs.parse(line).unwrap_or_else(|_| panic!("{}", String::from_utf8_lossy(&line[..line.len().min(300)])));
+                    let answer = theirs.execute(&call);
+                    theirs.print_answer(&mut given, &answer);
+                }
+            }
+            let given = String::from_utf8(given).expect("ASCII");
+            assert_eq!(given.lines().count(), wanted.len());
+            for (number, (given, wanted)) in given.lines().zip(&wanted).enumerate() {
+                assert_eq!(given, *wanted, "answer {}", number + 1);
+            }
+            calls += wanted.len();
+        }
+    }
+    println!("{calls} traced lines, no difference");
+    assert!(calls > 1000);
 }
 
 /// The manual's rows are the page's.

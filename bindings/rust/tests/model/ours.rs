@@ -7,6 +7,7 @@ use fordlinnet::{
 use model::random::Random;
 use model::replay::{lent_bytes, Answer, Line, Replay, OUT_FILL};
 use model::{gauge, links, llc, setup, smcr};
+use std::sync::{Arc, Mutex};
 
 fn cursor(c: smcr::Cursor) -> Cursor {
     Cursor { offset: c.offset, wrap: c.wrap }
@@ -117,6 +118,8 @@ pub struct Ours {
     pub gathers: usize,
     /// Messages with F that calls on links made.
     pub moved: usize,
+    /// Where the group's calls are told, if they are.
+    trace: Option<Arc<Mutex<String>>>,
 }
 
 /// The model's answers are what both sides are turned into.
@@ -124,7 +127,24 @@ impl Ours {
     pub fn new() -> Ours {
         let group = Group::fresh(1, 8).expect("sizes in range");
         let settings = settings(&setup::Settings::default());
-        Ours { group, books: Books::free(), settings, random: Random::new(7), gathers: 0, moved: 0 }
+        Ours { group, books: Books::free(), settings, random: Random::new(7), gathers: 0, moved: 0, trace: None }
+    }
+
+    /// The same, with every call of the group written down.
+    pub fn traced(to: &Arc<Mutex<String>>) -> Ours {
+        let mut ours = Ours { trace: Some(to.clone()), ..Ours::new() };
+        ours.begin_trace();
+        ours
+    }
+
+    fn begin_trace(&mut self) {
+        if let Some(to) = self.trace.clone() {
+            self.group.trace(move |line| {
+                let mut text = to.lock().expect("no panic while it is held");
+                text.push_str(line);
+                text.push('\n');
+            });
+        }
     }
 
     pub fn execute(&mut self, line: &Line) -> Option<Answer> {
@@ -133,6 +153,7 @@ impl Ours {
             Line::Group { elements, size, length, records } => {
                 let records = records.unwrap_or(model::replay::usual_records(*elements));
                 *group = Group::lend(*elements, *size, vec![0; *length], vec![Record::default(); records], Links::default());
+                self.begin_trace();
                 Answer::Word("group")
             }
             Line::Open { opening: o } => {

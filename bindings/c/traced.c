@@ -1,0 +1,187 @@
+/* A traced run: a connection between two groups with every call of a group in it, then calls at random, records and bytes changed by hand
+ * among them. The files that FORDLINNET_TRACE names are made again by the model or by replay, which must answer the same
+ * (bindings/c/replayed). */
+#include <stdio.h>
+#include <stdlib.h>
+#include <string.h>
+
+#include "fordlinnet_trace.h"
+
+enum { SLOTS = 3, SIZE = 24, CALLS = 4000 };
+
+struct end {
+    uint8_t memory[SLOTS * SIZE];
+    struct fordlinnet_record table[SLOTS];
+    struct fordlinnet_group group;
+    struct fordlinnet_trace trace;
+    uint8_t moved[SLOTS * FORDLINNET_MESSAGE_LENGTH];
+};
+
+static struct end ends[2];
+static uint64_t seed = 1;
+
+static uint32_t below(uint32_t n) {
+    seed = seed * 6364136223846793005u + 1442695040888963407u;
+    return (uint32_t)(seed >> 33) % n;
+}
+
+static struct fordlinnet_opening opening(uint32_t own, uint32_t peer, uint8_t link, uint32_t index) {
+    struct fordlinnet_rtoken a = {.key = 70, .base = 4096}, b = {.key = 71, .base = 8192};
+    struct fordlinnet_remote remote = {.size = SIZE, .index = index, .link1 = a, .link2 = b, .link3 = a, .link4 = b};
+    struct fordlinnet_opening o = {.own = own, .peer = peer, .link = link, .remote = remote};
+    return o;
+}
+
+static void begin(struct end *e, bool server) {
+    e->group.s = SLOTS;
+    e->group.n = SIZE;
+    e->group.memory = e->memory;
+    e->group.memory_length = sizeof e->memory;
+    e->group.table = e->table;
+    e->group.table_length = SLOTS;
+    if (!fordlinnet_fresh(&e->group, server)) exit(1);
+    if (!fordlinnet_trace_named(&e->trace, &e->group)) {
+        fprintf(stderr, "traced: FORDLINNET_TRACE names no file that can be made\n");
+        exit(2);
+    }
+}
+
+/* The card writes into the peer's memory itself, and no call of the peer's says so. */
+static void carry(struct end *from, struct end *to, const uint8_t *bytes, const struct fordlinnet_answer *a) {
+    const struct fordlinnet_placing *p[2] = {&a->first, &a->second};
+    uint32_t i;
+    (void)from;
+    for (i = 0; i < a->placings; i++) memcpy(to->memory + (p[i]->address & 4095), bytes + p[i]->start, p[i]->len);
+    if (a->made) fordlinnet_hear(&to->group, a->message, sizeof a->message);
+}
+
+static void course(void) {
+    struct end *a = &ends[0], *b = &ends[1];
+    uint8_t out[40], message[FORDLINNET_MESSAGE_LENGTH];
+    struct fordlinnet_answer x;
+    struct fordlinnet_gathered g;
+    struct fordlinnet_fields f = {.kind = FORDLINNET_ADD_LINK};
+    struct fordlinnet_link_answer l;
+    struct fordlinnet_piece p;
+    uint32_t k = 0;
+    int round;
+
+    for (round = 0; round < 2; round++) {
+        fordlinnet_link_change(&ends[round].group, 1, true, ends[round].moved, sizeof ends[round].moved);
+        fordlinnet_open(&ends[round].group, 2, opening(5 + (uint32_t)round, 6 - (uint32_t)round, 1, 2));
+        fordlinnet_sample(&ends[round].group, 1, 7);
+        fordlinnet_sample(&ends[round].group, 1, 700);
+        fordlinnet_sample(&ends[round].group, 1, 70000);
+    }
+    for (round = 0; round < 5; round++) {
+        static const uint8_t bytes[] = "depths in met";
+        x = fordlinnet_send(&a->group, 2, bytes, 13);
+        carry(a, b, bytes, &x);
+        if (round % 2) {
+            fordlinnet_read_direct(&b->group, 2, out, sizeof out, message);
+        } else {
+            x = fordlinnet_read(&b->group, 2, out, sizeof out);
+            carry(b, a, out, &x);
+        }
+    }
+    x = fordlinnet_urgent_send(&b->group, 2, (const uint8_t *)"sand", 4);
+    carry(b, a, (const uint8_t *)"sand", &x);
+    x = fordlinnet_read(&a->group, 2, out, 3);
+    carry(a, b, out, &x);
+    x = fordlinnet_read(&a->group, 2, out, 0);
+    x = fordlinnet_read(&a->group, 2, out, 9);
+    carry(a, b, out, &x);
+    g = fordlinnet_gather(&b->group, 2, (const uint8_t *)"head", 4, (const uint8_t *)"and the body", 12);
+    do {
+        p = fordlinnet_next_piece((const uint8_t *)"head", 4, (const uint8_t *)"and the body", 12, g.found, g.answer.n, k);
+        k += p.len;
+    } while (p.len);
+
+    /* the server adds link 2, and link 1 goes down: the connection moves */
+    f.values[FORDLINNET_ADD_LINK_LINK] = 2;
+    f.values[FORDLINNET_ADD_LINK_MTU] = 5;
+    l = fordlinnet_link_send(&b->group, 1, f, b->moved, sizeof b->moved);
+    fordlinnet_link_message(&a->group, 1, l.message, sizeof l.message, a->moved, sizeof a->moved);
+    f.values[FORDLINNET_R] = 1;
+    l = fordlinnet_link_send(&a->group, 1, f, a->moved, sizeof a->moved);
+    fordlinnet_link_message(&b->group, 1, l.message, sizeof l.message, b->moved, sizeof b->moved);
+    fordlinnet_link_change(&a->group, 2, true, a->moved, sizeof a->moved);
+    l = fordlinnet_link_change(&a->group, 1, false, a->moved, sizeof a->moved);
+    fordlinnet_link_change(&a->group, 1, true, a->moved, 7);
+    if (l.count == 1) fordlinnet_hear(&b->group, a->moved, FORDLINNET_MESSAGE_LENGTH);
+    x = fordlinnet_shutdown(&a->group, 2);
+    carry(a, b, out, &x);
+    x = fordlinnet_close(&b->group, 2);
+    carry(b, a, out, &x);
+    x = fordlinnet_abort(&a->group, 2);
+    fordlinnet_free(&a->group, 2);
+    fordlinnet_hear(&a->group, x.message, sizeof x.message);
+}
+
+/* Any call at any time. */
+static void any(struct end *e, struct end *peer) {
+    struct fordlinnet_group *g = &e->group;
+    uint32_t slot = below(SLOTS + 2), link = below(6);
+    uint8_t bytes[64], out[64], message[FORDLINNET_MESSAGE_LENGTH];
+    size_t length = below(sizeof bytes), i;
+    struct fordlinnet_fields f = {.kind = (uint8_t)below(11)};
+    struct fordlinnet_answer a;
+    struct fordlinnet_link_answer l;
+    for (i = 0; i < sizeof bytes; i++) bytes[i] = (uint8_t)below(256);
+    switch (below(22)) {
+        case 0: fordlinnet_open(g, slot, opening(1 + below(4), 1 + below(4), (uint8_t)link, below(300))); break;
+        case 1: fordlinnet_free(g, slot); break;
+        case 2: fordlinnet_link_change(g, (uint8_t)link, below(4) > 0, e->moved, sizeof e->moved); break;
+        case 3: fordlinnet_sample(g, (uint8_t)link, below(90000)); break;
+        case 4:
+        case 5:
+            a = fordlinnet_send(g, slot, bytes, length);
+            if (a.made && below(8)) fordlinnet_hear(&peer->group, a.message, sizeof a.message);
+            break;
+        case 6: fordlinnet_urgent_send(g, slot, bytes, length); break;
+        case 7: fordlinnet_send_direct(g, slot, bytes, length, message); break;
+        case 8: fordlinnet_gather(g, slot, bytes, length / 2, bytes + length / 2, length - length / 2); break;
+        case 9:
+        case 10: fordlinnet_place(g, slot, below(SIZE + 2), bytes, below(SIZE)); break;
+        case 11:
+            a = fordlinnet_read(g, slot, out, length);
+            if (a.made) fordlinnet_hear(&peer->group, a.message, sizeof a.message);
+            break;
+        case 12: fordlinnet_read_direct(g, slot, out, length, message); break;
+        case 13: fordlinnet_hear(g, bytes, below(2) ? FORDLINNET_MESSAGE_LENGTH : length); break;
+        case 14:
+            a = fordlinnet_shutdown(g, slot);
+            if (a.made) fordlinnet_hear_direct(&peer->group, a.message, sizeof a.message, message);
+            break;
+        case 15:
+            a = fordlinnet_close(g, slot);
+            if (a.made) fordlinnet_hear(&peer->group, a.message, sizeof a.message);
+            break;
+        case 16:
+            if (below(8)) break;
+            a = fordlinnet_abort(g, slot);
+            if (a.made && below(2)) fordlinnet_hear(&peer->group, a.message, sizeof a.message);
+            break;
+        case 17:
+            for (i = 0; i < 12; i++) f.values[i] = below(5);
+            l = fordlinnet_link_send(g, (uint8_t)link, f, e->moved, sizeof e->moved);
+            if (l.made) fordlinnet_link_message(&peer->group, (uint8_t)link, l.message, sizeof l.message, peer->moved, sizeof peer->moved);
+            break;
+        case 18: fordlinnet_link_message(g, (uint8_t)link, bytes, length, e->moved, below(sizeof e->moved + 1)); break;
+        case 19: e->memory[below(sizeof e->memory)] = bytes[0]; break; /* a card, or a stranger */
+        case 20:
+            if (below(10) == 0) e->table[below(SLOTS)].inbound.consumer.offset = below(SIZE + 4);
+            break;
+        default: g->links.active[below(4)] = true; break;
+    }
+}
+
+int main(void) {
+    int i;
+    begin(&ends[0], false);
+    begin(&ends[1], true);
+    course();
+    for (i = 0; i < CALLS; i++) any(&ends[i % 2], &ends[1 - i % 2]);
+    for (i = 0; i < 2; i++) fordlinnet_trace_end(&ends[i].trace, &ends[i].group);
+    return 0;
+}
