@@ -7,6 +7,7 @@ use crate::{
     Closed, Exchange, Gathered, Health, Heard, LinkChanged, LinkFields, LinkHeard, LinkSent, Links, Message, Opening, Placings, Queue,
     Read, Record, Refusal, Role, Sent, State,
 };
+use alloc::boxed::Box;
 use alloc::vec;
 use alloc::vec::Vec;
 use core::borrow::BorrowMut;
@@ -156,8 +157,8 @@ impl<M, T, L> Group<M, T, L> {
     /// it its answer behind `#> `, as replay prints it. What is changed by hand or by a card between calls is laid in by lines of its own.
     /// A clone of the group is not traced.
     ///
-    /// With the crate's feature `std` the variable `FORDLINNET_TRACE` does the same to every group of a program: it names files, to which
-    /// the process's number and the group's are added.
+    /// With the features `trace` and `std` the variable `FORDLINNET_TRACE` does the same to every group of a program: it names files, to
+    /// which the process's number and the group's are added.
     ///
     /// ```
     /// use fordlinnet::Group;
@@ -612,8 +613,7 @@ where
     #[inline]
     pub fn send(&mut self, slot: u32, bytes: &[u8]) -> Result<Sent, Refusal> {
         if self.trace.on() {
-            let line = |t: &mut Tracer| t.bytes(format_args!("send {slot}"), bytes);
-            return self.traced(None, line, |g| g.send(slot, bytes), |t, a| t.sent("send", a));
+            return *self.send_traced(slot, bytes);
         }
         let lent = Lent { s: self.s, n: self.n, memory: &mut self.memory, table: self.table.as_mut() };
         let links: &Links = self.links.borrow();
@@ -672,8 +672,7 @@ where
     #[inline]
     pub fn place(&mut self, slot: u32, offset: u32, bytes: &[u8]) -> Result<(), Refusal> {
         if self.trace.on() {
-            let line = |t: &mut Tracer| t.bytes(format_args!("place {slot} {offset}"), bytes);
-            return self.traced(None, line, |g| g.place(slot, offset, bytes), |t, a| t.placed(slot, offset, bytes, a));
+            return self.place_traced(slot, offset, bytes);
         }
         let lent = Lent { s: self.s, n: self.n, memory: &mut self.memory, table: self.table.as_mut() };
         let links: &Links = self.links.borrow();
@@ -691,12 +690,7 @@ where
     #[inline]
     pub fn read(&mut self, slot: u32, out: &mut [u8]) -> Result<Read, Refusal> {
         if self.trace.on() {
-            let room = out.len();
-            let call = |g: &mut Self| {
-                let read = g.read(slot, out);
-                (read, out)
-            };
-            return self.traced(Some(slot), |t| t.reads(slot, room), call, |t, (a, out)| t.read(a, out)).0;
+            return *self.read_traced(slot, out);
         }
         let lent = Lent { s: self.s, n: self.n, memory: &mut self.memory, table: self.table.as_mut() };
         let links: &Links = self.links.borrow();
@@ -718,7 +712,7 @@ where
     #[inline]
     pub fn hear(&mut self, bytes: &[u8]) -> Result<Heard, Refusal> {
         if self.trace.on() {
-            return self.traced(None, |t| t.bytes(format_args!("hear"), bytes), |g| g.hear(bytes), |t, a| t.heard(a));
+            return *self.hear_traced(bytes);
         }
         // the slot that a message with C or A is for, while its record still names the token
         let named = if Message::may_close(bytes) { self.slot_of(bytes) } else { None };
@@ -796,13 +790,44 @@ where
 }
 
 /// What a traced call does: its line, the call itself with the hook out of its way, and the answer. `reads` is the slot whose element the
-/// call reads.
+/// call reads. An answer of the fast calls comes in a box, so that without a trace it need not lie in memory.
 impl<M, T, L> Group<M, T, L>
 where
     M: Memory,
     T: AsMut<[Record]>,
     L: BorrowMut<Links>,
 {
+    #[cold]
+    #[inline(never)]
+    fn send_traced(&mut self, slot: u32, bytes: &[u8]) -> Box<Result<Sent, Refusal>> {
+        let line = |t: &mut Tracer| t.bytes(format_args!("send {slot}"), bytes);
+        Box::new(self.traced(None, line, |g| g.send(slot, bytes), |t, a| t.sent("send", a)))
+    }
+
+    #[cold]
+    #[inline(never)]
+    fn place_traced(&mut self, slot: u32, offset: u32, bytes: &[u8]) -> Result<(), Refusal> {
+        let line = |t: &mut Tracer| t.bytes(format_args!("place {slot} {offset}"), bytes);
+        self.traced(None, line, |g| g.place(slot, offset, bytes), |t, a| t.placed(slot, offset, bytes, a))
+    }
+
+    #[cold]
+    #[inline(never)]
+    fn read_traced(&mut self, slot: u32, out: &mut [u8]) -> Box<Result<Read, Refusal>> {
+        let room = out.len();
+        let call = |g: &mut Self| {
+            let read = g.read(slot, out);
+            (read, out)
+        };
+        Box::new(self.traced(Some(slot), |t| t.reads(slot, room), call, |t, (a, out)| t.read(a, out)).0)
+    }
+
+    #[cold]
+    #[inline(never)]
+    fn hear_traced(&mut self, bytes: &[u8]) -> Box<Result<Heard, Refusal>> {
+        Box::new(self.traced(None, |t| t.bytes(format_args!("hear"), bytes), |g| g.hear(bytes), |t, a| t.heard(a)))
+    }
+
     #[cold]
     #[inline(never)]
     fn traced<A>(

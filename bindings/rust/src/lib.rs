@@ -69,8 +69,8 @@
 //!
 //! # Traces
 //!
-//! [`Group::trace`], or the variable `FORDLINNET_TRACE`, writes a group's calls and answers down as the program `replay` reads them, so that
-//! a run can be made again by the proved program, compared, and drawn.
+//! With the feature `trace`, `Group::trace` or the variable `FORDLINNET_TRACE` writes a group's calls and answers down as the program
+//! `replay` reads them, so that a run can be made again by the proved program, compared, and drawn.
 //!
 //! # Building
 //!

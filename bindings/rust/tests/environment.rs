@@ -1,5 +1,7 @@
 //! FORDLINNET_TRACE names files, one for each group of the process.
 
+#![cfg(all(feature = "std", feature = "trace"))]
+
 use fordlinnet::{Group, Links, Record};
 
 #[test]

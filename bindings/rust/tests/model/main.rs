@@ -11,7 +11,6 @@ use model::random::Random;
 use model::replay::{lines, skipped, Answer, Line, Replay};
 use model::{llc, smcr};
 use ours::Ours;
-use std::sync::{Arc, Mutex};
 
 const CALLS: usize = 100_000;
 
@@ -130,8 +129,10 @@ fn a_hundred_thousand_calls() {
 
 /// Traced lists, made again from their traces by the second program: every answer is the one that the trace has. What the lists change by
 /// hand, records, links and bytes, comes to the trace as well.
+#[cfg(feature = "trace")]
 #[test]
 fn traces_replayed() {
+    use std::sync::{Arc, Mutex};
     let mut calls = 0;
     for seed in 1..=3 {
         for list in [hostile::list(seed, None), link_list(seed), traffic::list(seed, traffic::COUNT)] {

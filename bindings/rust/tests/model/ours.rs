@@ -119,6 +119,7 @@ pub struct Ours {
     /// Messages with F that calls on links made.
     pub moved: usize,
     /// Where the group's calls are told, if they are.
+    #[cfg_attr(not(feature = "trace"), allow(dead_code))]
     trace: Option<Arc<Mutex<String>>>,
 }
 
@@ -131,6 +132,7 @@ impl Ours {
     }
 
     /// The same, with every call of the group written down.
+    #[cfg(feature = "trace")]
     pub fn traced(to: &Arc<Mutex<String>>) -> Ours {
         let mut ours = Ours { trace: Some(to.clone()), ..Ours::new() };
         ours.begin_trace();
@@ -138,6 +140,7 @@ impl Ours {
     }
 
     fn begin_trace(&mut self) {
+        #[cfg(feature = "trace")]
         if let Some(to) = self.trace.clone() {
             self.group.trace(move |line| {
                 let mut text = to.lock().expect("no panic while it is held");
