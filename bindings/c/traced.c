@@ -121,15 +121,20 @@ static void course(void) {
 /* Any call at any time. */
 static void any(struct end *e, struct end *peer) {
     struct fordlinnet_group *g = &e->group;
-    uint32_t slot = below(SLOTS + 2), link = below(6);
+    uint32_t slot = below(8) ? 1 + below(SLOTS) : below(SLOTS + 2), link = below(8) ? 1 + below(2) : below(6);
     uint8_t bytes[64], out[64], message[FORDLINNET_MESSAGE_LENGTH];
     size_t length = below(sizeof bytes), i;
+    uint32_t k;
     struct fordlinnet_fields f = {.kind = (uint8_t)below(11)};
     struct fordlinnet_answer a;
     struct fordlinnet_link_answer l;
     for (i = 0; i < sizeof bytes; i++) bytes[i] = (uint8_t)below(256);
     switch (below(22)) {
-        case 0: fordlinnet_open(g, slot, opening(1 + below(4), 1 + below(4), (uint8_t)link, below(300))); break;
+        case 0:
+            /* most often towards the same slot of the other end */
+            k = slot * 2 + (e == &ends[1]);
+            fordlinnet_open(g, slot, opening(k, below(8) ? k ^ 1 : below(9), (uint8_t)link, below(8) ? slot : below(300)));
+            break;
         case 1: fordlinnet_free(g, slot); break;
         case 2: fordlinnet_link_change(g, (uint8_t)link, below(4) > 0, e->moved, sizeof e->moved); break;
         case 3: fordlinnet_sample(g, (uint8_t)link, below(90000)); break;
@@ -170,7 +175,8 @@ static void any(struct end *e, struct end *peer) {
         case 18: fordlinnet_link_message(g, (uint8_t)link, bytes, length, e->moved, below(sizeof e->moved + 1)); break;
         case 19: e->memory[below(sizeof e->memory)] = bytes[0]; break; /* a card, or a stranger */
         case 20:
-            if (below(10) == 0) e->table[below(SLOTS)].inbound.consumer.offset = below(SIZE + 4);
+            if (below(20) == 0) e->table[below(SLOTS)].inbound.consumer.offset = below(SIZE + 4);
+            if (below(4) == 0) memset(&e->table[below(SLOTS)], 0, sizeof e->table[0]);
             break;
         default: g->links.active[below(4)] = true; break;
     }
