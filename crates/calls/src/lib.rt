@@ -1,11 +1,11 @@
 // The calls of a connection, on one record (document 01, "Calls of a connection"). Each is lent S, N and the memory, and is given the
 // table's length, the links, a slot and the record that the slot shows, whatever they hold; it answers with the record that it leaves. It
-// looks into no table: what it promises, it promises for every table that shows the record. The two sends are in the crate `sending`, place
-// and read in `receiving`, shutdown, close and abort in `ending`.
+// looks into no table: what it answers and leaves is said of what it is given (`onRecord`, `hearRecord`), whatever table the record is from; in
+// every table that shows it, that is what the rules say of the call. The two sends are in the crate `sending`, place and read in
+// `receiving`, shutdown, close and abort in `ending`.
 ghost use mathlib.Core.Path.{_≡_};
 ghost use mathlib.Core.List.{[]};
-ghost use Rattle.rules.specs.Rules.{Call};
-ghost use Rattle.rules.specs.Promises.{DidOn, DidIn};
+ghost use Rattle.rules.specs.Promises.{shownBy, onRecord, hearRecord};
 ghost use Rattle.calls.specs.Calls.{requestOf, outLeft, OutKept, tokenIn, heardBy};
 use cdc::Decoded;
 use cdc::Message;
@@ -39,8 +39,8 @@ pub fn on(
     out: &mut [u8],
 ) -> Turned
     ensures { λ r.
-        ⌜ DidOn s n (now (mem .entry)) (now (mem .exit)) count links
-        (Call.on slot (requestOf request (now (bytes .entry)) (now (out .entry)))) slot rec r (outLeft request (now (out .exit)))
+        ⌜ (shownBy r (outLeft request (now (out .exit))) (now (mem .exit))
+        ≡ onRecord s n (now (mem .entry)) count links slot rec (requestOf request (now (bytes .entry)) (now (out .entry))))
         × OutKept request (now (out .entry)) (now (out .exit)) ⌝ }
 {
     match request {
@@ -97,8 +97,8 @@ pub fn hear(
     bytes: &[u8],
 ) -> Turned
     ensures { λ r.
-        ⌜ DidIn s n (now (mem .entry)) (now (mem .entry)) count links
-        (Call.hear (now (bytes .entry))) (tokenIn (now (bytes .entry))) holder holder rec r [] ⌝ }
+        ⌜ shownBy r [] (now (mem .entry))
+        ≡ hearRecord s n (now (mem .entry)) count links holder rec (now (bytes .entry)) ⌝ }
 {
     let sized = table::sizes_ok(s, n, mem.len(), count);
     if sized {

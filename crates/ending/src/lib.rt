@@ -1,8 +1,8 @@
 // Shutdown, close and abort, on one record (document 01, "Calls of a connection"). What each is given and promises is as in crate `calls`.
+ghost use mathlib.Core.Path.{_≡_};
 ghost use mathlib.Core.List.{[]};
-ghost use Rattle.rules.specs.Rules.{Call};
 ghost use Rattle.rules.specs.Rules as Rules;
-ghost use Rattle.rules.specs.Promises.{DidOn};
+ghost use Rattle.rules.specs.Promises.{shownBy, onRecord};
 use connection::Record;
 use table::Links;
 use table::Turned;
@@ -17,7 +17,7 @@ pub fn shutdown(
     rec: Record,
 ) -> Turned
     ensures { λ r.
-        ⌜ DidOn s n (now (mem .entry)) (now (mem .entry)) count links (Call.on slot Rules.Request.shutdown) slot rec r [] ⌝ }
+        ⌜ shownBy r [] (now (mem .entry)) ≡ onRecord s n (now (mem .entry)) count links slot rec Rules.Request.shutdown ⌝ }
 {
     let no = table::found(s, n, mem.len(), count, slot, rec);
     let active = table::link_active(links, rec.id.link);
@@ -35,7 +35,7 @@ pub fn close(
     rec: Record,
 ) -> Turned
     ensures { λ r.
-        ⌜ DidOn s n (now (mem .entry)) (now (mem .entry)) count links (Call.on slot Rules.Request.close) slot rec r [] ⌝ }
+        ⌜ shownBy r [] (now (mem .entry)) ≡ onRecord s n (now (mem .entry)) count links slot rec Rules.Request.close ⌝ }
 {
     let no = table::found(s, n, mem.len(), count, slot, rec);
     let active = table::link_active(links, rec.id.link);
@@ -53,7 +53,7 @@ pub fn abort(
     rec: Record,
 ) -> Turned
     ensures { λ r.
-        ⌜ DidOn s n (now (mem .entry)) (now (mem .entry)) count links (Call.on slot Rules.Request.abort) slot rec r [] ⌝ }
+        ⌜ shownBy r [] (now (mem .entry)) ≡ onRecord s n (now (mem .entry)) count links slot rec Rules.Request.abort ⌝ }
 {
     let no = table::found(s, n, mem.len(), count, slot, rec);
     let active = table::link_active(links, rec.id.link);

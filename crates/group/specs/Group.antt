@@ -2,11 +2,14 @@
 use Prim.Native.Nat.{ℕ}
 use mathlib.Core.Path.{_≡_}
 use mathlib.Core.List.{List, []}
+use Rattle.connection.specs.declared.Record.{Record}
+use Rattle.table.specs.declared.Links.{Links}
 use Rattle.calls.specs.Calls.{requestOf, tokenIn}
 use Rattle.calls.specs.Calls as Calls
-use Rattle.management.specs.Management.{managementOf}
+use Rattle.management.specs.Management.{managementOf, manageRecord}
 use Rattle.management.specs.Management as Management
 use Rattle.rules.specs.Rules.{Call}
+use Rattle.rules.specs.Promises.{Shown, onRecord, hearRecord}
 use Rattle.group.specs.declared.Command.{Command}
 use Rattle.group.specs.declared.Command.the-variants.{On, Hear, Manage}
 
@@ -38,3 +41,9 @@ abbrev pub OutKept : Command → List ℕ → List ℕ → Type 0
 OutKept (On k q) out left = Calls.OutKept q out left
 OutKept Hear out left = left ≡ out
 OutKept (Manage d) out left = left ≡ out
+
+-- what it answers and leaves, of the record that it is shown
+abbrev pub commandRecord : ℕ → ℕ → List ℕ → ℕ → Links → ℕ → Record → Command → List ℕ → List ℕ → Shown
+commandRecord s n m count links holder c (On k q) b out = onRecord s n m count links k c (requestOf q b out)
+commandRecord s n m count links holder c Hear b out = hearRecord s n m count links holder c b
+commandRecord s n m count links holder c (Manage d) b out = manageRecord s n m count links holder c d

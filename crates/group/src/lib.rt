@@ -6,8 +6,8 @@
 // crates `calls` and `management`.
 ghost use mathlib.Core.Path.{_≡_};
 ghost use Rattle.rules.specs.Rules.{Did, groupOf, answerOf};
-ghost use Rattle.rules.specs.Promises.{DidIn};
-ghost use Rattle.group.specs.Group.{callOf, tokenOf, slotOf, outLeft, OutKept};
+ghost use Rattle.rules.specs.Promises.{shownBy};
+ghost use Rattle.group.specs.Group.{callOf, tokenOf, slotOf, outLeft, OutKept, commandRecord};
 use calls::Request;
 use connection::Record;
 use management::Management;
@@ -59,9 +59,8 @@ fn turn(
     out: &mut [u8],
 ) -> Turned
     ensures { λ r.
-        ⌜ DidIn s n (now (mem .entry)) (now (mem .exit)) count links
-        (callOf command (now (bytes .entry)) (now (out .entry))) (tokenOf command (now (bytes .entry))) holder (slotOf command holder)
-        rec r (outLeft command (now (out .exit)))
+        ⌜ (shownBy r (outLeft command (now (out .exit))) (now (mem .exit))
+        ≡ commandRecord s n (now (mem .entry)) count links holder rec command (now (bytes .entry)) (now (out .entry)))
         × OutKept command (now (out .entry)) (now (out .exit)) ⌝ }
 {
     match command {

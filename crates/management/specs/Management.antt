@@ -1,6 +1,10 @@
 -- What the calls of management are made of. Assumes nothing.
 use Prim.Native.Nat.{ℕ}
+use mathlib.Core.List.{List}
+use Rattle.connection.specs.declared.Record.{Record}
+use Rattle.table.specs.declared.Links.{Links}
 use Rattle.rules.specs.Rules as Rules
+use Rattle.rules.specs.Promises.{Shown, openRecord, freeRecord, sampleRecord}
 use Rattle.management.specs.declared.Management.{Management}
 use Rattle.management.specs.declared.Management.the-variants as Calls
 
@@ -21,3 +25,9 @@ abbrev pub slotOf : Management → ℕ
 slotOf (Calls.Open k given) = k
 slotOf (Calls.Free k) = k
 slotOf (Calls.Sample l ms) = 0
+
+-- what each answers and leaves, of what it is given
+abbrev pub manageRecord : ℕ → ℕ → List ℕ → ℕ → Links → ℕ → Record → Management → Shown
+manageRecord s n m count links holder c (Calls.Open k given) = openRecord s n m count links holder k c given
+manageRecord s n m count links holder c (Calls.Free k) = freeRecord s n m count links k c
+manageRecord s n m count links holder c (Calls.Sample l ms) = sampleRecord s n m links c l ms

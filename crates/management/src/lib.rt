@@ -2,9 +2,8 @@
 // `linkstate`. Link message and link send answer more: see the crate `linkdesk`.
 ghost use mathlib.Core.Path.{_≡_};
 ghost use mathlib.Core.List.{[]};
-ghost use Rattle.rules.specs.Rules.{Call};
-ghost use Rattle.rules.specs.Promises.{DidIn};
-ghost use Rattle.management.specs.Management.{managementOf, tokenOf, slotOf};
+ghost use Rattle.rules.specs.Promises.{shownBy};
+ghost use Rattle.management.specs.Management.{tokenOf, slotOf, manageRecord};
 use connection::Opening;
 use connection::Record;
 use table::Links;
@@ -54,8 +53,7 @@ pub fn manage(
     call: Management,
 ) -> Turned
     ensures { λ r.
-        ⌜ DidIn s n (now (mem .entry)) (now (mem .exit)) count links
-        (Call.manage (managementOf call)) (tokenOf call) holder (slotOf call) rec r [] ⌝ }
+        ⌜ shownBy r [] (now (mem .exit)) ≡ manageRecord s n (now (mem .entry)) count links holder rec call ⌝ }
 {
     match call {
         Management::Open(slot, given) => opening::open(

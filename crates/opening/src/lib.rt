@@ -1,13 +1,10 @@
 // Open and free, on one record (document 01, "Desk calls"). Each is lent S, N and the memory, and is given the table's length, the links, a
 // slot and the record that the slot shows, as the calls of a connection are.
 ghost use mathlib.Core.Path.{_≡_};
-ghost use mathlib.Core.List.{List, []};
+ghost use mathlib.Core.List.{[]};
 ghost use lib.ListN.{length};
-ghost use Rattle.connection.specs.declared.Record.{Record};
-ghost use Rattle.table.specs.Table.{recordAt, holderIn};
-ghost use Rattle.rules.specs.Rules as Rules;
-ghost use Rattle.rules.specs.Rules.{Call, badOpening, openRefusal, freeRefusal, groupOf};
-ghost use Rattle.rules.specs.Promises.{DidOn, DidIn};
+ghost use Rattle.rules.specs.Rules.{badOpening};
+ghost use Rattle.rules.specs.Promises.{shownBy, openNumber, openRecord, freeNumber, freeRecord};
 use connection::Opening;
 use connection::Record;
 use outcome::Reply;
@@ -35,8 +32,7 @@ fn open_refusal(
     given: Opening,
 ) -> u8
     ensures { λ r.
-        ⌜ ((t : List Record) → length t ≡ count → holder ≡ holderIn t (given .own) → rec ≡ recordAt t slot
-        → r ≡ openRefusal (groupOf s n t links (now (mem .entry))) slot given) ⌝ }
+        ⌜ r ≡ openNumber s n (length (now (mem .entry))) count links holder slot rec given ⌝ }
 {
     let wrong = !table::sizes_ok(s, n, mem.len(), count);
     let outside = !table::slot_ok(s, slot);
@@ -65,8 +61,7 @@ pub fn open(
     given: Opening,
 ) -> Turned
     ensures { λ r.
-        ⌜ DidIn s n (now (mem .entry)) (now (mem .exit)) count links
-        (Call.manage (Rules.Management.openSlot slot given)) (given .own) holder slot rec r [] ⌝ }
+        ⌜ shownBy r [] (now (mem .exit)) ≡ openRecord s n (now (mem .entry)) count links holder slot rec given ⌝ }
 {
     let no = open_refusal(s, n, mem, count, links, holder, slot, rec, given);
     let after = connection::opened_record(given);
@@ -90,8 +85,7 @@ fn free_refusal(
     rec: Record,
 ) -> u8
     ensures { λ r.
-        ⌜ ((t : List Record) → length t ≡ count → rec ≡ recordAt t slot
-        → r ≡ freeRefusal (groupOf s n t links (now (mem .entry))) slot) ⌝ }
+        ⌜ r ≡ freeNumber s n (length (now (mem .entry))) count slot rec ⌝ }
 {
     let wrong = !table::sizes_ok(s, n, mem.len(), count);
     let closed = !(table::slot_ok(s, slot) & rec.id.opened);
@@ -112,7 +106,7 @@ pub fn free(
     rec: Record,
 ) -> Turned
     ensures { λ r.
-        ⌜ DidOn s n (now (mem .entry)) (now (mem .entry)) count links (Call.manage (Rules.Management.freeSlot slot)) slot rec r [] ⌝ }
+        ⌜ shownBy r [] (now (mem .entry)) ≡ freeRecord s n (now (mem .entry)) count links slot rec ⌝ }
 {
     let no = free_refusal(s, n, mem, count, links, slot, rec);
     let z = connection::zero_record();

@@ -1,5 +1,5 @@
--- Place and read, from what their parts gave: in any table that shows the record, the answer and the group that is left are what the rules
--- say. Assumes nothing.
+-- Place and read, from what their parts gave: of what they are given; and in any table that shows the record, the answer and the group that
+-- is left are what the rules say. Assumes nothing.
 use Prim.Native.Nat.{ℕ, zero, suc, _+_, _-_, _*_, _≤_}
 use mathlib.Core.Path.{_≡_, refl, sym, ap, _∙_}
 use mathlib.Core.Bool.{Bool, true, false, false≢true}
@@ -21,12 +21,12 @@ use Rattle.receive.specs.Receive.{placeOf, readOf}
 use Rattle.receive.proofs.Laws.{place-accepted}
 use Rattle.table.specs.declared.Links.{Links}
 use Rattle.table.specs.declared.Turned.{Turned}
-use Rattle.table.specs.Table.{mostSlots, recordAt, activeB, foundOf, refusedBy, keptBy, turnedBy, settledBy}
+use Rattle.table.specs.Table.{mostSlots, recordAt, foundOf, refusedBy, keptBy, turnedBy, settledBy}
 use Rattle.table.proofs.Laws.{sizes-facts, found-sized, found-slot}
-use Rattle.rules.specs.Rules.{Group, Request, Call, groupOf, turnOf, requestTurn, placedIn, readInto, elementIn}
-use Rattle.rules.specs.Promises.{Promise}
+use Rattle.rules.specs.Rules.{Request, Call, turnOf, requestTurn, placedIn, readInto}
+use Rattle.rules.specs.Promises.{shownBy, activeFor, onRecord, Promise}
 use Rattle.rules.proofs.Memory.{within-memory, base-most, kept-memory, intact-memory}
-use Rattle.rules.proofs.Settled.{on-settled}
+use Rattle.rules.proofs.Settled.{on-shown, on-promised}
 use Rattle.receiving.specs.Receiving.{storesB, copiedOf}
 use Rattle.receiving.proofs.Bytes.{store-in, stores-is, placed-not, read-none, read-into, readable}
 
@@ -56,99 +56,126 @@ pub place-base : (s n : ℕ) (m : List ℕ) (count k : ℕ) (c : Record) (j : �
 place-base s n m count k c j f z =
     base-most s n m count k (found-sized s n (length m) count k c j f z) (found-slot s n (length m) count k c j f z)
 
-module _ (s n : ℕ) (t : List Record) (ls : Links) (m : List ℕ) where
-  abbrev g : Group
-  g = groupOf s n t ls m
-
+module _ (s n : ℕ) (m : List ℕ) (count : ℕ) (ls : Links) where
   -- PLACE: the bytes are stored where it is accepted, and nothing else
   module _
-      (k at : ℕ) (b : List ℕ) (c : Record) (hc : c ≡ recordAt t k) (j : ℕ) (f : j ≡ foundOf s n (length m) (length t) k c)
-      (active : Bool) (ha : active ≡ activeB (ls .active) (c .id .link)) (o : Outcome) (ho : o ≡ placeOf n active c at (length b))
+      (k at : ℕ) (b : List ℕ) (c : Record) (j : ℕ) (f : j ≡ foundOf s n (length m) count k c)
+      (active : Bool) (ha : active ≡ activeFor ls c) (o : Outcome) (ho : o ≡ placeOf n active c at (length b))
       (a : Turned) (p : a ≡ settledBy j ls c o)
     where
       abbrev Places : List ℕ → Type 0
-      Places l = Promise s n m l t ls (Call.on k (Request.place at b)) k a []
+      Places l = shownBy a [] l ≡ onRecord s n m count ls k c (Request.place at b)
 
-      place-turn : (e : List ℕ) → placedIn (effectOf (o .reply)) (elementIn g k) at b ≡ e
-          → requestTurn n active c (elementIn g k) (Request.place at b) ≡ turnOf o e []
+      place-turn : (e : List ℕ) → placedIn (effectOf (o .reply)) (elementOf n k m) at b ≡ e
+          → requestTurn n active c (elementOf n k m) (Request.place at b) ≡ turnOf o e []
       unfolding requestTurn
       place-turn e h =
-          (λ i. turnOf (sym ho i) (placedIn (effectOf (sym ho i .reply)) (elementIn g k) at b) []) ∙ ap (λ (x : List ℕ). turnOf o x []) h
+          (λ i. turnOf (sym ho i) (placedIn (effectOf (sym ho i .reply)) (elementOf n k m) at b) []) ∙ ap (λ (x : List ℕ). turnOf o x []) h
 
       stored-memory : j ≡ 0 → o .reply ≡ Accepted
           → storedOf m (baseOf n k + at) b ≡ splice m (baseOf n k) (splice (elementOf n k m) at b)
       unfolding elementOf
       stored-memory z h =
-          let zd = found-sized s n (length m) (length t) k c j f z in
+          let zd = found-sized s n (length m) count k c j f z in
           let y = place-accepted n active c at (length b) (ap (λ (w : Outcome). w .reply) (sym ho) ∙ h) in
-          store-in m b (baseOf n k) n at (within-memory s n m (length t) k zd (found-slot s n (length m) (length t) k c j f z))
-          (sizes-facts s n (length m) (length t) zd .n-most) (⊎-elim inl (λ w. inr (w .0, w .1)) y)
+          store-in m b (baseOf n k) n at (within-memory s n m count k zd (found-slot s n (length m) count k c j f z))
+          (sizes-facts s n (length m) count zd .n-most) (⊎-elim inl (λ w. inr (w .0, w .1)) y)
 
-      pub place-stored : (l : List ℕ) → storesB (effectOf (a .answer .reply)) ≡ true → l ≡ storedOf m (baseOf n k + at) b → Places l
-      place-stored l h d =
+      pub place-stores : (l : List ℕ) → storesB (effectOf (a .answer .reply)) ≡ true → l ≡ storedOf m (baseOf n k + at) b → Places l
+      place-stores l h d =
           let z = stores-found j ls c o a p h in
           let y = stores-is (o .reply) (ap storesB (sym (effect-turned j ls c o a p z)) ∙ h) in
-          on-settled s n t ls m k (Request.place at b) c hc j f active ha o a p (splice (elementIn g k) at b) [] l
+          on-shown s n m count ls k (Request.place at b) c j f active ha o a p (splice (elementOf n k m) at b) [] l
           (λ x. (
-            place-turn (splice (elementIn g k) at b) (ap (λ (r : Reply). placedIn (effectOf r) (elementIn g k) at b) y),
+            place-turn (splice (elementOf n k m) at b) (ap (λ (r : Reply). placedIn (effectOf r) (elementOf n k m) at b) y),
             d ∙ stored-memory z y,
           ))
           (λ x. absurd (x z))
 
-      pub place-kept : (l : List ℕ) → storesB (effectOf (a .answer .reply)) ≡ false → l ≡ m → Places l
-      place-kept l h d =
-          on-settled s n t ls m k (Request.place at b) c hc j f active ha o a p (elementIn g k) [] l
+      pub place-keeps : (l : List ℕ) → storesB (effectOf (a .answer .reply)) ≡ false → l ≡ m → Places l
+      place-keeps l h d =
+          on-shown s n m count ls k (Request.place at b) c j f active ha o a p (elementOf n k m) [] l
           (λ z. (
-            place-turn (elementIn g k) (placed-not (effectOf (o .reply)) (elementIn g k) at b
+            place-turn (elementOf n k m) (placed-not (effectOf (o .reply)) (elementOf n k m) at b
                 (ap storesB (sym (effect-turned j ls c o a p z)) ∙ h)),
-            d ∙ sym (kept-memory s n m (length t) k (found-sized s n (length m) (length t) k c j f z) (found-slot s n (length m) (length t) k c j f z)),
+            d ∙ sym (kept-memory s n m count k (found-sized s n (length m) count k c j f z) (found-slot s n (length m) count k c j f z)),
           ))
           (λ x. (refl, d))
 
   -- READ: the unread bytes are copied to out where they are read; else it is as it was
   module _
-      (k : ℕ) (out : List ℕ) (c : Record) (hc : c ≡ recordAt t k) (j : ℕ) (f : j ≡ foundOf s n (length m) (length t) k c)
-      (active : Bool) (ha : active ≡ activeB (ls .active) (c .id .link)) (whole : Bool) (hw : whole ≡ intactAt m (baseOf n k))
+      (k : ℕ) (out : List ℕ) (c : Record) (j : ℕ) (f : j ≡ foundOf s n (length m) count k c)
+      (active : Bool) (ha : active ≡ activeFor ls c) (whole : Bool) (hw : whole ≡ intactAt m (baseOf n k))
       (o : Outcome) (ho : o ≡ readOf n active c whole (length out))
     where
       read-out : j ≡ 0 → Element.readOf m (baseOf n k) n (c .inbound .consumer .offset) (copiedOf (effectOf (o .reply))) out
-          ≡ readInto (effectOf (o .reply)) (c .inbound .consumer) (elementIn g k) out
+          ≡ readInto (effectOf (o .reply)) (c .inbound .consumer) (elementOf n k m) out
       unfolding elementOf
       read-out z =
-          let zd = found-sized s n (length m) (length t) k c j f z in
-          let y = sizes-facts s n (length m) (length t) zd in
+          let zd = found-sized s n (length m) count k c j f z in
+          let y = sizes-facts s n (length m) count zd in
           read-into (o .reply) (c .inbound .consumer) m (baseOf n k) n out
           (λ i e.
           readable m (baseOf n k) n active c whole out i
-          (within-memory s n m (length t) k zd (found-slot s n (length m) (length t) k c j f z))
+          (within-memory s n m count k zd (found-slot s n (length m) count k c j f z))
           (y .n-least) (y .n-most) (ap (λ (w : Outcome). w .reply) (sym ho) ∙ e))
 
-      whole-is : j ≡ 0 → whole ≡ intactB (elementIn g k)
+      whole-is : j ≡ 0 → whole ≡ intactB (elementOf n k m)
       whole-is z =
           hw
-          ∙ intact-memory s n m (length t) k (found-sized s n (length m) (length t) k c j f z) (found-slot s n (length m) (length t) k c j f z)
+          ∙ intact-memory s n m count k (found-sized s n (length m) count k c j f z) (found-slot s n (length m) count k c j f z)
 
       read-turn : j ≡ 0
-          → requestTurn n active c (elementIn g k) (Request.read out)
-          ≡ turnOf o (elementIn g k) (readInto (effectOf (o .reply)) (c .inbound .consumer) (elementIn g k) out)
+          → requestTurn n active c (elementOf n k m) (Request.read out)
+          ≡ turnOf o (elementOf n k m) (readInto (effectOf (o .reply)) (c .inbound .consumer) (elementOf n k m) out)
       unfolding requestTurn
       read-turn z =
-          let y : readOf n active c (intactB (elementIn g k)) (length out) ≡ o =
+          let y : readOf n active c (intactB (elementOf n k m)) (length out) ≡ o =
           sym (ho ∙ ap (λ (w : Bool). readOf n active c w (length out)) (whole-is z)) in
-          λ i. turnOf (y i) (elementIn g k) (readInto (effectOf (y i .reply)) (c .inbound .consumer) (elementIn g k) out)
+          λ i. turnOf (y i) (elementOf n k m) (readInto (effectOf (y i .reply)) (c .inbound .consumer) (elementOf n k m) out)
 
-      pub read-did : (a : Turned) → a ≡ settledBy j ls c o → (i : ℕ) → i ≡ copiedOf (effectOf (a .answer .reply)) → (l : List ℕ)
+      pub reads : (a : Turned) → a ≡ settledBy j ls c o → (i : ℕ) → i ≡ copiedOf (effectOf (a .answer .reply)) → (l : List ℕ)
           → l ≡ Element.readOf m (baseOf n k) n (c .inbound .consumer .offset) i out
-          → Promise s n m m t ls (Call.on k (Request.read out)) k a l
-      read-did a p i hi l hl =
-          on-settled s n t ls m k (Request.read out) c hc j f active ha o a p (elementIn g k) l m
+          → shownBy a l m ≡ onRecord s n m count ls k c (Request.read out)
+      reads a p i hi l hl =
+          on-shown s n m count ls k (Request.read out) c j f active ha o a p (elementOf n k m) l m
           (λ z. (
-            read-turn z ∙ ap (turnOf o (elementIn g k)) (sym (hl ∙ count (hi ∙ ap copiedOf (effect-turned j ls c o a p z)) ∙ read-out z)),
-            sym (kept-memory s n m (length t) k (found-sized s n (length m) (length t) k c j f z) (found-slot s n (length m) (length t) k c j f z)),
+            read-turn z ∙ ap (turnOf o (elementOf n k m)) (sym (hl ∙ copied (hi ∙ ap copiedOf (effect-turned j ls c o a p z)) ∙ read-out z)),
+            sym (kept-memory s n m count k (found-sized s n (length m) count k c j f z) (found-slot s n (length m) count k c j f z)),
           ))
-          (λ h. (hl ∙ count (hi ∙ ap copiedOf (effect-refused j ls c o a p h)) ∙ read-none m (baseOf n k) n (c .inbound .consumer .offset) out, refl))
+          (λ h. (hl ∙ copied (hi ∙ ap copiedOf (effect-refused j ls c o a p h)) ∙ read-none m (baseOf n k) n (c .inbound .consumer .offset) out, refl))
         where
-          count : {x : ℕ} → i ≡ x
+          copied : {x : ℕ} → i ≡ x
               → Element.readOf m (baseOf n k) n (c .inbound .consumer .offset) i out
               ≡ Element.readOf m (baseOf n k) n (c .inbound .consumer .offset) x out
-          count e = ap (λ (y : ℕ). Element.readOf m (baseOf n k) n (c .inbound .consumer .offset) y out) e
+          copied e = ap (λ (y : ℕ). Element.readOf m (baseOf n k) n (c .inbound .consumer .offset) y out) e
+
+-- IN A TABLE that shows the record
+module _ (s n : ℕ) (t : List Record) (ls : Links) (m : List ℕ) where
+  module _
+      (k at : ℕ) (b : List ℕ) (c : Record) (hc : c ≡ recordAt t k) (j : ℕ) (f : j ≡ foundOf s n (length m) (length t) k c)
+      (active : Bool) (ha : active ≡ activeFor ls c) (o : Outcome) (ho : o ≡ placeOf n active c at (length b))
+      (a : Turned) (p : a ≡ settledBy j ls c o) (l : List ℕ)
+    where
+      abbrev Placed : Type 0
+      Placed = Promise s n m l t ls (Call.on k (Request.place at b)) k a []
+
+      pub place-stored : storesB (effectOf (a .answer .reply)) ≡ true → l ≡ storedOf m (baseOf n k + at) b → Placed
+      place-stored h d =
+          on-promised s n t ls m k (Request.place at b) c hc a [] l
+          (place-stores s n m (length t) ls k at b c j f active ha o ho a p l h d)
+
+      pub place-kept : storesB (effectOf (a .answer .reply)) ≡ false → l ≡ m → Placed
+      place-kept h d =
+          on-promised s n t ls m k (Request.place at b) c hc a [] l
+          (place-keeps s n m (length t) ls k at b c j f active ha o ho a p l h d)
+
+  pub read-did : (k : ℕ) (out : List ℕ) (c : Record) → c ≡ recordAt t k → (j : ℕ) → j ≡ foundOf s n (length m) (length t) k c
+      → (active : Bool) → active ≡ activeFor ls c → (whole : Bool) → whole ≡ intactAt m (baseOf n k)
+      → (o : Outcome) → o ≡ readOf n active c whole (length out)
+      → (a : Turned) → a ≡ settledBy j ls c o → (i : ℕ) → i ≡ copiedOf (effectOf (a .answer .reply)) → (l : List ℕ)
+      → l ≡ Element.readOf m (baseOf n k) n (c .inbound .consumer .offset) i out
+      → Promise s n m m t ls (Call.on k (Request.read out)) k a l
+  read-did k out c hc j f active ha whole hw o ho a p i hi l hl =
+      on-promised s n t ls m k (Request.read out) c hc a l m
+      (reads s n m (length t) ls k out c j f active ha whole hw o ho a p i hi l hl)

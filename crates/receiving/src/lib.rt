@@ -3,9 +3,8 @@
 ghost use mathlib.Core.Path.{_≡_};
 ghost use mathlib.Core.List.{[]};
 ghost use Rattle.outcome.specs.Outcome.{effectOf};
-ghost use Rattle.rules.specs.Rules.{Call};
 ghost use Rattle.rules.specs.Rules as Rules;
-ghost use Rattle.rules.specs.Promises.{DidOn};
+ghost use Rattle.rules.specs.Promises.{shownBy, onRecord};
 ghost use Rattle.receiving.specs.Receiving.{storesB, copiedOf};
 use connection::Record;
 use outcome::Effect;
@@ -38,8 +37,8 @@ pub fn place(
     bytes: &[u8],
 ) -> Turned
     ensures { λ r.
-        ⌜ DidOn s n (now (mem .entry)) (now (mem .exit)) count links
-        (Call.on slot (Rules.Request.place offset (now (bytes .entry)))) slot rec r [] ⌝ }
+        ⌜ shownBy r [] (now (mem .exit))
+        ≡ onRecord s n (now (mem .entry)) count links slot rec (Rules.Request.place offset (now (bytes .entry))) ⌝ }
 {
     let no = table::found(s, n, mem.len(), count, slot, rec);
     let active = table::link_active(links, rec.id.link);
@@ -77,15 +76,15 @@ pub fn read(
     out: &mut [u8],
 ) -> Turned
     ensures { λ r.
-        ⌜ DidOn s n (now (mem .entry)) (now (mem .entry)) count links
-        (Call.on slot (Rules.Request.read (now (out .entry)))) slot rec r (now (out .exit)) ⌝ }
+        ⌜ shownBy r (now (out .exit)) (now (mem .entry))
+        ≡ onRecord s n (now (mem .entry)) count links slot rec (Rules.Request.read (now (out .entry))) ⌝ }
 {
-    let no = table::found(s, n, mem.len(), count, slot, rec);
+    let refusal = table::found(s, n, mem.len(), count, slot, rec);
     let active = table::link_active(links, rec.id.link);
     let base = element::base_of(n, slot);
     let whole = element::intact(mem, base);
     let o = receive::read(n, active, rec, whole, out.len());
-    let d = table::settled(no, links, rec, o);
+    let d = table::settled(refusal, links, rec, o);
     let at = rec.inbound.consumer.offset;
     element::read(mem, base, n as usize, at as usize, copied(d) as usize, out);
     d

@@ -1,9 +1,9 @@
 // Send and urgent send, on one record (document 01, "Calls of a connection"; document 02, 2026-04). What each is given and promises is as
 // in crate `calls`.
+ghost use mathlib.Core.Path.{_≡_};
 ghost use mathlib.Core.List.{[]};
-ghost use Rattle.rules.specs.Rules.{Call};
 ghost use Rattle.rules.specs.Rules as Rules;
-ghost use Rattle.rules.specs.Promises.{DidOn};
+ghost use Rattle.rules.specs.Promises.{shownBy, onRecord};
 use connection::Record;
 use table::Links;
 use table::Turned;
@@ -19,8 +19,8 @@ pub fn send(
     bytes: &[u8],
 ) -> Turned
     ensures { λ r.
-        ⌜ DidOn s n (now (mem .entry)) (now (mem .entry)) count links
-        (Call.on slot (Rules.Request.send (now (bytes .entry)))) slot rec r [] ⌝ }
+        ⌜ shownBy r [] (now (mem .entry))
+        ≡ onRecord s n (now (mem .entry)) count links slot rec (Rules.Request.send (now (bytes .entry))) ⌝ }
 {
     let no = table::found(s, n, mem.len(), count, slot, rec);
     let active = table::link_active(links, rec.id.link);
@@ -39,11 +39,11 @@ pub fn urgent_send(
     bytes: &[u8],
 ) -> Turned
     ensures { λ r.
-        ⌜ DidOn s n (now (mem .entry)) (now (mem .entry)) count links
-        (Call.on slot (Rules.Request.urgent (now (bytes .entry)))) slot rec r [] ⌝ }
+        ⌜ shownBy r [] (now (mem .entry))
+        ≡ onRecord s n (now (mem .entry)) count links slot rec (Rules.Request.urgent (now (bytes .entry))) ⌝ }
 {
-    let no = table::found(s, n, mem.len(), count, slot, rec);
+    let refusal = table::found(s, n, mem.len(), count, slot, rec);
     let active = table::link_active(links, rec.id.link);
     let o = transmit::urgent_send(n, active, rec, bytes.len());
-    table::settled(no, links, rec, o)
+    table::settled(refusal, links, rec, o)
 }

@@ -2,8 +2,7 @@
 use mathlib.Core.Path.{sym, _∙_}
 use denote.Ref.{now}
 use borrow.Author.Needs.{needs}
-use Rattle.table.proofs.Laws.{sized-in}
-use Rattle.calls.proofs.Laws.{hear-good, hear-bad, hear-unsized, kept-by}
+use Rattle.calls.proofs.Laws.{good-shown, bad-shown, unsized-shown, kept-by}
 use Rattle.calls.proofs.hear.Statement.{statement}
 use Rattle.calls.proofs.hear.Tie as tie
 
@@ -40,9 +39,8 @@ returns c =
     let d = w .before .before in
     let z = d .before .before in
     let a = z .before .before .before .args in
-    λ t h k e.
-    hear-good (a .s) (a .n) t (a .links) (now (a .mem)) (now (a .bytes)) (a .holder) k (a .rec) e (c .heard .result)
-    (sized-in (a .s) (a .n) _ t h (z .sizes-ok .ensures) ∙ d .before .if1 .taken) _
+    good-shown (a .s) (a .n) (now (a .mem)) (a .count) (a .links) (now (a .bytes)) (a .holder) (a .rec) (c .heard .result)
+    (sym (z .sizes-ok .ensures) ∙ d .before .if1 .taken) _
     (sym (d .decode .ensures) ∙ w .what .given .1) (c .heard .ensures)
 
 returns-2 : tie.Need-returns-2
@@ -51,9 +49,8 @@ returns-2 c =
     let d = r .before .before .before in
     let z = d .before .before in
     let a = z .before .before .before .args in
-    λ t h k e.
-    hear-bad (a .s) (a .n) t (a .links) (now (a .mem)) (now (a .bytes)) (a .holder) k (a .rec) e (c .kept .result)
-    (sized-in (a .s) (a .n) _ t h (z .sizes-ok .ensures) ∙ d .before .if1 .taken)
+    bad-shown (a .s) (a .n) (now (a .mem)) (a .count) (a .links) (now (a .bytes)) (a .holder) (a .rec) (c .kept .result)
+    (sym (z .sizes-ok .ensures) ∙ d .before .if1 .taken)
     (sym (d .decode .ensures) ∙ r .before .enum-told .given .1) (kept-by (a .rec) (c .kept .ensures) (r .refuse .ensures))
 
 returns-3 : tie.Need-returns-3
@@ -61,9 +58,8 @@ returns-3 c =
     let r = c .before in
     let z = r .before .before in
     let a = z .before .before .before .args in
-    λ t h k e.
-    hear-unsized (a .s) (a .n) t (a .links) (now (a .mem)) (now (a .bytes)) (a .holder) k (a .rec) e (c .kept2 .result)
-    (sized-in (a .s) (a .n) _ t h (z .sizes-ok .ensures) ∙ r .before .if1 .left) (kept-by (a .rec) (c .kept2 .ensures) (r .refuse2 .ensures))
+    unsized-shown (a .s) (a .n) (now (a .mem)) (a .count) (a .links) (now (a .bytes)) (a .holder) (a .rec) (c .kept2 .result)
+    (sym (z .sizes-ok .ensures) ∙ r .before .if1 .left) (kept-by (a .rec) (c .kept2 .ensures) (r .refuse2 .ensures))
 
 pub hear-spec : {M : Type 1} → statement M
 hear-spec =

@@ -99,8 +99,8 @@ use Rattle.group.proofs.make.Key.{name as #call}
 use Rattle.group.proofs.make as call
 use Rattle.group.proofs.make.Statement as stated
 use Rattle.group.proofs.make.Code as code
-use Rattle.group.specs.Group.{OutKept, callOf, outLeft, slotOf, tokenOf}
-use Rattle.rules.specs.Promises.{DidIn}
+use Rattle.group.specs.Group.{OutKept, callOf, commandRecord, outLeft, slotOf, tokenOf}
+use Rattle.rules.specs.Promises.{shownBy}
 use Rattle.rules.specs.Rules.{Did, answerOf, groupOf}
 use Rattle.table.specs.Table.{holderIn, recordAt, withRecord}
 use Rattle.group.proofs.Laws.{make-returns}
@@ -275,7 +275,7 @@ module _ {M : Type 1} (𝓤 : URA M) (H : Heap 𝓤) (A : Atoms 𝓤) (W : Given
     abbrev locals : ℕ → ℕ → ℕ → ℕ → ℕ → ℕ → ℕ → ℕ → ℕ → ℕ → ℕ → ℕ → ℕ → ℕ → ℕ → ℕ → ℕ → ℕ → ℕ → ℕ → ℕ → ℕ → ℕ → ℕ → ℕ → ℕ → ℕ → Env 𝓤 H
     locals l₀ l₁ l₂ l₃ l₄ l₅ l₆ l₇ l₈ l₉ l₁₀ l₁₁ l₁₂ l₁₃ l₁₄ l₁₅ l₁₆ l₁₇ l₁₈ l₁₉ l₂₀ l₂₁ l₂₂ l₂₃ l₂₄ l₂₅ l₂₆ = (AnsweredL.mir, l₀) ∷ ((tyInt w32), l₁) ∷ ((tyInt w32), l₂) ∷ ((sliceTy (tyRef (named 0) mut (tyInt w8))), l₃) ∷ ((sliceTy (tyRef (named 1) mut (pointee (RecordT.the-row .written)))), l₄) ∷ (LinksL.mir, l₅) ∷ (CommandL.mir, l₆) ∷ ((sliceTy (tyRef (named 2) imm (tyInt w8))), l₇) ∷ ((sliceTy (tyRef (named 3) mut (tyInt w8))), l₈) ∷ ((tyInt w32), l₉) ∷ ((tyInt w64), l₁₀) ∷ ((tyInt w64), l₁₁) ∷ (RecordL.mir, l₁₂) ∷ (TurnedL.mir, l₁₃) ∷ (RecordL.mir, l₁₄) ∷ ((tyRef erased imm (pointee (RecordT.the-row .written))), l₁₅) ∷ ((sliceTy (tyRef erased imm (pointee (RecordT.the-row .written)))), l₁₆) ∷ ((tyRef erased imm (pointee (RecordT.the-row .written))), l₁₇) ∷ ((sliceTy (tyRef erased imm (pointee (RecordT.the-row .written)))), l₁₈) ∷ ((tyRef erased mut (tyInt w8)), l₁₉) ∷ ((sliceTy (tyRef erased mut (tyInt w8))), l₂₀) ∷ ((tyInt w64), l₂₁) ∷ ((tyRef erased mut (tyInt w8)), l₂₂) ∷ ((sliceTy (tyRef erased mut (tyInt w8))), l₂₃) ∷ (tyUnit, l₂₄) ∷ ((tyRef erased mut (pointee (RecordT.the-row .written))), l₂₅) ∷ ((sliceTy (tyRef erased mut (pointee (RecordT.the-row .written)))), l₂₆) ∷ []
 
-    part-5 : (l₀ l₁ l₂ l₃ l₄ l₅ l₆ l₇ l₈ l₉ l₁₀ l₁₁ l₁₂ l₁₃ l₁₄ l₁₅ l₁₆ l₁₇ l₁₈ l₁₉ l₂₀ l₂₁ l₂₂ l₂₃ l₂₄ l₂₅ l₂₆ : ℕ) (w : Val) (r : ℕ) (ws : Unit {0} × (Unit {0} × Unit {0})) (e : r ≡ tokenOf command (ys-bytes)) (is : Is u32 r (w ∷ [])) (w₂ : Val) (r₂ : ℕ) (ws₂ : Unit {0} × (Unit {0} × Unit {0})) (e₂ : r₂ ≡ holderIn (ys-table) r) (is₂ : Is usize r₂ (w₂ ∷ [])) (w₃ : Val) (r₃ : ℕ) (ws₃ : Unit {0} × (Unit {0} × Unit {0})) (e₃ : r₃ ≡ slotOf command r₂) (is₃ : Is usize r₃ (w₃ ∷ [])) (w₄ : Val) (r₄ : Record) (ws₄ : Unit {0} × (Unit {0} × Unit {0})) (e₄ : r₄ ≡ recordAt (ys-table) r₃) (is₄ : Is RecordT.the-row r₄ (w₄ ∷ [])) (w₅ : Val) (r₅ : Turned) (ws₅ : Unit {0} × (Unit {0} × (List ℕ × (Unit {0} × (Unit {0} × (Unit {0} × (Unit {0} × (Unit {0} × (Unit {0} × (List ℕ × Unit {0})))))))))) (e₅ : DidIn s n (ys-mem) (ws₅ .1 .1 .0) (length ys-table) links (callOf command (ys-bytes) (ys-out)) (tokenOf command (ys-bytes)) r₂ (slotOf command r₂) r₄ r₅ (outLeft command (ws₅ .1 .1 .1 .1 .1 .1 .1 .1 .1 .0)) × OutKept command (ys-out) (ws₅ .1 .1 .1 .1 .1 .1 .1 .1 .1 .0)) (len : length (ws₅ .1 .1 .0) ≡ length ys-mem) (len₂ : length (ws₅ .1 .1 .1 .1 .1 .1 .1 .1 .1 .0) ≡ length ys-out) (is₅ : Is TurnedT.the-row r₅ (w₅ ∷ [])) (w₆ : Val) (r₆ : Record) (ws₆ : Unit {0} × Unit {0}) (e₆ : r₆ ≡ r₅ .after) (is₆ : Is RecordT.the-row r₆ (w₆ ∷ [])) → Sq W (‵ (flft κ₃ q₃) ∷ ‵ (flft κ₂ q₂) ∷ ‵ (flft κ₀ q₀) ∷ ‵ (finally u8 γ-out (ws₅ .1 .1 .1 .1 .1 .1 .1 .1 .1 .0)) ∷ ‵ (finally u8 γ-mem (ws₅ .1 .1 .0)) ∷ ‵ Own-bytes ∷ ‵ Own-table ∷ ‵ (flft κ₁ q₁) ∷ ‵ (froom (sliceTy (tyRef erased mut (pointee (RecordT.the-row .written)))) l₂₆ 0) ∷ ‵ (fdies (sliceTy (tyRef erased mut (pointee (RecordT.the-row .written)))) l₂₆) ∷ ‵ (froom (tyRef erased mut (pointee (RecordT.the-row .written))) l₂₅ 0) ∷ ‵ (fdies (tyRef erased mut (pointee (RecordT.the-row .written))) l₂₅) ∷ ‵ (froom tyUnit l₂₄ 0) ∷ ‵ (fdies tyUnit l₂₄) ∷ ‵ (fat fullShare (sliceTy (tyRef erased mut (tyInt w8))) l₂₃ 0 (s-out)) ∷ ‵ (fdies (sliceTy (tyRef erased mut (tyInt w8))) l₂₃) ∷ ‵ (fat fullShare (tyRef erased mut (tyInt w8)) l₂₂ 0 (vptr b-out o-out)) ∷ ‵ (fdies (tyRef erased mut (tyInt w8)) l₂₂) ∷ ‵ (fat fullShare (tyInt w64) l₂₁ 0 (vint w64 (length ys-table))) ∷ ‵ (fdies (tyInt w64) l₂₁) ∷ ‵ (fat fullShare (sliceTy (tyRef erased mut (tyInt w8))) l₂₀ 0 (s-mem)) ∷ ‵ (fdies (sliceTy (tyRef erased mut (tyInt w8))) l₂₀) ∷ ‵ (fat fullShare (tyRef erased mut (tyInt w8)) l₁₉ 0 (vptr b-mem o-mem)) ∷ ‵ (fdies (tyRef erased mut (tyInt w8)) l₁₉) ∷ ‵ (fat fullShare (sliceTy (tyRef erased imm (pointee (RecordT.the-row .written)))) l₁₈ 0 (s-table)) ∷ ‵ (fdies (sliceTy (tyRef erased imm (pointee (RecordT.the-row .written)))) l₁₈) ∷ ‵ (fat fullShare (tyRef erased imm (pointee (RecordT.the-row .written))) l₁₇ 0 (vptr b-table o-table)) ∷ ‵ (fdies (tyRef erased imm (pointee (RecordT.the-row .written))) l₁₇) ∷ ‵ (fat fullShare (sliceTy (tyRef erased imm (pointee (RecordT.the-row .written)))) l₁₆ 0 (s-table)) ∷ ‵ (fdies (sliceTy (tyRef erased imm (pointee (RecordT.the-row .written)))) l₁₆) ∷ ‵ (fat fullShare (tyRef erased imm (pointee (RecordT.the-row .written))) l₁₅ 0 (vptr b-table o-table)) ∷ ‵ (fdies (tyRef erased imm (pointee (RecordT.the-row .written))) l₁₅) ∷ ‵ (fat fullShare RecordL.mir l₁₄ 0 (w₆)) ∷ ‵ (fdies RecordL.mir l₁₄) ∷ ‵ (fat fullShare TurnedL.mir l₁₃ 0 (w₅)) ∷ ‵ (fdies TurnedL.mir l₁₃) ∷ ‵ (fat fullShare RecordL.mir l₁₂ 0 (w₄)) ∷ ‵ (fdies RecordL.mir l₁₂) ∷ ‵ (fat fullShare (tyInt w64) l₁₁ 0 (vint w64 r₃)) ∷ ‵ (fdies (tyInt w64) l₁₁) ∷ ‵ (fat fullShare (tyInt w64) l₁₀ 0 (vint w64 r₂)) ∷ ‵ (fdies (tyInt w64) l₁₀) ∷ ‵ (fat fullShare (tyInt w32) l₉ 0 (vint w32 r)) ∷ ‵ (fdies (tyInt w32) l₉) ∷ ‵ (fat fullShare (sliceTy (tyRef (named 3) mut (tyInt w8))) l₈ 0 (s-out)) ∷ ‵ (fdies (sliceTy (tyRef (named 3) mut (tyInt w8))) l₈) ∷ ‵ (fat fullShare (sliceTy (tyRef (named 2) imm (tyInt w8))) l₇ 0 (s-bytes)) ∷ ‵ (fdies (sliceTy (tyRef (named 2) imm (tyInt w8))) l₇) ∷ ‵ (fat fullShare CommandL.mir l₆ 0 (v-command)) ∷ ‵ (fdies CommandL.mir l₆) ∷ ‵ (fat fullShare LinksL.mir l₅ 0 (v-links)) ∷ ‵ (fdies LinksL.mir l₅) ∷ ‵ (fat fullShare (sliceTy (tyRef (named 1) mut (pointee (RecordT.the-row .written)))) l₄ 0 (s-table)) ∷ ‵ (fdies (sliceTy (tyRef (named 1) mut (pointee (RecordT.the-row .written)))) l₄) ∷ ‵ (fat fullShare (sliceTy (tyRef (named 0) mut (tyInt w8))) l₃ 0 (s-mem)) ∷ ‵ (fdies (sliceTy (tyRef (named 0) mut (tyInt w8))) l₃) ∷ ‵ (fat fullShare (tyInt w32) l₂ 0 (vint w32 n)) ∷ ‵ (fdies (tyInt w32) l₂) ∷ ‵ (fat fullShare (tyInt w32) l₁ 0 (vint w32 s)) ∷ ‵ (fdies (tyInt w32) l₁) ∷ ‵ (froom AnsweredL.mir l₀ 0) ∷ ‵ (fdies AnsweredL.mir l₀) ∷ []) (runs C Λ (locals l₀ l₁ l₂ l₃ l₄ l₅ l₆ l₇ l₈ l₉ l₁₀ l₁₁ l₁₂ l₁₃ l₁₄ l₁₅ l₁₆ l₁₇ l₁₈ l₁₉ l₂₀ l₂₁ l₂₂ l₂₃ l₂₄ l₂₅ l₂₆) (after 15 (code.function .body)) (atRet (locals l₀ l₁ l₂ l₃ l₄ l₅ l₆ l₇ l₈ l₉ l₁₀ l₁₁ l₁₂ l₁₃ l₁₄ l₁₅ l₁₆ l₁₇ l₁₈ l₁₉ l₂₀ l₂₁ l₂₂ l₂₃ l₂₄ l₂₅ l₂₆) Post))
+    part-5 : (l₀ l₁ l₂ l₃ l₄ l₅ l₆ l₇ l₈ l₉ l₁₀ l₁₁ l₁₂ l₁₃ l₁₄ l₁₅ l₁₆ l₁₇ l₁₈ l₁₉ l₂₀ l₂₁ l₂₂ l₂₃ l₂₄ l₂₅ l₂₆ : ℕ) (w : Val) (r : ℕ) (ws : Unit {0} × (Unit {0} × Unit {0})) (e : r ≡ tokenOf command (ys-bytes)) (is : Is u32 r (w ∷ [])) (w₂ : Val) (r₂ : ℕ) (ws₂ : Unit {0} × (Unit {0} × Unit {0})) (e₂ : r₂ ≡ holderIn (ys-table) r) (is₂ : Is usize r₂ (w₂ ∷ [])) (w₃ : Val) (r₃ : ℕ) (ws₃ : Unit {0} × (Unit {0} × Unit {0})) (e₃ : r₃ ≡ slotOf command r₂) (is₃ : Is usize r₃ (w₃ ∷ [])) (w₄ : Val) (r₄ : Record) (ws₄ : Unit {0} × (Unit {0} × Unit {0})) (e₄ : r₄ ≡ recordAt (ys-table) r₃) (is₄ : Is RecordT.the-row r₄ (w₄ ∷ [])) (w₅ : Val) (r₅ : Turned) (ws₅ : Unit {0} × (Unit {0} × (List ℕ × (Unit {0} × (Unit {0} × (Unit {0} × (Unit {0} × (Unit {0} × (Unit {0} × (List ℕ × Unit {0})))))))))) (e₅ : (shownBy r₅ (outLeft command (ws₅ .1 .1 .1 .1 .1 .1 .1 .1 .1 .0)) (ws₅ .1 .1 .0) ≡ commandRecord s n (ys-mem) (length ys-table) links r₂ r₄ command (ys-bytes) (ys-out)) × OutKept command (ys-out) (ws₅ .1 .1 .1 .1 .1 .1 .1 .1 .1 .0)) (len : length (ws₅ .1 .1 .0) ≡ length ys-mem) (len₂ : length (ws₅ .1 .1 .1 .1 .1 .1 .1 .1 .1 .0) ≡ length ys-out) (is₅ : Is TurnedT.the-row r₅ (w₅ ∷ [])) (w₆ : Val) (r₆ : Record) (ws₆ : Unit {0} × Unit {0}) (e₆ : r₆ ≡ r₅ .after) (is₆ : Is RecordT.the-row r₆ (w₆ ∷ [])) → Sq W (‵ (flft κ₃ q₃) ∷ ‵ (flft κ₂ q₂) ∷ ‵ (flft κ₀ q₀) ∷ ‵ (finally u8 γ-out (ws₅ .1 .1 .1 .1 .1 .1 .1 .1 .1 .0)) ∷ ‵ (finally u8 γ-mem (ws₅ .1 .1 .0)) ∷ ‵ Own-bytes ∷ ‵ Own-table ∷ ‵ (flft κ₁ q₁) ∷ ‵ (froom (sliceTy (tyRef erased mut (pointee (RecordT.the-row .written)))) l₂₆ 0) ∷ ‵ (fdies (sliceTy (tyRef erased mut (pointee (RecordT.the-row .written)))) l₂₆) ∷ ‵ (froom (tyRef erased mut (pointee (RecordT.the-row .written))) l₂₅ 0) ∷ ‵ (fdies (tyRef erased mut (pointee (RecordT.the-row .written))) l₂₅) ∷ ‵ (froom tyUnit l₂₄ 0) ∷ ‵ (fdies tyUnit l₂₄) ∷ ‵ (fat fullShare (sliceTy (tyRef erased mut (tyInt w8))) l₂₃ 0 (s-out)) ∷ ‵ (fdies (sliceTy (tyRef erased mut (tyInt w8))) l₂₃) ∷ ‵ (fat fullShare (tyRef erased mut (tyInt w8)) l₂₂ 0 (vptr b-out o-out)) ∷ ‵ (fdies (tyRef erased mut (tyInt w8)) l₂₂) ∷ ‵ (fat fullShare (tyInt w64) l₂₁ 0 (vint w64 (length ys-table))) ∷ ‵ (fdies (tyInt w64) l₂₁) ∷ ‵ (fat fullShare (sliceTy (tyRef erased mut (tyInt w8))) l₂₀ 0 (s-mem)) ∷ ‵ (fdies (sliceTy (tyRef erased mut (tyInt w8))) l₂₀) ∷ ‵ (fat fullShare (tyRef erased mut (tyInt w8)) l₁₉ 0 (vptr b-mem o-mem)) ∷ ‵ (fdies (tyRef erased mut (tyInt w8)) l₁₉) ∷ ‵ (fat fullShare (sliceTy (tyRef erased imm (pointee (RecordT.the-row .written)))) l₁₈ 0 (s-table)) ∷ ‵ (fdies (sliceTy (tyRef erased imm (pointee (RecordT.the-row .written)))) l₁₈) ∷ ‵ (fat fullShare (tyRef erased imm (pointee (RecordT.the-row .written))) l₁₇ 0 (vptr b-table o-table)) ∷ ‵ (fdies (tyRef erased imm (pointee (RecordT.the-row .written))) l₁₇) ∷ ‵ (fat fullShare (sliceTy (tyRef erased imm (pointee (RecordT.the-row .written)))) l₁₆ 0 (s-table)) ∷ ‵ (fdies (sliceTy (tyRef erased imm (pointee (RecordT.the-row .written)))) l₁₆) ∷ ‵ (fat fullShare (tyRef erased imm (pointee (RecordT.the-row .written))) l₁₅ 0 (vptr b-table o-table)) ∷ ‵ (fdies (tyRef erased imm (pointee (RecordT.the-row .written))) l₁₅) ∷ ‵ (fat fullShare RecordL.mir l₁₄ 0 (w₆)) ∷ ‵ (fdies RecordL.mir l₁₄) ∷ ‵ (fat fullShare TurnedL.mir l₁₃ 0 (w₅)) ∷ ‵ (fdies TurnedL.mir l₁₃) ∷ ‵ (fat fullShare RecordL.mir l₁₂ 0 (w₄)) ∷ ‵ (fdies RecordL.mir l₁₂) ∷ ‵ (fat fullShare (tyInt w64) l₁₁ 0 (vint w64 r₃)) ∷ ‵ (fdies (tyInt w64) l₁₁) ∷ ‵ (fat fullShare (tyInt w64) l₁₀ 0 (vint w64 r₂)) ∷ ‵ (fdies (tyInt w64) l₁₀) ∷ ‵ (fat fullShare (tyInt w32) l₉ 0 (vint w32 r)) ∷ ‵ (fdies (tyInt w32) l₉) ∷ ‵ (fat fullShare (sliceTy (tyRef (named 3) mut (tyInt w8))) l₈ 0 (s-out)) ∷ ‵ (fdies (sliceTy (tyRef (named 3) mut (tyInt w8))) l₈) ∷ ‵ (fat fullShare (sliceTy (tyRef (named 2) imm (tyInt w8))) l₇ 0 (s-bytes)) ∷ ‵ (fdies (sliceTy (tyRef (named 2) imm (tyInt w8))) l₇) ∷ ‵ (fat fullShare CommandL.mir l₆ 0 (v-command)) ∷ ‵ (fdies CommandL.mir l₆) ∷ ‵ (fat fullShare LinksL.mir l₅ 0 (v-links)) ∷ ‵ (fdies LinksL.mir l₅) ∷ ‵ (fat fullShare (sliceTy (tyRef (named 1) mut (pointee (RecordT.the-row .written)))) l₄ 0 (s-table)) ∷ ‵ (fdies (sliceTy (tyRef (named 1) mut (pointee (RecordT.the-row .written)))) l₄) ∷ ‵ (fat fullShare (sliceTy (tyRef (named 0) mut (tyInt w8))) l₃ 0 (s-mem)) ∷ ‵ (fdies (sliceTy (tyRef (named 0) mut (tyInt w8))) l₃) ∷ ‵ (fat fullShare (tyInt w32) l₂ 0 (vint w32 n)) ∷ ‵ (fdies (tyInt w32) l₂) ∷ ‵ (fat fullShare (tyInt w32) l₁ 0 (vint w32 s)) ∷ ‵ (fdies (tyInt w32) l₁) ∷ ‵ (froom AnsweredL.mir l₀ 0) ∷ ‵ (fdies AnsweredL.mir l₀) ∷ []) (runs C Λ (locals l₀ l₁ l₂ l₃ l₄ l₅ l₆ l₇ l₈ l₉ l₁₀ l₁₁ l₁₂ l₁₃ l₁₄ l₁₅ l₁₆ l₁₇ l₁₈ l₁₉ l₂₀ l₂₁ l₂₂ l₂₃ l₂₄ l₂₅ l₂₆) (after 15 (code.function .body)) (atRet (locals l₀ l₁ l₂ l₃ l₄ l₅ l₆ l₇ l₈ l₉ l₁₀ l₁₁ l₁₂ l₁₃ l₁₄ l₁₅ l₁₆ l₁₇ l₁₈ l₁₉ l₂₀ l₂₁ l₂₂ l₂₃ l₂₄ l₂₅ l₂₆) Post))
     part-5 l₀ l₁ l₂ l₃ l₄ l₅ l₆ l₇ l₈ l₉ l₁₀ l₁₁ l₁₂ l₁₃ l₁₄ l₁₅ l₁₆ l₁₇ l₁₈ l₁₉ l₂₀ l₂₁ l₂₂ l₂₃ l₂₄ l₂₅ l₂₆ w r ws e is w₂ r₂ ws₂ e₂ is₂ w₃ r₃ ws₃ e₃ is₃ w₄ r₄ ws₄ e₄ is₄ w₅ r₅ ws₅ e₅ len len₂ is₅ w₆ r₆ ws₆ e₆ is₆ =
         assigns ! (addr ! (from ! (fld ! refl (hop ! (look-in ! 52 (sub ! 0 refl (whole !))) (stop !))))) (from ! (stop !)) (init ! 10 refl (tt, tt)) $
         assigns ! (agg ! (and-then ! (load ! (from ! (stop !)) (look ! 10 refl)) (and-then ! (load ! (from ! (fld ! refl (stop !))) (look-in ! 52 (sub ! 1 refl (whole !)))) (no-more !)))) (from ! (stop !)) (init ! 8 refl (tt, (tt, (record { fits = g-table .0 }, tt)))) $
@@ -310,8 +310,8 @@ module _ {M : Type 1} (𝓤 : URA M) (H : Heap 𝓤) (A : Atoms 𝓤) (W : Given
         move ! (3 ∷ []) $ use1 W (‵ Own-bytes ⊛ ‵ Own-bytes) (shr-slice-copy 𝓤 H A W (named 2) κ₂ u8 .twice x-bytes (s-bytes ∷ [])) $ split ! $ nothing ! $ move ! (8 ∷ 0 ∷ []) $ join ! $ move ! (2 ∷ 0 ∷ []) $ join ! $ move ! (7 ∷ 0 ∷ []) $ join ! $ move ! (5 ∷ 0 ∷ []) $ join ! $ move ! (4 ∷ 0 ∷ []) $ join ! $ move ! (4 ∷ 0 ∷ []) $ join ! $ use1 W (raw (C-f-turn 𝓤 H A mem run .pre (to-f-turn 𝓤 H A mem run κ₀ q₀ κ₂ q₂ κ₃ q₃ s (vint w32 s) n (vint w32 n) x-mem s-mem (length ys-table) (vint w64 (length ys-table)) links (v-links) r₂ (vint w64 r₂) r₄ (w₄) command (v-command) x-bytes s-bytes x-out s-out))) (goes-f-turn 𝓤 H A W mem run κ₀ q₀ κ₂ q₂ κ₃ q₃ s (vint w32 s) n (vint w32 n) x-mem s-mem (length ys-table) (vint w64 (length ys-table)) links (v-links) r₂ (vint w64 r₂) r₄ (w₄) command (v-command) x-bytes s-bytes x-out s-out (refl, g-s) (refl, g-n) (refl, (g-table .0)) g-links (refl, (is₂ .1)) is₄ g-command) $
         calls-at ! fm (C-f-turn 𝓤 H A mem run) known-f-turn (to-f-turn 𝓤 H A mem run κ₀ q₀ κ₂ q₂ κ₃ q₃ s (vint w32 s) n (vint w32 n) x-mem s-mem (length ys-table) (vint w64 (length ys-table)) links (v-links) r₂ (vint w64 r₂) r₄ (w₄) command (v-command) x-bytes s-bytes x-out s-out) (and-then ! (load ! (from ! (stop !)) (look ! 54 refl)) (and-then ! (load ! (from ! (stop !)) (look ! 52 refl)) (and-then ! (load ! (from ! (stop !)) (look ! 16 refl)) (and-then ! (load ! (from ! (stop !)) (look ! 14 refl)) (and-then ! (load ! (from ! (stop !)) (look ! 46 refl)) (and-then ! (load ! (from ! (stop !)) (look ! 36 refl)) (and-then ! (load ! (from ! (stop !)) (look ! 32 refl)) (and-then ! (load ! (from ! (stop !)) (look ! 44 refl)) (and-then ! (load ! (from ! (stop !)) (look ! 42 refl)) (and-then ! (load ! (from ! (stop !)) (look ! 10 refl)) (no-more !))))))))))) (λ w₅.
         use1 W (later (some (λ (r₅ : Turned). ((‵ (flft κ₀ q₀) ⊛ ‵ (flft κ₂ q₂) ⊛ ‵ (flft κ₃ q₃) ⊛ ‵ ftrue) ⊛ ‵ (TurnedT.the-row .own r₅ (w₅ ∷ []))) ⊛ raw (ensured 𝓤 H A f-turn.ended (f-turn.clauses 𝓤 H A mem run) (κ₀, (κ₂, (κ₃, tt))) (s, (n, (x-mem, ((length ys-table), (links, (r₂, (r₄, (command, (x-bytes, (x-out, tt)))))))))) tt r₅)))) (id⊢ 𝓤 _) $ await ! tt $ pick ! (λ r₅.
-        split ! $ move ! (1 ∷ []) $ use1 W (some (λ (ws₅ : Unit {0} × (Unit {0} × (List ℕ × (Unit {0} × (Unit {0} × (Unit {0} × (Unit {0} × (Unit {0} × (Unit {0} × (List ℕ × Unit {0})))))))))). ‵ (lasts f-turn.ended (κ₀, (κ₂, (κ₃, tt))) (s, (n, (x-mem, ((length ys-table), (links, (r₂, (r₄, (command, (x-bytes, (x-out, tt)))))))))) ws₅) ⊛ raw (fact 𝓤 (DidIn s n (ys-mem) (ws₅ .1 .1 .0) (length ys-table) links (callOf command (ys-bytes) (ys-out)) (tokenOf command (ys-bytes)) r₂ (slotOf command r₂) r₄ r₅ (outLeft command (ws₅ .1 .1 .1 .1 .1 .1 .1 .1 .1 .0)) × OutKept command (ys-out) (ws₅ .1 .1 .1 .1 .1 .1 .1 .1 .1 .0))))) (id⊢ 𝓤 _) $ pick ! (λ ws₅.
-        split ! $ move ! (1 ∷ []) $ heard ! (DidIn s n (ys-mem) (ws₅ .1 .1 .0) (length ys-table) links (callOf command (ys-bytes) (ys-out)) (tokenOf command (ys-bytes)) r₂ (slotOf command r₂) r₄ r₅ (outLeft command (ws₅ .1 .1 .1 .1 .1 .1 .1 .1 .1 .0)) × OutKept command (ys-out) (ws₅ .1 .1 .1 .1 .1 .1 .1 .1 .1 .0)) (λ e₅.
+        split ! $ move ! (1 ∷ []) $ use1 W (some (λ (ws₅ : Unit {0} × (Unit {0} × (List ℕ × (Unit {0} × (Unit {0} × (Unit {0} × (Unit {0} × (Unit {0} × (Unit {0} × (List ℕ × Unit {0})))))))))). ‵ (lasts f-turn.ended (κ₀, (κ₂, (κ₃, tt))) (s, (n, (x-mem, ((length ys-table), (links, (r₂, (r₄, (command, (x-bytes, (x-out, tt)))))))))) ws₅) ⊛ raw (fact 𝓤 ((shownBy r₅ (outLeft command (ws₅ .1 .1 .1 .1 .1 .1 .1 .1 .1 .0)) (ws₅ .1 .1 .0) ≡ commandRecord s n (ys-mem) (length ys-table) links r₂ r₄ command (ys-bytes) (ys-out)) × OutKept command (ys-out) (ws₅ .1 .1 .1 .1 .1 .1 .1 .1 .1 .0))))) (id⊢ 𝓤 _) $ pick ! (λ ws₅.
+        split ! $ move ! (1 ∷ []) $ heard ! ((shownBy r₅ (outLeft command (ws₅ .1 .1 .1 .1 .1 .1 .1 .1 .1 .0)) (ws₅ .1 .1 .0) ≡ commandRecord s n (ys-mem) (length ys-table) links r₂ r₄ command (ys-bytes) (ys-out)) × OutKept command (ys-out) (ws₅ .1 .1 .1 .1 .1 .1 .1 .1 .1 .0)) (λ e₅.
         fsplit ! $ drop ! $ fsplit ! $ drop ! $ fsplit ! $ fsplit ! $ move ! (1 ∷ []) $ feqL ! (λ len. move ! (1 ∷ []) $ fsplit ! $ drop ! $ fsplit ! $ drop ! $ fsplit ! $ drop ! $ fsplit ! $ drop ! $ fsplit ! $ drop ! $ fsplit ! $ drop ! $ fsplit ! $ fsplit ! $ move ! (1 ∷ []) $ feqL ! (λ len₂. move ! (1 ∷ []) $ drop ! $ move ! (2 ∷ []) $ split ! $
         move ! (1 ∷ []) $ peeks ! TurnedT.the-row (Is TurnedT.the-row) (shows 𝓤 H A TurnedT.the-row) r₅ (w₅ ∷ []) (λ is₅. drop ! $
         land ! (from ! (stop !)) (init ! 32 refl (LL.lawful TurnedT.the-type TurnedL.the-laws 𝓤 H A W .typed r₅ _ is₅ .0)) $

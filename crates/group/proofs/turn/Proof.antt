@@ -34,7 +34,7 @@ returns : tie.Need-returns
 returns c =
     let a = c .before .before .before .before .before .before .before .before .before .before .before .before .before .args in
     by-command (c .before .before .before .before .before .before .before .before .command .given .1) (a .s) (a .n) (now (a .mem)) (c .before .before .before .before .on .last .1 .1 .0) (a .count) (a .links) (now (a .bytes))
-    (now (a .out)) (c .before .before .before .before .on .last .1 .1 .1 .1 .1 .1 .1 .1 .1 .0) (a .holder) (a .rec) (c .before .before .before .before .on .result) ((λ t h k e. c .before .before .before .before .on .ensures .0 t h e), c .before .before .before .before .on .ensures .1)
+    (now (a .out)) (c .before .before .before .before .on .last .1 .1 .1 .1 .1 .1 .1 .1 .1 .0) (a .holder) (a .rec) (c .before .before .before .before .on .result) (c .before .before .before .before .on .ensures)
 
 same-length-3 : tie.Need-same-length-3
 same-length-3 c = search needs

@@ -1,7 +1,7 @@
 -- `management::manage` meets its contract. Assumes nothing.
 use denote.Ref.{now}
 use borrow.Author.Needs.{needs}
-use Rattle.management.proofs.Laws.{by-management, links-did}
+use Rattle.management.proofs.Laws.{by-management, sample-shown}
 use Rattle.management.proofs.manage.Statement.{statement}
 use Rattle.management.proofs.manage.Tie as tie
 
@@ -42,14 +42,14 @@ returns-2 : tie.Need-returns-2
 returns-2 c =
     let a = c .before .before .before .before .before .before .args in
     by-management (c .before .before .before .call2 .given .1) (a .s) (a .n) (now (a .mem)) (now (a .mem)) (a .count) (a .links) (a .holder) (a .rec)
-    (c .free .result) (λ t h k e. c .free .ensures t h e)
+    (c .free .result) (c .free .ensures)
 
 returns-3 : tie.Need-returns-3
 returns-3 c =
     let a = c .before .before .before .before .before .before .args in
     by-management (c .before .before .before .call3 .given .1) (a .s) (a .n) (now (a .mem)) (now (a .mem)) (a .count) (a .links) (a .holder) (a .rec)
     (c .kept .result)
-    (links-did _ _ _ _ _ _ _ _ _ _ (c .before .sample .ensures) _ (c .kept .ensures))
+    (sample-shown _ _ _ _ _ _ _ _ (c .before .sample .ensures) _ (c .kept .ensures))
 
 pub manage-spec : {M : Type 1} → statement M
 manage-spec =

@@ -5,7 +5,7 @@ use denote.Ref.{now}
 use borrow.Author.Needs.{needs}
 use Rattle.outcome.specs.declared.Reply.the-variants.{Accepted}
 use Rattle.outcome.specs.Outcome.{outcomeOf}
-use Rattle.opening.proofs.Laws.{free-did}
+use Rattle.opening.proofs.Laws.{free-shown}
 use Rattle.opening.proofs.free.Statement.{statement}
 use Rattle.opening.proofs.free.Tie as tie
 
@@ -27,10 +27,9 @@ returns c =
     let z = o .before in
     let f = z .before in
     let a = f .before .before .args in
-    λ t h e.
-    free-did (a .s) (a .n) t (a .links) (now (a .mem)) (a .slot) (a .rec) e (f .free-refusal .result) (f .free-refusal .ensures t h e)
-    (o .outcome-of .result) (o .outcome-of .ensures ∙ ap (outcomeOf Accepted false) (z .zero-record .ensures)) (c .settled .result)
-    (c .settled .ensures)
+    free-shown (a .s) (a .n) (now (a .mem)) (a .count) (a .links) (a .slot) (a .rec) (o .outcome-of .result) (c .settled .result)
+    (f .free-refusal .result) (c .settled .ensures) (f .free-refusal .ensures)
+    (o .outcome-of .ensures ∙ ap (outcomeOf Accepted false) (z .zero-record .ensures))
 
 pub free-spec : {M : Type 1} → statement M
 free-spec = tie.close (tie.spec free-refusal-requires zero-record-requires outcome-of-requires settled-requires returns)

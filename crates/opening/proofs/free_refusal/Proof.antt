@@ -1,8 +1,6 @@
 -- `opening::free_refusal` meets its contract. Assumes nothing.
-use mathlib.Core.Path.{_∙_}
-use denote.Ref.{now}
 use borrow.Author.Needs.{needs}
-use Rattle.opening.proofs.Laws.{free-number}
+use Rattle.rules.specs.Promises.{freeNumber}
 use Rattle.opening.proofs.free_refusal.Statement.{statement}
 use Rattle.opening.proofs.free_refusal.Tie as tie
 
@@ -28,6 +26,7 @@ refusal-if-requires-4 : tie.Need-refusal-if-requires-4
 refusal-if-requires-4 c κs = search needs
 
 returns : tie.Need-returns
+unfolding freeNumber
 returns c =
     let r2 = c .before in
     let r3 = r2 .before in
@@ -35,9 +34,7 @@ returns c =
     let w = r7 .before .before in
     let k = w .before .before in
     let z = k .before in
-    let a = z .before .before .args in
-    λ t h e.
-    (simp (
+    simp (
       c .refusal-if4 .ensures,
       r2 .refusal-if3 .ensures,
       r3 .refusal-if2 .ensures,
@@ -45,8 +42,7 @@ returns c =
       w .coherent .ensures,
       k .slot-ok .ensures,
       z .sizes-ok .ensures,
-    ))
-    ∙ free-number (a .s) (a .n) t (a .links) (now (a .mem)) (a .slot) (a .rec) e (a .count) h
+    )
 
 pub free-refusal-spec : {M : Type 1} → statement M
 free-refusal-spec =

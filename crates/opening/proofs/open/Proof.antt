@@ -1,13 +1,13 @@
 -- `opening::open` meets its contract. Assumes nothing.
 use Prim.Native.Nat.{ℕ}
 use mathlib.Core.Bool.{false}
-use mathlib.Core.Path.{ap, _∙_}
+use mathlib.Core.Path.{refl, ap, _∙_}
 use denote.Ref.{now}
 use borrow.Author.Needs.{needs}
 use Rattle.element.specs.Element.{clearedOf}
 use Rattle.outcome.specs.declared.Reply.the-variants.{Accepted}
 use Rattle.outcome.specs.Outcome.{outcomeOf}
-use Rattle.opening.proofs.Laws.{open-did, open-refused}
+use Rattle.opening.proofs.Laws.{open-shown}
 use Rattle.opening.proofs.open.Statement.{statement}
 use Rattle.opening.proofs.open.Tie as tie
 
@@ -41,11 +41,11 @@ returns c =
     let r = o .before in
     let f = r .before in
     let a = f .before .before .before .args in
-    λ t h hh e.
-    open-did (a .s) (a .n) t (a .links) (now (a .mem)) (a .slot) (a .rec) e (a .given) (f .open-refusal .result)
-    (f .open-refusal .ensures t h hh e) (o .outcome-of .result)
-    (o .outcome-of .ensures ∙ ap (outcomeOf Accepted false) (r .opened-record .ensures)) (d .settled .result) (d .settled .ensures)
-    (b .before .if1 .taken) _ (w .clear .ensures ∙ ap (λ (x : ℕ). clearedOf (now (a .mem)) x (a .n)) (b .base-of .ensures))
+    open-shown (a .s) (a .n) (now (a .mem)) (a .count) (a .links) (a .slot) (a .rec) (o .outcome-of .result) (d .settled .result)
+    (f .open-refusal .result) (d .settled .ensures) (a .holder) (a .given) (f .open-refusal .ensures)
+    (o .outcome-of .ensures ∙ ap (outcomeOf Accepted false) (r .opened-record .ensures)) _
+    (λ z. w .clear .ensures ∙ ap (λ (x : ℕ). clearedOf (now (a .mem)) x (a .n)) (b .base-of .ensures))
+    (λ h. absurd (h (b .before .if1 .taken)))
 
 same-length-2 : tie.Need-same-length-2
 same-length-2 c = search needs
@@ -57,11 +57,9 @@ returns-2 c =
     let r = o .before in
     let f = r .before in
     let a = f .before .before .before .args in
-    λ t h hh e.
-    open-refused (a .s) (a .n) t (a .links) (now (a .mem)) (a .slot) (a .rec) e (a .given) (f .open-refusal .result)
-    (f .open-refusal .ensures t h hh e) (o .outcome-of .result)
-    (o .outcome-of .ensures ∙ ap (outcomeOf Accepted false) (r .opened-record .ensures)) (d .settled .result) (d .settled .ensures)
-    (c .if1 .left)
+    open-shown (a .s) (a .n) (now (a .mem)) (a .count) (a .links) (a .slot) (a .rec) (o .outcome-of .result) (d .settled .result)
+    (f .open-refusal .result) (d .settled .ensures) (a .holder) (a .given) (f .open-refusal .ensures)
+    (o .outcome-of .ensures ∙ ap (outcomeOf Accepted false) (r .opened-record .ensures)) _ (λ z. absurd (c .if1 .left z)) (λ h. refl)
 
 pub open-spec : {M : Type 1} → statement M
 open-spec =

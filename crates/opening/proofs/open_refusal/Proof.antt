@@ -1,8 +1,6 @@
 -- `opening::open_refusal` meets its contract. Assumes nothing.
-use mathlib.Core.Path.{_∙_}
-use denote.Ref.{now}
 use borrow.Author.Needs.{needs}
-use Rattle.opening.proofs.Laws.{open-number}
+use Rattle.rules.specs.Promises.{openNumber}
 use Rattle.opening.proofs.open_refusal.Statement.{statement}
 use Rattle.opening.proofs.open_refusal.Tie as tie
 
@@ -43,6 +41,7 @@ refusal-if-requires-7 : tie.Need-refusal-if-requires-7
 refusal-if-requires-7 c κs = search needs
 
 returns : tie.Need-returns
+unfolding openNumber
 returns c =
     let r2 = c .before in
     let r10 = r2 .before in
@@ -55,9 +54,7 @@ returns c =
     let b = i .before in
     let k = b .before in
     let z = k .before in
-    let a = z .before .before .args in
-    λ t h hh e.
-    (simp (
+    simp (
       c .refusal-if7 .ensures,
       r2 .refusal-if6 .ensures,
       r10 .refusal-if5 .ensures,
@@ -70,8 +67,7 @@ returns c =
       b .bad-opening .ensures,
       k .slot-ok .ensures,
       z .sizes-ok .ensures,
-    ))
-    ∙ open-number (a .s) (a .n) t (a .links) (now (a .mem)) (a .slot) (a .rec) e (a .given) (a .count) h (a .holder) hh
+    )
 
 pub open-refusal-spec : {M : Type 1} → statement M
 open-refusal-spec =

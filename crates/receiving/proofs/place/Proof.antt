@@ -6,9 +6,8 @@ use lib.ListN.{length}
 use denote.Ref.{now}
 use borrow.Author.Needs.{needs}
 use Rattle.element.specs.Element.{storedOf}
-use Rattle.table.proofs.Laws.{found-in}
 use Rattle.receiving.proofs.Bytes.{stored-length}
-use Rattle.receiving.proofs.Laws.{place-base, place-stored, place-kept, stores-found}
+use Rattle.receiving.proofs.Laws.{place-base, place-stores, place-keeps, stores-found}
 use Rattle.receiving.proofs.place.Statement.{statement}
 use Rattle.receiving.proofs.place.Tie as tie
 
@@ -60,9 +59,8 @@ returns c =
     let l = o .before in
     let f = l .before in
     let a = f .before .before .before .args in
-    λ t h e.
-    place-stored (a .s) (a .n) t (a .links) (now (a .mem)) (a .slot) (a .offset) (now (a .bytes)) (a .rec) e (f .found .result)
-    (found-in (a .s) (a .n) _ t h (a .slot) (a .rec) (f .found .ensures)) (l .link-active .result) (l .link-active .ensures) (o .place .result) (o .place .ensures) (d .settled .result)
+    place-stores (a .s) (a .n) (now (a .mem)) (a .count) (a .links) (a .slot) (a .offset) (now (a .bytes)) (a .rec) (f .found .result)
+    (f .found .ensures) (l .link-active .result) (l .link-active .ensures) (o .place .result) (o .place .ensures) (d .settled .result)
     (d .settled .ensures) _ (sym (v .stores .ensures) ∙ w .if1 .taken)
     (q .store .ensures ∙ ap (λ (x : ℕ). storedOf (now (a .mem)) (x + a .offset) (now (a .bytes))) (b .base-of .ensures))
 
@@ -74,9 +72,8 @@ returns-2 c =
     let l = o .before in
     let f = l .before in
     let a = f .before .before .before .args in
-    λ t h e.
-    place-kept (a .s) (a .n) t (a .links) (now (a .mem)) (a .slot) (a .offset) (now (a .bytes)) (a .rec) e (f .found .result)
-    (found-in (a .s) (a .n) _ t h (a .slot) (a .rec) (f .found .ensures)) (l .link-active .result) (l .link-active .ensures) (o .place .result) (o .place .ensures) (d .settled .result)
+    place-keeps (a .s) (a .n) (now (a .mem)) (a .count) (a .links) (a .slot) (a .offset) (now (a .bytes)) (a .rec) (f .found .result)
+    (f .found .ensures) (l .link-active .result) (l .link-active .ensures) (o .place .result) (o .place .ensures) (d .settled .result)
     (d .settled .ensures) _ (sym (v .stores .ensures) ∙ c .if1 .left) refl
 
 pub place-spec : {M : Type 1} → statement M

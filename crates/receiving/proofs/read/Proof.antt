@@ -5,8 +5,7 @@ use native.Mathlib.Omega.{arith}
 use denote.Ref.{now}
 use borrow.Author.Needs.{needs}
 use Rattle.element.specs.Element.{intactAt, readOf}
-use Rattle.table.proofs.Laws.{found-in}
-use Rattle.receiving.proofs.Laws.{read-did}
+use Rattle.receiving.proofs.Laws.{reads}
 use Rattle.receiving.proofs.read.Statement.{statement}
 use Rattle.receiving.proofs.read.Tie as tie
 
@@ -56,8 +55,7 @@ returns c =
     let l = b .before in
     let f = l .before in
     let a = f .before .before .before .args in
-    λ t h e.
-    read-did (a .s) (a .n) t (a .links) (now (a .mem)) (a .slot) (now (a .out)) (a .rec) e (f .found .result) (found-in (a .s) (a .n) _ t h (a .slot) (a .rec) (f .found .ensures))
+    reads (a .s) (a .n) (now (a .mem)) (a .count) (a .links) (a .slot) (now (a .out)) (a .rec) (f .found .result) (f .found .ensures)
     (l .link-active .result) (l .link-active .ensures) (w .intact .result) (w .intact .ensures ∙ ap (intactAt _) (b .base-of .ensures))
     (o .read .result) (o .read .ensures) (d .settled .result) (d .settled .ensures) (k .copied .result) (k .copied .ensures) _
     (r .read2 .ensures
