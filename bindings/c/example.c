@@ -125,6 +125,24 @@ static struct fordlinnet_answer hear(struct end *me, const uint8_t *bytes, size_
     return a;
 }
 
+/* Shutdown, close or abort, and the same by its number on a copy of the table before: it says and leaves the same. */
+static struct fordlinnet_answer finish(struct end *me, uint32_t number) {
+    struct fordlinnet_group copy = me->group;
+    struct fordlinnet_record table[SLOTS];
+    uint8_t message[44] = {0};
+    struct fordlinnet_finish_answer r;
+    struct fordlinnet_answer a;
+    memcpy(table, me->table, sizeof table);
+    copy.table = table;
+    a = fordlinnet_call(&copy, fordlinnet_command_of(number, SLOT), 0, 0, 0, 0);
+    r = number == FORDLINNET_SHUTDOWN ? fordlinnet_shutdown(&me->group, SLOT, message)
+        : number == FORDLINNET_CLOSE  ? fordlinnet_close(&me->group, SLOT, message)
+                                      : fordlinnet_abort(&me->group, SLOT, message);
+    expect(r.refusal == a.refusal && r.made == a.made && r.reset == (a.said == FORDLINNET_RESET), "by its number it says the same");
+    expect(memcmp(message, a.message, sizeof message) == 0 && same_table(table, me->table), "the same message and record");
+    return a;
+}
+
 /* What the card and the network do: the bytes first, then the message. */
 static void carry(struct end *peer, struct fordlinnet_answer a, const uint8_t *bytes) {
     if (a.placings > 0) place(peer, a.first.key, a.first.address, bytes + a.first.start, a.first.len);
@@ -341,7 +359,7 @@ static void abort_and_free(void) {
     open_towards(&left, &right);
     a = fordlinnet_free(&left.group, SLOT);
     expect(a.refusal == FORDLINNET_STATE_FORBIDS, "an active connection is not freed");
-    a = fordlinnet_abort(&left.group, SLOT);
+    a = finish(&left, FORDLINNET_ABORT);
     expect(a.said == FORDLINNET_ACCEPTED && a.made, "A is sent");
     a = fordlinnet_free(&left.group, SLOT);
     expect(a.said == FORDLINNET_ACCEPTED && !a.made && !left.table[SLOT - 1].id.opened, "an aborted one is");
@@ -354,7 +372,7 @@ static void reset_and_torn(void) {
     open_towards(&left, &right);
     open_towards(&right, &left);
     carry(&right, send(&left, "unread"), text("unread"));
-    a = fordlinnet_close(&right.group, SLOT);
+    a = finish(&right, FORDLINNET_CLOSE);
     expect(a.said == FORDLINNET_RESET && a.made, "unread bytes");
     left.memory[(SLOT - 1) * SIZE] ^= 1;
     a = fordlinnet_read(&left.group, SLOT, 0, 0);
@@ -398,15 +416,15 @@ int main(void) {
     link_messages();
     failover();
 
-    a = fordlinnet_shutdown(&left.group, SLOT);
+    a = finish(&left, FORDLINNET_SHUTDOWN);
     expect(a.said == FORDLINNET_ACCEPTED && a.made, "D is sent");
     carry(&right, a, 0);
     a = send(&left, "x");
     expect(a.refusal == FORDLINNET_STATE_FORBIDS, "no send after D");
-    a = fordlinnet_close(&right.group, SLOT);
+    a = finish(&right, FORDLINNET_CLOSE);
     expect(a.said == FORDLINNET_ACCEPTED && a.made, "C is sent");
     carry(&left, a, 0);
-    a = fordlinnet_close(&left.group, SLOT);
+    a = finish(&left, FORDLINNET_CLOSE);
     expect(a.said == FORDLINNET_ACCEPTED && a.made, "C is sent");
     carry(&right, a, 0);
     expect(!left.table[SLOT - 1].id.opened && !right.table[SLOT - 1].id.opened, "both slots are closed");

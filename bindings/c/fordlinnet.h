@@ -603,6 +603,13 @@ struct fordlinnet_hear_answer {
     uint64_t moved;  /* how far the peer's producer moved */
 };
 
+/* What shutdown, close and abort answer. */
+struct fordlinnet_finish_answer {
+    uint8_t refusal; /* the refusal's number, or 0 */
+    bool made;       /* a message was made: always, where the call is not refused */
+    bool reset;      /* close: bytes were unread, and the message is an abort message */
+};
+
 /* THE PROVED FUNCTIONS */
 
 /* Makes the call that the command names. Every call of a connection and of management but gather, link change, link message and link
@@ -634,6 +641,17 @@ struct fordlinnet_hear_answer fordlinnet_make_hear(uint32_t s, uint32_t n, const
                                                    struct fordlinnet_record *table, size_t table_length,
                                                    struct fordlinnet_link_states links, const uint8_t *bytes, size_t bytes_length,
                                                    uint8_t *message, size_t message_length);
+
+/* Shutdown, close and abort, likewise: the message stands in the 44 bytes of `message`, which a refused call leaves as they were. */
+struct fordlinnet_finish_answer fordlinnet_make_shutdown(uint32_t s, uint32_t n, const uint8_t *memory, size_t memory_length,
+                                                         struct fordlinnet_record *table, size_t table_length,
+                                                         struct fordlinnet_link_states links, uint32_t slot, uint8_t *message);
+struct fordlinnet_finish_answer fordlinnet_make_close(uint32_t s, uint32_t n, const uint8_t *memory, size_t memory_length,
+                                                      struct fordlinnet_record *table, size_t table_length,
+                                                      struct fordlinnet_link_states links, uint32_t slot, uint8_t *message);
+struct fordlinnet_finish_answer fordlinnet_make_abort(uint32_t s, uint32_t n, const uint8_t *memory, size_t memory_length,
+                                                      struct fordlinnet_record *table, size_t table_length,
+                                                      struct fordlinnet_link_states links, uint32_t slot, uint8_t *message);
 
 /* Sends a head and a body as if joined, head first. */
 struct fordlinnet_gathered fordlinnet_make_gather(uint32_t s, uint32_t n, const uint8_t *memory, size_t memory_length,
@@ -685,6 +703,7 @@ struct fordlinnet_link_states fordlinnet_shape_link_states(uint32_t one);
 struct fordlinnet_read_answer fordlinnet_shape_read_answer(uint32_t one);
 struct fordlinnet_send_answer fordlinnet_shape_send_answer(uint32_t one);
 struct fordlinnet_hear_answer fordlinnet_shape_hear_answer(uint32_t one);
+struct fordlinnet_finish_answer fordlinnet_shape_finish_answer(uint32_t one);
 struct fordlinnet_piece fordlinnet_shape_piece(void);
 struct fordlinnet_view fordlinnet_shape_view(void);
 struct fordlinnet_pool_answer fordlinnet_shape_pool_answer(void);
@@ -1023,19 +1042,22 @@ static inline struct fordlinnet_hear_answer fordlinnet_hear_direct(struct fordli
                                 length ? bytes : none, length, answer, 44);
 }
 
-/* Sends D, done writing. Refused with 1, 2, 3, 6, 7. */
-static inline struct fordlinnet_answer fordlinnet_shutdown(struct fordlinnet_group *g, uint32_t slot) {
-    return fordlinnet_call(g, fordlinnet_command_of(FORDLINNET_SHUTDOWN, slot), 0, 0, 0, 0);
+/* Sends D, done writing. The message is written to `message`, which has 44 bytes. Refused with 1, 2, 3, 6, 7. */
+static inline struct fordlinnet_finish_answer fordlinnet_shutdown(struct fordlinnet_group *g, uint32_t slot, uint8_t *message) {
+    return fordlinnet_make_shutdown(g->s, g->n, g->memory, g->memory_length, g->table, g->table_length, fordlinnet_states_of(g), slot,
+                                    message);
 }
 
-/* Sends C, and closes the slot if C was heard; with unread bytes it resets the connection instead. Refused with 1, 2, 3, 6, 7. */
-static inline struct fordlinnet_answer fordlinnet_close(struct fordlinnet_group *g, uint32_t slot) {
-    return fordlinnet_call(g, fordlinnet_command_of(FORDLINNET_CLOSE, slot), 0, 0, 0, 0);
+/* Sends C, and closes the slot if C was heard; with unread bytes it resets the connection instead. Message and refusals as shutdown's. */
+static inline struct fordlinnet_finish_answer fordlinnet_close(struct fordlinnet_group *g, uint32_t slot, uint8_t *message) {
+    return fordlinnet_make_close(g->s, g->n, g->memory, g->memory_length, g->table, g->table_length, fordlinnet_states_of(g), slot,
+                                 message);
 }
 
-/* Sends A. Refused with 1, 2, 3, 6, 7. */
-static inline struct fordlinnet_answer fordlinnet_abort(struct fordlinnet_group *g, uint32_t slot) {
-    return fordlinnet_call(g, fordlinnet_command_of(FORDLINNET_ABORT, slot), 0, 0, 0, 0);
+/* Sends A. Message and refusals as shutdown's. */
+static inline struct fordlinnet_finish_answer fordlinnet_abort(struct fordlinnet_group *g, uint32_t slot, uint8_t *message) {
+    return fordlinnet_make_abort(g->s, g->n, g->memory, g->memory_length, g->table, g->table_length, fordlinnet_states_of(g), slot,
+                                 message);
 }
 
 /* The message to send, an open's arguments and a diagnosis, or a refusal: of our settings, the message due and the peer's bytes. */

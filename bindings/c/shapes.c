@@ -164,6 +164,10 @@ AT(hear_answer, refusal, 0, 1);
 AT(hear_answer, made, 1, 1);
 AT(hear_answer, state, 2, 1);
 AT(hear_answer, moved, 8, 8);
+SIZE(finish_answer, 3);
+AT(finish_answer, refusal, 0, 1);
+AT(finish_answer, made, 1, 1);
+AT(finish_answer, reset, 2, 1);
 SIZE(view, 24);
 AT(view, health, 0, 4);
 AT(view, shown, 4, 4);
@@ -467,6 +471,13 @@ static void see_hear_answer(struct fordlinnet_hear_answer v) {
     NUMBER(v.moved);
 }
 
+static void see_finish_answer(struct fordlinnet_finish_answer v) {
+    begin("finish_answer");
+    NUMBER(v.refusal);
+    flag(v.made);
+    flag(v.reset);
+}
+
 static void see_pool_answer(struct fordlinnet_pool_answer v) {
     begin("pool_answer");
     NUMBER(v.said);
@@ -546,6 +557,7 @@ int main(void) {
         see_read_answer(fordlinnet_shape_read_answer(one));
         see_send_answer(fordlinnet_shape_send_answer(one));
         see_hear_answer(fordlinnet_shape_hear_answer(one));
+        see_finish_answer(fordlinnet_shape_finish_answer(one));
         see_settings(fordlinnet_shape_settings(one));
         see_setup_answer(fordlinnet_shape_setup_answer(one));
         begin("");

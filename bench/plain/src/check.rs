@@ -2,7 +2,7 @@
 
 use crate::ours::Ours;
 use crate::plain;
-use fordlinnet::{Group, Read, Record, Refusal, Sent};
+use fordlinnet::{Closed, Group, Read, Record, Refusal, Sent};
 use model::generate::{exhaust, hostile, traffic};
 use model::replay::{lent_bytes, lines, skipped, Line, Replay, OUT_FILL};
 use std::fmt::Debug;
@@ -24,7 +24,14 @@ fn read(r: Read) -> plain::Read {
     }
 }
 
-/// Makes the call on two copies of the group. Whether it is one of the five.
+fn closed(c: Closed) -> plain::Closed {
+    match c {
+        Closed::InOrder(message) => plain::Closed::InOrder(message.into()),
+        Closed::Reset(message) => plain::Closed::Reset(message.into()),
+    }
+}
+
+/// Makes the call on two copies of the group. Whether it is one of the eight.
 fn beside(group: &Group, line: &Line) -> bool {
     let mut ours = group.clone();
     let (mut memory, mut table): (Vec<u8>, Vec<Record>) = (group.memory().clone(), group.table().to_vec());
@@ -43,6 +50,9 @@ fn beside(group: &Group, line: &Line) -> bool {
             let heard = |h: fordlinnet::Heard| plain::Heard { moved: h.moved, state: h.state, message: h.message.map(Into::into) };
             same(ours.hear(bytes), plain.hear(bytes), heard, line)
         }
+        Line::Shutdown { slot } => same(ours.shutdown(*slot), plain.shutdown(*slot), |m| *m.as_bytes(), line),
+        Line::Close { slot } => same(ours.close(*slot), plain.close(*slot), closed, line),
+        Line::Abort { slot } => same(ours.abort(*slot), plain.abort(*slot), |m| *m.as_bytes(), line),
         Line::Link { link, up, room } => {
             let room = lent_bytes(group.elements(), *room);
             let (mut a, mut b) = (vec![OUT_FILL; room], vec![OUT_FILL; room]);

@@ -1,7 +1,7 @@
-//! Read, send, hear, place and link change of the proved archive, through the Rust crate, beside the same in ordinary Rust. First both are
-//! compared on random calls, then timed by turns; a table of nanoseconds a call goes to standard output. Ends with status 1 where a target
-//! is missed. With the word `tables` it times 64 bytes over tables of three sizes instead, with a call's name only that call; with
-//! `link-message` it hears a thousand TEST LINKs, for a tool that counts instructions.
+//! Read, send, hear, place, shutdown, close, abort and link change of the proved archive, through the Rust crate, beside the same in
+//! ordinary Rust. First both are compared on random calls, then timed by turns; a table of nanoseconds a call goes to standard output.
+//! Ends with status 1 where a target is missed. With the word `tables` it times 64 bytes over tables of three sizes instead, with a
+//! call's name only that call; with `link-message` it hears a thousand TEST LINKs, for a tool that counts instructions.
 
 mod check;
 #[path = "../../../bindings/rust/tests/model/ours.rs"]
@@ -9,7 +9,7 @@ mod check;
 mod ours;
 mod plain;
 
-use fordlinnet::{Cursor, Group, Links, Message, Opening, RToken, Read, Record, Remote};
+use fordlinnet::{Closed, Cursor, Group, Links, Message, Opening, RToken, Read, Record, Remote};
 use std::hint::black_box;
 use std::time::Instant;
 
@@ -19,8 +19,9 @@ const ROUNDS: usize = 41;
 /// At most so many times plain Rust's time; and from 1 KB up.
 const TARGET: f64 = 2.0;
 const TARGET_1K: f64 = 1.1;
-/// The same of a failover.
+/// The same of a failover; and of shutdown, close and abort.
 const TARGET_MOVE: f64 = 2.0;
+const TARGET_FINISH: f64 = 1.3;
 
 #[derive(Clone, Copy, PartialEq)]
 enum What {
@@ -28,6 +29,9 @@ enum What {
     Place,
     Send,
     Hear,
+    Shutdown,
+    Close,
+    Abort,
     /// Link 1 goes down.
     Change,
 }
@@ -93,6 +97,9 @@ impl Bench {
             What::Place => drop(black_box(&group.place(case.slot, case.offset, &self.bytes[..case.count]))),
             What::Send => drop(black_box(&group.send(case.slot, &self.bytes[..case.count]))),
             What::Hear => drop(black_box(&group.hear(&case.message))),
+            What::Shutdown => drop(black_box(&group.shutdown(case.slot))),
+            What::Close => drop(black_box(&group.close(case.slot))),
+            What::Abort => drop(black_box(&group.abort(case.slot))),
             What::Change => drop(black_box(group.link_change_into(1, false, &mut self.out[..44 * case.s as usize]))),
         }
     }
@@ -105,6 +112,9 @@ impl Bench {
             What::Place => drop(black_box(&group.place(case.slot, case.offset, &self.bytes[..case.count]))),
             What::Send => drop(black_box(&group.send(case.slot, &self.bytes[..case.count]))),
             What::Hear => drop(black_box(&group.hear(&case.message))),
+            What::Shutdown => drop(black_box(&group.shutdown(case.slot))),
+            What::Close => drop(black_box(&group.close(case.slot))),
+            What::Abort => drop(black_box(&group.abort(case.slot))),
             What::Change => drop(black_box(group.link_change(1, false, &mut self.out[..44 * case.s as usize]))),
         }
     }
@@ -127,6 +137,13 @@ impl Bench {
                 sent.map_or((u64::MAX, None), |s| (s.taken as u64, s.message.map(Into::into)))
             }
             What::Hear => group.hear(&case.message).map_or((u64::MAX, None), |h| (h.moved, h.message.map(Into::into))),
+            What::Shutdown => group.shutdown(case.slot).map_or((u64::MAX, None), |m| (0, Some(m.into()))),
+            What::Close => match group.close(case.slot) {
+                Ok(Closed::InOrder(message)) => (0, Some(message.into())),
+                Ok(Closed::Reset(message)) => (1, Some(message.into())),
+                Err(_) => (u64::MAX, None),
+            },
+            What::Abort => group.abort(case.slot).map_or((u64::MAX, None), |m| (0, Some(m.into()))),
             What::Change => {
                 let moved = group.link_change_into(1, false, &mut self.out).map_or(Vec::new(), |changed| changed.moved);
                 (moved.len() as u64, moved.last().map(|message: &Message| *message.as_bytes()))
@@ -151,6 +168,13 @@ impl Bench {
                 sent.map_or((u64::MAX, None), |s| (s.taken.into(), s.message))
             }
             What::Hear => group.hear(&case.message).map_or((u64::MAX, None), |h| (h.moved, h.message)),
+            What::Shutdown => group.shutdown(case.slot).map_or((u64::MAX, None), |m| (0, Some(m))),
+            What::Close => match group.close(case.slot) {
+                Ok(plain::Closed::InOrder(message)) => (0, Some(message)),
+                Ok(plain::Closed::Reset(message)) => (1, Some(message)),
+                Err(_) => (u64::MAX, None),
+            },
+            What::Abort => group.abort(case.slot).map_or((u64::MAX, None), |m| (0, Some(m))),
             What::Change => {
                 let count = group.link_change(1, false, &mut self.out).unwrap_or(0);
                 let messages: Vec<[u8; 44]> = self.out.chunks_exact(44).take(count).map(|m| m.try_into().expect("44 bytes")).collect();
@@ -255,6 +279,16 @@ fn rows() -> Vec<Case> {
     rows.push(Case { words: "255 records, the last", s: 255, slot: 255, before: opened(255, own), ..hears });
     rows.push(hears);
 
+    let ends = Case { tells: true, ..base };
+    rows.push(Case { what: What::Shutdown, words: "D", ..ends });
+    rows.push(Case { what: What::Close, words: "C", ..ends });
+    let (mut heard, mut unread) = (base.before, base.before);
+    heard.marks.heard.closed = true;
+    rows.push(Case { what: What::Close, words: "C, and the slot closes", before: heard, ..ends });
+    unread.inbound.producer = step(unread.inbound.consumer, 64);
+    rows.push(Case { what: What::Close, words: "A, with unread bytes", before: unread, ..ends });
+    rows.push(Case { what: What::Abort, words: "A", ..ends });
+
     // every slot is on link 1: all move, or all have another link
     let all = Case { what: What::Change, s: 255, slot: 255, before: opened(255, own), ..base };
     let mut elsewhere = all.before;
@@ -331,13 +365,16 @@ fn main() {
     }
     println!("| call | run | message | bytes | ours, ns | plain, ns | ratio |");
     println!("|---|---|---|---:|---:|---:|---:|");
-    let (mut worst, mut worst_1k, mut worst_move, mut over) = (0.0_f64, 0.0_f64, 0.0_f64, 0);
+    let (mut worst, mut worst_1k, mut worst_move, mut worst_finish, mut over) = (0.0_f64, 0.0_f64, 0.0_f64, 0.0_f64, 0);
     for case in rows() {
         let what = match case.what {
             What::Read => "read",
             What::Place => "place",
             What::Send => "send",
             What::Hear => "hear",
+            What::Shutdown => "shutdown",
+            What::Close => "close",
+            What::Abort => "abort",
             What::Change => "link change",
         };
         if only.as_ref().is_some_and(|only| only != what) {
@@ -352,11 +389,12 @@ fn main() {
         let [laid, ours, plain] = time(&case, &mut bench);
         let (ours, plain) = (ours - laid, plain - laid);
         let ratio = ours / plain;
-        // the targets are read's and a failover's; the other calls are measured beside them
+        // place, send and hear have no target, and are measured beside the others
         let (worst, target) = match case.what {
             What::Read if case.count >= 1024 => (&mut worst_1k, TARGET_1K),
             What::Read => (&mut worst, TARGET),
             What::Change if case.tells => (&mut worst_move, TARGET_MOVE),
+            What::Shutdown | What::Close | What::Abort => (&mut worst_finish, TARGET_FINISH),
             _ => (&mut 0.0, f64::MAX),
         };
         *worst = worst.max(ratio);
@@ -378,7 +416,7 @@ fn main() {
     println!();
     println!(
         "read: worst ratio {worst:.2} below 1 KB (target {TARGET}), {worst_1k:.2} from 1 KB up (target {TARGET_1K});
-failover: {worst_move:.2} (target {TARGET_MOVE}); {over} rows over"
+failover: {worst_move:.2} (target {TARGET_MOVE}); shutdown, close and abort: {worst_finish:.2} (target {TARGET_FINISH}); {over} rows over"
     );
     if over > 0 {
         std::process::exit(1);

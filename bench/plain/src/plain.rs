@@ -1,11 +1,11 @@
-//! Read, send, hear, place and link change in ordinary Rust, straight and unproved: the whole of each call, with its refusals, the record,
-//! the update test and the message, as one would write it without proofs. Records are changed where they lie; nothing is copied but the
-//! bytes.
+//! Read, send, hear, place, shutdown, close, abort and link change in ordinary Rust, straight and unproved: the whole of each call, with
+//! its refusals, the record, the update test and the message, as one would write it without proofs. Records are changed where they lie;
+//! nothing is copied but the bytes.
 //!
 //! The record is the crate's own (`fordlinnet::Record`), so that both sides work on the same bytes. The calls are not inlined into their
 //! caller, as those of a library are not.
 
-use fordlinnet::{Cursor, Exchange, Gauge, Links, Queue, Record, Refusal, Sort, State, Urgent};
+use fordlinnet::{Cursor, Exchange, Gauge, Links, Marks, Queue, Record, Refusal, Sort, State, Urgent};
 
 pub const EYE_CATCHER: [u8; 4] = [0xE2, 0xD4, 0xC3, 0xD9];
 
@@ -46,6 +46,12 @@ pub struct Heard {
     pub moved: u64,
     pub state: State,
     pub message: Option<Bytes44>,
+}
+
+#[derive(Clone, Copy, Debug, PartialEq)]
+pub enum Closed {
+    InOrder(Bytes44),
+    Reset(Bytes44),
 }
 
 fn in_range(n: u32, c: Cursor) -> bool {
@@ -132,6 +138,11 @@ fn usual_message(r: &mut Record) -> Bytes44 {
     r.inbound.told = r.inbound.consumer;
     r.outbound.next = r.outbound.next.wrapping_add(1);
     m
+}
+
+/// Our D or C: the first of all marks is ours, where no other stands.
+fn mark(m: &mut Marks) {
+    m.first |= !(m.sent.done | m.sent.closed | m.heard.done | m.heard.closed);
 }
 
 impl Group<'_> {
@@ -256,6 +267,50 @@ impl Group<'_> {
         r.outbound.blocked = left;
         let message = if taken > 0 || (left && !told) { Some(usual_message(r)) } else { None };
         Ok(Sent { taken, placings, message })
+    }
+
+    #[inline(never)]
+    pub fn shutdown(&mut self, slot: u32) -> Result<Bytes44, Refusal> {
+        let at = self.slot(slot)?;
+        let r = &mut self.table[at];
+        if r.marks.sent.done || r.marks.sent.closed || r.marks.abort {
+            return Err(Refusal::State);
+        }
+        mark(&mut r.marks);
+        r.marks.sent.done = true;
+        Ok(usual_message(r))
+    }
+
+    #[inline(never)]
+    pub fn close(&mut self, slot: u32) -> Result<Closed, Refusal> {
+        let at = self.slot(slot)?;
+        let n = self.n;
+        let r = &mut self.table[at];
+        if r.marks.sent.closed || r.marks.abort {
+            return Err(Refusal::State);
+        }
+        if distance(n, r.inbound.consumer, r.inbound.producer) > 0 {
+            r.marks.abort = true;
+            return Ok(Closed::Reset(usual_message(r)));
+        }
+        mark(&mut r.marks);
+        r.marks.sent.closed = true;
+        let message = usual_message(r);
+        if r.marks.heard.closed {
+            *r = Record::default();
+        }
+        Ok(Closed::InOrder(message))
+    }
+
+    #[inline(never)]
+    pub fn abort(&mut self, slot: u32) -> Result<Bytes44, Refusal> {
+        let at = self.slot(slot)?;
+        let r = &mut self.table[at];
+        if r.marks.abort {
+            return Err(Refusal::State);
+        }
+        r.marks.abort = true;
+        Ok(usual_message(r))
     }
 
     #[inline(never)]

@@ -4,7 +4,7 @@
 //! valid for their lengths, buffers that do not overlap, and bools that are 0 or 1. Rust's own types keep all of this, and whoever
 //! implements [`Memory`] by hand promises it.
 
-use crate::{Heard, Links, Message, Opening, Placing, Placings, Read, Record, Refusal, Role, Sent, State};
+use crate::{Closed, Heard, Links, Message, Opening, Placing, Placings, Read, Record, Refusal, Role, Sent, State};
 use alloc::boxed::Box;
 use alloc::vec::Vec;
 use core::marker::PhantomData;
@@ -104,9 +104,6 @@ pub(crate) enum Number {
     LinkChange = 3,
     Sample = 4,
     UrgentSend = 6,
-    Shutdown = 9,
-    Close = 10,
-    Abort = 11,
     LinkMessage = 13,
     LinkSend = 14,
 }
@@ -116,7 +113,6 @@ pub(crate) mod said {
     pub const REFUSED: u32 = 1;
     pub const SENT: u32 = 3;
     pub const GATHERED: u32 = 4;
-    pub const RESET: u32 = 8;
     pub const LINK_HEARD: u32 = 13;
     pub const LINK_SENT: u32 = 14;
     pub const LINK_CHANGED: u32 = 15;
@@ -205,6 +201,16 @@ pub(crate) struct HearAnswer {
     pub made: bool,
     pub state: u8,
     pub moved: u64,
+}
+
+/// The answer of shutdown, close and abort: a refusal's number or 0, whether a message was made, and whether a close met unread bytes.
+#[derive(Clone, Copy)]
+#[cfg_attr(test, derive(Debug, PartialEq))]
+#[repr(C)]
+pub(crate) struct FinishAnswer {
+    pub refusal: u8,
+    pub made: bool,
+    pub reset: bool,
 }
 
 /// The answer of a gather, and the record that it found.
@@ -447,6 +453,42 @@ extern "C" {
         message_length: usize,
     ) -> HearAnswer;
 
+    fn fordlinnet_make_shutdown(
+        s: u32,
+        n: u32,
+        memory: *const u8,
+        memory_length: usize,
+        table: *mut Record,
+        table_length: usize,
+        links: LinkStates,
+        slot: u32,
+        message: *mut u8,
+    ) -> FinishAnswer;
+
+    fn fordlinnet_make_close(
+        s: u32,
+        n: u32,
+        memory: *const u8,
+        memory_length: usize,
+        table: *mut Record,
+        table_length: usize,
+        links: LinkStates,
+        slot: u32,
+        message: *mut u8,
+    ) -> FinishAnswer;
+
+    fn fordlinnet_make_abort(
+        s: u32,
+        n: u32,
+        memory: *const u8,
+        memory_length: usize,
+        table: *mut Record,
+        table_length: usize,
+        links: LinkStates,
+        slot: u32,
+        message: *mut u8,
+    ) -> FinishAnswer;
+
     fn fordlinnet_make_gather(
         s: u32,
         n: u32,
@@ -675,6 +717,52 @@ pub(crate) fn hear<M: Memory + ?Sized>(lent: Lent<'_, M>, active: [bool; 4], byt
         return Ok(Heard { moved, state, message: Some(unsafe { message.message() }), quiet: None });
     }
     Ok(Heard { moved, state, message: None, quiet: None })
+}
+
+type Finish = unsafe extern "C" fn(u32, u32, *const u8, usize, *mut Record, usize, LinkStates, u32, *mut u8) -> FinishAnswer;
+
+/// Shutdown, close or abort, on the table itself.
+#[inline(always)]
+fn finish<M: Memory + ?Sized>(
+    call: Finish,
+    lent: Lent<'_, M>,
+    active: [bool; 4],
+    slot: u32,
+    message: &mut Unwritten,
+) -> Result<FinishAnswer, Refusal> {
+    let (memory, length) = lent.memory.parts();
+    let (table, records) = (lent.table.as_mut_ptr(), lent.table.len());
+    // SAFETY: as in `make`.
+    let answer = unsafe { call(lent.s, lent.n, memory, length, table, records, LinkStates { active }, slot, message.as_mut_ptr()) };
+    if answer.refusal != 0 {
+        return Err(crate::refusal::given(answer.refusal.into()));
+    }
+    Ok(answer)
+}
+
+#[inline]
+pub(crate) fn shutdown<M: Memory + ?Sized>(lent: Lent<'_, M>, active: [bool; 4], slot: u32) -> Result<Message, Refusal> {
+    let mut message = Unwritten::new();
+    finish(fordlinnet_make_shutdown, lent, active, slot, &mut message)?;
+    // SAFETY: one that is not refused makes a message.
+    Ok(unsafe { message.message() })
+}
+
+#[inline]
+pub(crate) fn close<M: Memory + ?Sized>(lent: Lent<'_, M>, active: [bool; 4], slot: u32) -> Result<Closed, Refusal> {
+    let mut message = Unwritten::new();
+    let answer = finish(fordlinnet_make_close, lent, active, slot, &mut message)?;
+    // SAFETY: as in `shutdown`.
+    let message = unsafe { message.message() };
+    Ok(if answer.reset { Closed::Reset { message } } else { Closed::InOrder { message, quiet: None } })
+}
+
+#[inline]
+pub(crate) fn abort<M: Memory + ?Sized>(lent: Lent<'_, M>, active: [bool; 4], slot: u32) -> Result<Message, Refusal> {
+    let mut message = Unwritten::new();
+    finish(fordlinnet_make_abort, lent, active, slot, &mut message)?;
+    // SAFETY: as in `shutdown`.
+    Ok(unsafe { message.message() })
 }
 
 /// Sends a head and a body as if joined.

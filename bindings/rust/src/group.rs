@@ -744,12 +744,15 @@ where
     /// # Errors
     ///
     /// [`State`](Refusal::State) after D, C or A sent; and what every call tests.
+    #[inline]
     pub fn shutdown(&mut self, slot: u32) -> Result<Message, Refusal> {
         if self.trace.on() {
             let line = |t: &mut Tracer| t.call(format_args!("shutdown {slot}"));
             return self.traced(None, line, |g| g.shutdown(slot), |t, a| t.told("shutdown", a));
         }
-        told(&self.call(command(Number::Shutdown, slot), &[], &mut []))
+        let lent = Lent { s: self.s, n: self.n, memory: &mut self.memory, table: self.table.as_mut() };
+        let links: &Links = self.links.borrow();
+        border::shutdown(lent, links.active, slot)
     }
 
     /// Sends C; the slot is closed where C was heard, and may be opened again. With unread bytes it sends A instead: nothing is dropped in
@@ -758,15 +761,19 @@ where
     /// # Errors
     ///
     /// [`State`](Refusal::State) after C or A sent; and what every call tests.
+    #[inline]
     pub fn close(&mut self, slot: u32) -> Result<Closed, Refusal> {
         if self.trace.on() {
             let line = |t: &mut Tracer| t.call(format_args!("close {slot}"));
             return self.traced(None, line, |g| g.close(slot), |t, a| t.closed(a));
         }
-        let answer = self.call(command(Number::Close, slot), &[], &mut []);
-        refused(&answer)?;
-        let message = Message::made(answer.message);
-        Ok(if answer.said == said::RESET { Closed::Reset { message } } else { Closed::InOrder { message, quiet: self.closed(slot) } })
+        let lent = Lent { s: self.s, n: self.n, memory: &mut self.memory, table: self.table.as_mut() };
+        let links: &Links = self.links.borrow();
+        let mut closed = border::close(lent, links.active, slot)?;
+        if let Closed::InOrder { quiet, .. } = &mut closed {
+            *quiet = self.closed(slot);
+        }
+        Ok(closed)
     }
 
     /// Sends A. The slot then waits for the peer's A, or for [`Group::free`].
@@ -774,12 +781,15 @@ where
     /// # Errors
     ///
     /// [`State`](Refusal::State) after A sent; and what every call tests.
+    #[inline]
     pub fn abort(&mut self, slot: u32) -> Result<Message, Refusal> {
         if self.trace.on() {
             let line = |t: &mut Tracer| t.call(format_args!("abort {slot}"));
             return self.traced(None, line, |g| g.abort(slot), |t, a| t.told("abort", a));
         }
-        told(&self.call(command(Number::Abort, slot), &[], &mut []))
+        let lent = Lent { s: self.s, n: self.n, memory: &mut self.memory, table: self.table.as_mut() };
+        let links: &Links = self.links.borrow();
+        border::abort(lent, links.active, slot)
     }
 
     #[inline]
@@ -876,13 +886,6 @@ fn link_refused(answer: &RawLinkAnswer) -> Result<(), Refusal> {
 
 fn made(answer: &Answer) -> Option<Message> {
     answer.made.then(|| Message::made(answer.message))
-}
-
-/// Of a call that always makes a message.
-fn told(answer: &Answer) -> Result<Message, Refusal> {
-    refused(answer)?;
-    debug_assert!(answer.made);
-    Ok(Message::made(answer.message))
 }
 
 fn sent(answer: &Answer) -> Result<Sent, Refusal> {

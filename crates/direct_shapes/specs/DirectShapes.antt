@@ -7,6 +7,7 @@ use Rattle.direct.specs.declared.LinkStates.{LinkStates}
 use Rattle.reading.specs.declared.ReadAnswer.{ReadAnswer}
 use Rattle.transmitting.specs.declared.SendAnswer.{SendAnswer}
 use Rattle.hearing.specs.declared.HearAnswer.{HearAnswer}
+use Rattle.direct_finish.specs.declared.FinishAnswer.{FinishAnswer}
 
 abbrev pub shapeLinkStates : ℕ → LinkStates
 shapeLinkStates one = record { active = eqb one 1 ∷ eqb one 2 ∷ eqb one 3 ∷ eqb one 4 ∷ [] }
@@ -27,3 +28,6 @@ shapeSendAnswer one =
 
 abbrev pub shapeHearAnswer : ℕ → HearAnswer
 shapeHearAnswer one = record { refusal = 1; made = eqb one 2; state = 3; moved = 288230376151711748 }
+
+abbrev pub shapeFinishAnswer : ℕ → FinishAnswer
+shapeFinishAnswer one = record { refusal = 1; made = eqb one 2; reset = eqb one 3 }

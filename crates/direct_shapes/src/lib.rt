@@ -1,7 +1,9 @@
 // For a binding's test: the structs of the direct calls, filled as those of crate `shapes` are (document 02, 2026-11).
 ghost use mathlib.Core.Path.{_≡_};
 ghost use Rattle.direct_shapes.specs.DirectShapes.{shapeLinkStates, shapeReadAnswer, shapeSendAnswer, shapeHearAnswer};
+ghost use Rattle.direct_shapes.specs.DirectShapes.{shapeFinishAnswer};
 use direct::LinkStates;
+use direct_finish::FinishAnswer;
 use hearing::HearAnswer;
 use outcome::Placing;
 use reading::ReadAnswer;
@@ -63,5 +65,16 @@ pub extern "C" fn fordlinnet_shape_hear_answer(one: u32) -> HearAnswer
         made: one == 2,
         state: 3,
         moved: 288230376151711748,
+    }
+}
+
+#[no_mangle]
+pub extern "C" fn fordlinnet_shape_finish_answer(one: u32) -> FinishAnswer
+    ensures { λ r. ⌜ r ≡ shapeFinishAnswer one ⌝ }
+{
+    FinishAnswer {
+        refusal: 1,
+        made: one == 2,
+        reset: one == 3,
     }
 }

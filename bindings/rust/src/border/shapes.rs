@@ -2,8 +2,8 @@
 //! fills arrives with each number in its field.
 
 use super::{
-    Answer, Arguments, Command, GatheredAnswer, HearAnswer, LinkCommand, LinkStates, PoolAnswer, RawBooks, RawFields, RawLinkAnswer,
-    RawPiece, RawSettings, RawTakenUp, ReadAnswer, SendAnswer, SetupAnswer, View,
+    Answer, Arguments, Command, FinishAnswer, GatheredAnswer, HearAnswer, LinkCommand, LinkStates, PoolAnswer, RawBooks, RawFields,
+    RawLinkAnswer, RawPiece, RawSettings, RawTakenUp, ReadAnswer, SendAnswer, SetupAnswer, View,
 };
 use crate::{
     Cursor, Exchange, Gauge, Identity, Inbound, Links, Marks, Opening, Outbound, Placing, Queue, RToken, Record, Remote, Role, Side,
@@ -47,6 +47,7 @@ fn layouts() {
     layout!(ReadAnswer, 8, 4, refusal 0, torn 1, made 2, count 4);
     layout!(SendAnswer, 56, 8, refusal 0, made 1, placings 2, taken 4, both 8);
     layout!(HearAnswer, 16, 8, refusal 0, made 1, state 2, moved 8);
+    layout!(FinishAnswer, 3, 1, refusal 0, made 1, reset 2);
     layout!(GatheredAnswer, 608, 8, answer 0, found 440);
     layout!(RawFields, 104, 8, kind 0, values 8);
     layout!(RawTakenUp, 112, 8, some 0, link 1, fate 4, fields 8);
@@ -82,6 +83,7 @@ extern "C" {
     fn fordlinnet_shape_read_answer(one: u32) -> ReadAnswer;
     fn fordlinnet_shape_send_answer(one: u32) -> SendAnswer;
     fn fordlinnet_shape_hear_answer(one: u32) -> HearAnswer;
+    fn fordlinnet_shape_finish_answer(one: u32) -> FinishAnswer;
     fn fordlinnet_shape_piece() -> RawPiece;
     fn fordlinnet_shape_view() -> View;
     fn fordlinnet_shape_pool_answer() -> PoolAnswer;
@@ -182,6 +184,7 @@ shape! {
     ReadAnswer { refusal, torn, made, count }
     SendAnswer { refusal, made, placings, taken, both: each }
     HearAnswer { refusal, made, state, moved }
+    FinishAnswer { refusal, made, reset }
     RawFields { kind, values: each }
     RawTakenUp { some, link, fate, fields }
     LinkCommand { number, link, up, fields }
@@ -230,6 +233,7 @@ fn filled_structs() {
     same(fordlinnet_shape_read_answer);
     same(fordlinnet_shape_send_answer);
     same(fordlinnet_shape_hear_answer);
+    same(fordlinnet_shape_finish_answer);
     same(fordlinnet_shape_settings);
     same(fordlinnet_shape_setup_answer);
     // SAFETY: values alone.
