@@ -166,7 +166,7 @@ static struct fordlinnet_answer send(struct end *me, const char *bytes) {
     copy.table = table;
     r = fordlinnet_send_direct(&copy, SLOT, (const uint8_t *)bytes, strlen(bytes), message);
     a = fordlinnet_send(&me->group, SLOT, (const uint8_t *)bytes, strlen(bytes));
-    expect(r.refusal == a.refusal && r.made == a.made && r.taken == a.n && r.placings == a.placings, "the small answer says the same");
+    expect(r.refusal == a.refusal && r.made == a.made && r.n == a.n && r.placings == a.placings, "the small answer says the same");
     expect(r.first.key == a.first.key && r.first.address == a.first.address && r.first.start == a.first.start, "the same placing");
     expect(r.first.len == a.first.len && r.second.address == a.second.address && r.second.len == a.second.len, "the same placings");
     expect(memcmp(message, a.message, sizeof message) == 0 && same_table(table, me->table), "the same message and record");
@@ -184,7 +184,7 @@ static void read_again(const struct end *me, struct fordlinnet_record before, st
     copy.table = table;
     memset(out, '.', sizeof out);
     r = fordlinnet_read_direct(&copy, SLOT, out, sizeof out, message);
-    expect(r.refusal == 0 && !r.torn && r.count == a.n && r.made == a.made, "the small answer says the same");
+    expect(r.refusal == 0 && !r.torn && r.n == a.n && r.made == a.made, "the small answer says the same");
     expect(memcmp(out, wanted, sizeof out) == 0 && memcmp(message, a.message, sizeof message) == 0, "the same bytes");
     expect(same_table(table, me->table), "the same record");
 }

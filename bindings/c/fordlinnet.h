@@ -15,8 +15,8 @@
  * refusal. What a message's bytes are for (made == true: 44 bytes in message) is the caller's: they go to the peer over the
  * connection's link, and a link message's reply over the link that it came from.
  *
- * When an element may be used again (RFC 7609, 4.4.2). A slot that closed by C sent and C heard, or by A heard, has nothing of its connection
- * under way to it, if the peer keeps the order of writes and messages: that is proved (NothingUnderWay, in
+ * When an element may be used again (RFC 7609, 4.4.2). A slot that closed by C sent and C heard, or by A heard, has nothing of its
+ * connection under way to it, if the peer keeps the order of writes and messages: that is proved (NothingUnderWay, in
  * crates/only_sent/specs/Reuse.antt), and it may be opened again. A slot closed by fordlinnet_free may be opened again only when no write
  * of the old connection can arrive: the queue pair is down, or the key was revoked. No call can know that, and none is refused: a write
  * that does arrive is read as the new connection's bytes (bindings/c/reuse.c shows it). fordlinnet_free_when_no_write_can_arrive is free
@@ -424,7 +424,7 @@ struct fordlinnet_placing {
 struct fordlinnet_answer {
     uint32_t said;
     uint32_t refusal;
-    uint32_t n;
+    uint32_t n; /* bytes taken or read, here and in the small answers; `count` is of messages, or of a message's bytes */
     uint32_t state;
     uint64_t moved;
     uint32_t health;
@@ -582,7 +582,7 @@ struct fordlinnet_read_answer {
     uint8_t refusal; /* the refusal's number, or 0 */
     bool torn;       /* the eye catcher was damaged: an abort message is made */
     bool made;       /* a message was made */
-    uint32_t count;  /* so many bytes were read */
+    uint32_t n;      /* so many bytes were read */
 };
 
 /* What a send on the table itself answers. */
@@ -590,7 +590,7 @@ struct fordlinnet_send_answer {
     uint8_t refusal;  /* the refusal's number, or 0 */
     bool made;        /* a message was made */
     uint8_t placings; /* how many of the two are named; the others are zeros */
-    uint32_t taken;   /* so many of the bytes were taken */
+    uint32_t n;       /* so many of the bytes were taken */
     struct fordlinnet_placing first;
     struct fordlinnet_placing second;
 };
@@ -739,8 +739,8 @@ FORDLINNET_HAS(setup_answer, 304);
 
 struct fordlinnet_group;
 
-/* A call as a tracer sees it: the command, of one kind or the other, and what it is lent; after the call, its answer. A gather has the number
- * FORDLINNET_GATHER, its head in `bytes`. */
+/* A call as a tracer sees it: the command, of one kind or the other, and what it is lent; after the call, its answer. A gather has the
+ * number FORDLINNET_GATHER, its head in `bytes`. */
 enum { FORDLINNET_GATHER = 15 };
 struct fordlinnet_seen {
     const struct fordlinnet_command *command;           /* or null */
@@ -812,18 +812,18 @@ static inline struct fordlinnet_answer fordlinnet_call(struct fordlinnet_group *
 
 /* Management */
 
-/* Opens a closed slot: zeroes its element, writes the eye catcher. A slot closed by C sent and C heard, or by A heard, has nothing under way
- * to it; one closed by fordlinnet_free may be opened again only when no write of the old connection can arrive: the queue pair is down, or
- * the key was revoked (see the head). Refused with 1, 2, 10, 12, 13, 6, 11, tested in this order. */
+/* Opens a closed slot: zeroes its element, writes the eye catcher. A slot closed by C sent and C heard, or by A heard, has nothing under
+ * way to it; one closed by fordlinnet_free may be opened again only when no write of the old connection can arrive: the queue pair is down,
+ * or the key was revoked (see the head). Refused with 1, 2, 10, 12, 13, 6, 11, tested in this order. */
 static inline struct fordlinnet_answer fordlinnet_open(struct fordlinnet_group *g, uint32_t slot, struct fordlinnet_opening opening) {
     struct fordlinnet_command c = fordlinnet_command_of(FORDLINNET_OPEN, slot);
     c.opening = opening;
     return fordlinnet_call(g, c, 0, 0, 0, 0);
 }
 
-/* Document 01's free: closes a slot in PeerAbortWait. No memory is given back. It does not say that nothing is under way to the element: the
- * slot may be opened again only when no write of this connection can arrive: the queue pair is down, or the key was revoked (see the head).
- * Hearing the peer's A closes the slot too, and does say so. Refused with 1, 2, 3, 7. */
+/* Document 01's free: closes a slot in PeerAbortWait. No memory is given back. It does not say that nothing is under way to the element:
+ * the slot may be opened again only when no write of this connection can arrive: the queue pair is down, or the key was revoked (see the
+ * head). Hearing the peer's A closes the slot too, and does say so. Refused with 1, 2, 3, 7. */
 static inline struct fordlinnet_answer fordlinnet_free(struct fordlinnet_group *g, uint32_t slot) {
     return fordlinnet_call(g, fordlinnet_command_of(FORDLINNET_FREE, slot), 0, 0, 0, 0);
 }
@@ -834,10 +834,10 @@ static inline struct fordlinnet_answer fordlinnet_free_when_no_write_can_arrive(
     return fordlinnet_free(g, slot);
 }
 
-/* The calls on the links. Each is lent a buffer of at least FORDLINNET_MESSAGE_LENGTH x S bytes, apart from memory and table, or is refused with 1; what `count`
- * says of it is sent over the new link as the head of this file has it: after all writes on the old link are done or were put again in
- * order, else the peer aborts the connection; before any later message. Pieces of a gather found before the call still name the old link,
- * as placings handed out before it do. */
+/* The calls on the links. Each is lent a buffer of at least FORDLINNET_MESSAGE_LENGTH x S bytes, apart from memory and table, or is refused
+ * with 1; what `count` says of it is sent over the new link as the head of this file has it: after all writes on the old link are done or
+ * were put again in order, else the peer aborts the connection; before any later message. Pieces of a gather found before the call still
+ * name the old link, as placings handed out before it do. */
 
 static inline struct fordlinnet_link_command fordlinnet_link_command_of(uint32_t number, uint8_t link) {
     struct fordlinnet_link_command c;
@@ -944,8 +944,8 @@ static inline struct fordlinnet_link_states fordlinnet_states_of(const struct fo
     return states;
 }
 
-/* The four calls below with a small answer are the faster form of a place, a send, a read and a hear. A traced group makes the plain call in
- * their place, which answers the same. */
+/* The four calls below with a small answer are the faster form of a place, a send, a read and a hear. A traced group makes the plain call
+ * in their place, which answers the same. */
 static FORDLINNET_COLD uint8_t fordlinnet_place_traced(struct fordlinnet_group *g, uint32_t slot, uint32_t offset, const uint8_t *bytes,
                                                        size_t length) {
     return (uint8_t)fordlinnet_place(g, slot, offset, bytes, length).refusal;
@@ -978,7 +978,7 @@ static FORDLINNET_COLD struct fordlinnet_send_answer fordlinnet_send_traced(stru
     r.refusal = (uint8_t)a.refusal;
     r.made = a.made;
     r.placings = (uint8_t)a.placings;
-    r.taken = a.n;
+    r.n = a.n;
     r.first = a.first;
     r.second = a.second;
     fordlinnet_message_to(message, &a);
@@ -1001,7 +1001,7 @@ static FORDLINNET_COLD struct fordlinnet_read_answer fordlinnet_read_traced(stru
     r.refusal = (uint8_t)a.refusal;
     r.torn = a.said == FORDLINNET_TORN;
     r.made = a.made;
-    r.count = a.n;
+    r.n = a.n;
     fordlinnet_message_to(message, &a);
     return r;
 }

@@ -1,7 +1,7 @@
 /*
  * Writes the calls of a group down as the program `replay` reads them (docs/replay-format.md): each call on a line, and below it its answer
- * behind "#> ", as replay prints it. What is changed by hand or by a card between calls is laid in by lines of its own, of the memory what a
- * read is about to see. So a run can be made again by the proved program, compared, and drawn.
+ * behind "#> ", as replay prints it. What is changed by hand or by a card between calls is laid in by lines of its own, of the memory what
+ * a read is about to see. So a run can be made again by the proved program, compared, and drawn.
  *
  *     struct fordlinnet_trace trace;
  *     fordlinnet_trace_named(&trace, &g);   -- where the variable FORDLINNET_TRACE names a file: that name, the process, and a number
@@ -262,7 +262,8 @@ static inline bool fordlinnet_trace_knows(const struct fordlinnet_seen *call) {
     return (FORDLINNET_OPEN <= k && k <= FORDLINNET_HEAR && k != FORDLINNET_LINK_CHANGE) || k == FORDLINNET_GATHER;
 }
 
-static inline void fordlinnet_trace_before(struct fordlinnet_tracer *to, const struct fordlinnet_group *g, const struct fordlinnet_seen *call) {
+static inline void fordlinnet_trace_before(struct fordlinnet_tracer *to, const struct fordlinnet_group *g,
+                                           const struct fordlinnet_seen *call) {
     struct fordlinnet_trace *t = (struct fordlinnet_trace *)to;
     if (!fordlinnet_trace_knows(call)) return;
     if (!t->begun) {
@@ -317,7 +318,8 @@ static inline void fordlinnet_trace_pieces(FILE *to, const struct fordlinnet_see
     for (;;) {
         struct fordlinnet_piece p =
             fordlinnet_next_piece(call->length ? call->bytes : (const uint8_t *)"", call->length,
-                                  call->body_length ? call->body : (const uint8_t *)"", call->body_length, *call->found, call->answer->n, k);
+                                  call->body_length ? call->body : (const uint8_t *)"", call->body_length, *call->found,
+                                  call->answer->n, k);
         fprintf(to, "%s%" PRIu32 ",%" PRIu64 ",", k == 0 ? "" : ";", p.key, p.address);
         fordlinnet_trace_hex(to, (p.buffer == FORDLINNET_HEAD ? call->bytes : call->body) + (p.len ? p.start : 0), p.len);
         if (p.len == 0) return;
@@ -372,7 +374,8 @@ static inline void fordlinnet_trace_said(FILE *to, const struct fordlinnet_seen 
     fordlinnet_trace_made(to, a->made, a->message);
 }
 
-static inline void fordlinnet_trace_after(struct fordlinnet_tracer *to, const struct fordlinnet_group *g, const struct fordlinnet_seen *call) {
+static inline void fordlinnet_trace_after(struct fordlinnet_tracer *to, const struct fordlinnet_group *g,
+                                          const struct fordlinnet_seen *call) {
     struct fordlinnet_trace *t = (struct fordlinnet_trace *)to;
     if (!fordlinnet_trace_knows(call)) return;
     fputs("#> ", t->to);

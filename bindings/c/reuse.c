@@ -1,6 +1,6 @@
 /* What happens when a caller breaks the rule of reuse, and three ways to keep it. A composer sends a draft, whose write the card is slow to
- * perform. The host aborts the job and gives its element to the next one, which sends the plate. Every call is accepted in all four runs; in
- * the first, the draft's bytes are read as the plate. */
+ * perform. The host aborts the job and gives its element to the next one, which sends the plate. Every call is accepted in all four runs;
+ * in the first, the draft's bytes are read as the plate. */
 #include <stdio.h>
 #include <stdlib.h>
 #include <string.h>
@@ -99,7 +99,8 @@ static void run(enum rule rule, const char *title) {
     open_slot(&host, 5, 6, 0);
     open_slot(&composer, 6, 5, card.key);
     sent = send(&composer, draft, DRAFTS, &late);
-    printf("  the draft's send names %u bytes for address %u by key %u\n", (unsigned)late.length, (unsigned)late.address, (unsigned)late.key);
+    printf("  the draft's send names %u bytes for address %u by key %u\n", (unsigned)late.length, (unsigned)late.address,
+           (unsigned)late.key);
 
     a = fordlinnet_abort(&host.group, SLOT);
     accepted(a.said, "abort");

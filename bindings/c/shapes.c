@@ -151,12 +151,12 @@ SIZE(read_answer, 8);
 AT(read_answer, refusal, 0, 1);
 AT(read_answer, torn, 1, 1);
 AT(read_answer, made, 2, 1);
-AT(read_answer, count, 4, 4);
+AT(read_answer, n, 4, 4);
 SIZE(send_answer, 56);
 AT(send_answer, refusal, 0, 1);
 AT(send_answer, made, 1, 1);
 AT(send_answer, placings, 2, 1);
-AT(send_answer, taken, 4, 4);
+AT(send_answer, n, 4, 4);
 AT(send_answer, first, 8, 24);
 AT(send_answer, second, 32, 24);
 SIZE(hear_answer, 16);
@@ -444,7 +444,7 @@ static void see_read_answer(struct fordlinnet_read_answer v) {
     NUMBER(v.refusal);
     flag(v.torn);
     flag(v.made);
-    NUMBER(v.count);
+    NUMBER(v.n);
 }
 
 static void see_send_answer(struct fordlinnet_send_answer v) {
@@ -452,7 +452,7 @@ static void see_send_answer(struct fordlinnet_send_answer v) {
     NUMBER(v.refusal);
     flag(v.made);
     NUMBER(v.placings);
-    NUMBER(v.taken);
+    NUMBER(v.n);
     NUMBER(v.first.key);
     NUMBER(v.first.address);
     NUMBER(v.first.start);

@@ -1,5 +1,5 @@
-//! Finds the proved archive: in the directory that `FORDLINNET_LIB` names; or where `bindings/archive` leaves it, in `target/staticlib` at the
-//! top of the repository; or beside an installed crate (`bindings/install`). Then looks for its ABI: the archive has a symbol
+//! Finds the proved archive: in the directory that `FORDLINNET_LIB` names; or where `bindings/archive` leaves it, in `target/staticlib` at
+//! the top of the repository; or beside an installed crate (`bindings/install`). Then looks for its ABI: the archive has a symbol
 //! `fordlinnet_abi_` with the number, and the crate links with no other.
 
 use std::env;

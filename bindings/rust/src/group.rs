@@ -265,8 +265,8 @@ where
     T: AsMut<[Record]>,
     L: BorrowMut<Links>,
 {
-    /// Opens a closed slot, and answers its number: zeroes its element, writes the eye catcher, and lays down a record whose cursors are all
-    /// at the beginning.
+    /// Opens a closed slot, and answers its number: zeroes its element, writes the eye catcher, and lays down a record whose cursors are
+    /// all at the beginning.
     ///
     /// It asks for the right to use the element, [`Quiet`]: a fresh group has one for each slot, a close that proves it makes one, and
     /// after [`Group::free`] the caller's word does. A refused open gives it back. With a right that was sworn falsely the bytes of the old
