@@ -618,12 +618,12 @@ struct fordlinnet_answer fordlinnet_make(uint32_t s, uint32_t n, uint8_t *memory
                                          size_t table_length, struct fordlinnet_links links, struct fordlinnet_command command,
                                          const uint8_t *bytes, size_t bytes_length, uint8_t *out, size_t out_length);
 
-/* Reads, on the table itself and with a small answer: of the links it sees only their states. A message that is made stands in the first
- * 44 bytes of `message`, which else stays as it is; a shorter buffer is refused with 1. */
+/* Reads, on the table itself and with a small answer, in which a field that is not named is zero: of the links it sees only their states.
+ * A message that is made is written to `message`, all of its 44 bytes; else they stay as they are. */
 struct fordlinnet_read_answer fordlinnet_make_read(uint32_t s, uint32_t n, const uint8_t *memory, size_t memory_length,
                                                    struct fordlinnet_record *table, size_t table_length,
                                                    struct fordlinnet_link_states links, uint32_t slot, uint8_t *out, size_t out_length,
-                                                   uint8_t *message, size_t message_length);
+                                                   uint8_t message[FORDLINNET_MESSAGE_LENGTH]);
 
 /* Places, likewise: the refusal's number, or 0 where the bytes are stored. */
 uint8_t fordlinnet_make_place(uint32_t s, uint32_t n, uint8_t *memory, size_t memory_length, const struct fordlinnet_record *table,
@@ -634,13 +634,13 @@ uint8_t fordlinnet_make_place(uint32_t s, uint32_t n, uint8_t *memory, size_t me
 struct fordlinnet_send_answer fordlinnet_make_send(uint32_t s, uint32_t n, const uint8_t *memory, size_t memory_length,
                                                    struct fordlinnet_record *table, size_t table_length,
                                                    struct fordlinnet_link_states links, uint32_t slot, const uint8_t *bytes,
-                                                   size_t bytes_length, uint8_t *message, size_t message_length);
+                                                   size_t bytes_length, uint8_t message[FORDLINNET_MESSAGE_LENGTH]);
 
 /* Hears, likewise. */
 struct fordlinnet_hear_answer fordlinnet_make_hear(uint32_t s, uint32_t n, const uint8_t *memory, size_t memory_length,
                                                    struct fordlinnet_record *table, size_t table_length,
                                                    struct fordlinnet_link_states links, const uint8_t *bytes, size_t bytes_length,
-                                                   uint8_t *message, size_t message_length);
+                                                   uint8_t message[FORDLINNET_MESSAGE_LENGTH]);
 
 /* Shutdown, close and abort, likewise: the message stands in the 44 bytes of `message`, which a refused call leaves as they were. */
 struct fordlinnet_finish_answer fordlinnet_make_shutdown(uint32_t s, uint32_t n, const uint8_t *memory, size_t memory_length,
@@ -991,7 +991,7 @@ static inline struct fordlinnet_send_answer fordlinnet_send_direct(struct fordli
     uint8_t none[1] = {0};
     if (g->tracer) return fordlinnet_send_traced(g, slot, bytes, length, message);
     return fordlinnet_make_send(g->s, g->n, g->memory, g->memory_length, g->table, g->table_length, fordlinnet_states_of(g), slot,
-                                length ? bytes : none, length, message, 44);
+                                length ? bytes : none, length, message);
 }
 
 static FORDLINNET_COLD struct fordlinnet_read_answer fordlinnet_read_traced(struct fordlinnet_group *g, uint32_t slot, uint8_t *out,
@@ -1012,7 +1012,7 @@ static inline struct fordlinnet_read_answer fordlinnet_read_direct(struct fordli
     uint8_t none[1] = {0};
     if (g->tracer) return fordlinnet_read_traced(g, slot, out, room, message);
     return fordlinnet_make_read(g->s, g->n, g->memory, g->memory_length, g->table, g->table_length, fordlinnet_states_of(g), slot,
-                                room ? out : none, room, message, 44);
+                                room ? out : none, room, message);
 }
 
 /* Takes a message from the peer, for the slot whose token it carries. Refused with 1, 4, 5, 3, 6, 16, 8. One with F changes nothing if it
@@ -1039,7 +1039,7 @@ static inline struct fordlinnet_hear_answer fordlinnet_hear_direct(struct fordli
     uint8_t none[1] = {0};
     if (g->tracer) return fordlinnet_hear_traced(g, bytes, length, answer);
     return fordlinnet_make_hear(g->s, g->n, g->memory, g->memory_length, g->table, g->table_length, fordlinnet_states_of(g),
-                                length ? bytes : none, length, answer, 44);
+                                length ? bytes : none, length, answer);
 }
 
 /* Sends D, done writing. The message is written to `message`, which has 44 bytes. Refused with 1, 2, 3, 6, 7. */

@@ -406,8 +406,7 @@ extern "C" {
         slot: u32,
         out: *mut u8,
         out_length: usize,
-        message: *mut u8,
-        message_length: usize,
+        message: *mut [u8; Message::SIZE],
     ) -> ReadAnswer;
 
     fn fordlinnet_make_place(
@@ -435,8 +434,7 @@ extern "C" {
         slot: u32,
         bytes: *const u8,
         bytes_length: usize,
-        message: *mut u8,
-        message_length: usize,
+        message: *mut [u8; Message::SIZE],
     ) -> SendAnswer;
 
     fn fordlinnet_make_hear(
@@ -449,8 +447,7 @@ extern "C" {
         links: LinkStates,
         bytes: *const u8,
         bytes_length: usize,
-        message: *mut u8,
-        message_length: usize,
+        message: *mut [u8; Message::SIZE],
     ) -> HearAnswer;
 
     fn fordlinnet_make_shutdown(
@@ -581,8 +578,8 @@ impl Unwritten {
     }
 
     #[inline]
-    fn as_mut_ptr(&mut self) -> *mut u8 {
-        self.0.as_mut_ptr().cast()
+    fn as_mut_ptr(&mut self) -> *mut [u8; Message::SIZE] {
+        self.0.as_mut_ptr()
     }
 
     /// # Safety
@@ -614,7 +611,6 @@ pub(crate) fn read<M: Memory + ?Sized>(lent: Lent<'_, M>, active: [bool; 4], slo
             out.as_mut_ptr(),
             out.len(),
             message.as_mut_ptr(),
-            Message::SIZE,
         )
     };
     if answer.refusal != 0 {
@@ -673,7 +669,6 @@ pub(crate) fn send<M: Memory + ?Sized>(lent: Lent<'_, M>, active: [bool; 4], slo
             bytes.as_ptr(),
             bytes.len(),
             message.as_mut_ptr(),
-            Message::SIZE,
         )
     };
     if answer.refusal != 0 {
@@ -705,7 +700,6 @@ pub(crate) fn hear<M: Memory + ?Sized>(lent: Lent<'_, M>, active: [bool; 4], byt
             bytes.as_ptr(),
             bytes.len(),
             message.as_mut_ptr(),
-            Message::SIZE,
         )
     };
     if answer.refusal != 0 {

@@ -1,28 +1,23 @@
--- The links' states, refusals 1, 2, 3 and 6, and a message in a lent buffer, the abort mark: what each definition gives. Assumes nothing.
-use Prim.Native.Nat.{ℕ, zero, suc, _+_, _≤_, _<_}
+-- The links' states, refusals 1, 2, 3 and 6, and the abort mark: what each definition gives. Assumes nothing.
+use Prim.Native.Nat.{ℕ}
 use mathlib.Core.Path.{_≡_, refl, sym, ap, _∙_}
 use mathlib.Core.Bool.{Bool, true, false, _&&_, _||_, not, cond}
-use mathlib.Core.List.{List, [], _∷_, _++_}
-use native.Mathlib.Numerals.{add-one}
-use native.Mathlib.Omega.{arith}
+use mathlib.Core.List.{List}
 use lib.Dec.{T as Holds, ltb, eqb}
-use lib.ListN.{length, getD, take, drop, set}
+use lib.ListN.{length, getD}
 use mir.Val.{Val}
 use denote.Laws.{Is}
-use lib.Seq.{take-length, take-at}
-use borrow.Author.Tests.{le-leb, lt-leb}
 use borrow.Author.Needs.{length-unmapped}
 use Rattle.closing.specs.declared.Marks.{Marks}
 use Rattle.closing.specs.Closing.{abortSent}
 use Rattle.connection.specs.declared.Record.{Record}
 use Rattle.outcome.specs.declared.Outcome.{Outcome}
 use Rattle.connection.specs.Connection.{refusalOf, zeroRecord}
-use Rattle.outcome.specs.Outcome.{noMessage}
 use Rattle.table.specs.declared.Links.{Links}
 use Rattle.table.specs.Table.{sizesB, slotB, indexOf, recordAt, activeB, refusedBy, keptBy, turnedBy, settledBy}
 use Rattle.slots.proofs.Laws.{record-at-returns, record-at-returns-2}
 use Rattle.direct.specs.declared.LinkStates.{LinkStates}
-use Rattle.direct.specs.Direct.{heldOf, refusalAt, writtenIn, BufferKept, marksLeft}
+use Rattle.direct.specs.Direct.{heldOf, refusalAt, marksLeft}
 use Rattle.direct.proofs.LinkStates.{the-row}
 
 -- four links, which a value of the type has
@@ -72,45 +67,6 @@ module _ (s n len : ℕ) (t : List Record) (links : LinkStates) (k : ℕ) where
 
   pub refusal-at-returns-2 : (b : Bool) → b ≡ sizesB s n len (length t) → Holds (not b) → 1 ≡ refusalAt s n len t (links .active) k
   refusal-at-returns-2 false e h = sym (sized-is false (sym e))
-
--- a turn's store: one more byte of s at the front of d
-front-suc : (s d : List ℕ) (i : ℕ) → i < length s → i < length d
-    → set (take i s ++ drop i d) i (getD s i 0) ≡ take (suc i) s ++ drop (suc i) d
-front-suc [] d i h k = absurd (omega arith)
-front-suc (x ∷ s) [] i h k = absurd (omega arith)
-front-suc (x ∷ s) (y ∷ d) zero h k = refl
-front-suc (x ∷ s) (y ∷ d) (suc i) h k = ap (λ (l : List ℕ). x ∷ l) (front-suc s d i (omega arith) (omega arith))
-
-pub front-more : (s d : List ℕ) (i : ℕ) → i < length s → i < length d
-    → set (take i s ++ drop i d) i (getD s i 0) ≡ take (i + 1) s ++ drop (i + 1) d
-front-more s d i h k = rw add-one (front-suc s d i h k)
-
--- all 44 at the front, or a buffer too short for them
-module _ (s d : List ℕ) where
-  pub written-all : (i : ℕ) (b : List ℕ) → i ≡ 44 → length s ≡ 44 → 44 ≤ length d → b ≡ take i s ++ drop i d → b ≡ writtenIn s d
-  unfolding writtenIn
-  written-all i b e l h f =
-      f ∙ ap (λ (j : ℕ). take j s ++ drop j d) e
-      ∙ ap (λ (x : List ℕ). x ++ drop 44 d) (ap (λ (j : ℕ). take j s) (sym l) ∙ take-length s)
-      ∙ sym (ap (λ (q : Bool). cond q (s ++ drop 44 d) d) (le-leb 44 (length d) h))
-
-  pub written-none : length d < 44 → d ≡ writtenIn s d
-  unfolding writtenIn
-  written-none h = sym (ap (λ (q : Bool). cond q (s ++ drop 44 d) d) (lt-leb 44 (length d) h))
-
--- what a caller finds in the buffer, where a message was made and where none was
-written : (bytes b : List ℕ) → 44 ≤ length b → writtenIn bytes b ≡ bytes ++ drop 44 b
-unfolding writtenIn
-written bytes b h = simp (le-leb 44 (length b) h)
-
-module _ (bytes b c : List ℕ) (long : length bytes ≡ 44) (h : 44 ≤ length b) where
-  pub front : (made : Bool) → c ≡ cond made (writtenIn bytes b) b → cond made (take 44 c) noMessage ≡ cond made bytes noMessage
-  front true e = ap (take 44) (e ∙ written bytes b h) ∙ take-at bytes (drop 44 b) 44 long
-  front false e = refl
-
-  pub kept : (made : Bool) → c ≡ cond made (writtenIn bytes b) b → BufferKept made b c
-  kept true e = e ∙ written bytes b h ∙ ap (λ (l : List ℕ). l ++ drop 44 b) (sym (front true e))
-  kept false e = e
 
 -- no call on a record changes the links
 pub links-stay : (j : ℕ) (ls : Links) (c : Record) (o : Outcome) → settledBy j ls c o .answer .links ≡ ls

@@ -1,11 +1,11 @@
 // What the calls that change a record where it lies in the lent table share (document 02, 2026-11): which links are active, what a call on
-// a slot tests first, a message written into a lent buffer, and what a call leaves of T, the sequence number, the marks and an urgent place.
+// a slot tests first, and what a call leaves of T, the sequence number, the marks and an urgent place.
 ghost use mathlib.Core.Path.{_≡_};
 ghost use mathlib.Core.Bool.{cond};
 ghost use Rattle.connection.specs.Connection.{noPlace};
 ghost use Rattle.outcome.specs.Outcome.{sequenceAfter};
 ghost use Rattle.table.specs.Table.{activeB, indexOf, recordAt};
-ghost use Rattle.direct.specs.Direct.{heldOf, refusalAt, writtenIn, marksLeft};
+ghost use Rattle.direct.specs.Direct.{heldOf, refusalAt, marksLeft};
 use closing::Marks;
 use connection::Record;
 use connection::Urgent;
@@ -72,19 +72,6 @@ pub fn refusal_at(s: u32, n: u32, len: usize, table: &[Record], links: LinkState
         return held_at(s, n, table, links, slot);
     } else {
         return 1;
-    }
-}
-
-// The message's bytes at the front of a buffer that holds as many.
-pub fn write(message: [u8; 44], to: &mut [u8])
-    ensures { λ _. ⌜ now (to .exit) ≡ writtenIn message (now (to .entry)) ⌝ }
-{
-    if 44 <= to.len() {
-        let mut i: usize = 0;
-        while i < 44 {
-            to[i] = message[i];
-            i += 1;
-        }
     }
 }
 

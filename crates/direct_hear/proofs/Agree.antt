@@ -24,7 +24,8 @@ use Rattle.hearing.specs.declared.Hearing.{Hearing}
 use Rattle.hearing.specs.Hearing.{refusedHearing, abortHearing, keptHearing, breakHearing, validatedHearing, acceptedHearing, ruledHearing}
 use Rattle.hearing.specs.Hearing.{hearingOf, inboundLeft, outboundLeft, recordLeft, abortLeft, endedOf, toldBy}
 use Rattle.direct.proofs.Laws.{marks-kept, marks-aborted}
-use Rattle.direct_hear.specs.DirectHear.{saysIn}
+use Rattle.direct_made.specs.DirectMade.{namedIn}
+use Rattle.direct_hear.specs.DirectHear.{hearAnswer, saysIn}
 
 -- the record that a hearing leaves
 abbrev pub leftOf : Record → Message → Hearing → Record
@@ -32,8 +33,8 @@ leftOf rec m t = cond (t .closes || t .aborts) (endedOf rec t) (cond (t .takes) 
 
 -- what a hearing t of the record rec shares with the outcome of the rules
 pub record Agrees (rec : Record) (m : Message) (t : Hearing) (o : Outcome) : Type 0 where
-  pub says : saysOf (o .reply) ≡ saysIn (t .said)
-  pub made : o .made ≡ t .said .made
+  pub answers : t .said ≡ hearAnswer (namedIn (saysOf (o .reply))) (o .made)
+  pub says : saysIn (t .said) ≡ saysOf (o .reply)
   pub message : o .message ≡ cond (t .said .made) (encodeOf (messageOf (toldBy rec t))) noMessage
   pub after : o .after ≡ leftOf rec m t
   pub apart : t .takes && (t .closes || t .aborts) ≡ false
@@ -46,17 +47,17 @@ module _ (rec : Record) (m : Message) where
 
   pub refused-agrees : (j : ℕ) → eqb j 0 ≡ false → Agrees rec m (refusedHearing j) (refusedOf j rec)
   unfolding refusedOf saysIn
-  refused-agrees j e = record { says = simp e; made = refl; message = refl; after = refl; apart = refl }
+  refused-agrees j e = record { says = simp e; answers = refl; message = refl; after = refl; apart = refl }
 
   -- with A
   aborted-by : (sent : Bool)
       → Agrees rec m (abortHearing sent) (closedIf true (outcomeOf (Heard 0 Closed) (not sent) (marksTo rec (abortSent (rec .marks)))))
   unfolding closedIf outcomeOf saysIn stateAt toldBy endedOf marksTo
-  aborted-by true = record { says = refl; made = refl; message = refl; after = refl; apart = refl }
+  aborted-by true = record { says = refl; answers = refl; message = refl; after = refl; apart = refl }
   aborted-by false =
       record {
         says = refl;
-        made = refl;
+        answers = refl;
         message = ap (λ (w : Marks). encodeOf (messageOf (marksTo rec w))) (sym (marks-aborted (rec .marks)));
         after = refl;
         apart = refl;
@@ -69,7 +70,7 @@ module _ (rec : Record) (m : Message) where
   -- no change
   kept-agrees : (state : State) → Agrees rec m (keptHearing (numberOf state)) (outcomeOf (Heard 0 state) false rec)
   unfolding outcomeOf saysIn
-  kept-agrees state = record { says = ap (heard 0) (sym (state-back state)); made = refl; message = refl; after = refl; apart = refl }
+  kept-agrees state = record { says = ap (heard 0) (state-back state); answers = refl; message = refl; after = refl; apart = refl }
 
   -- with F
   break-agrees : Agrees rec m breakHearing (outcomeOf (Heard 0 PeerAbortWait) true (marksTo rec (abortSent (rec .marks))))
@@ -77,7 +78,7 @@ module _ (rec : Record) (m : Message) where
   break-agrees =
       record {
         says = refl;
-        made = refl;
+        answers = refl;
         message = ap (λ (w : Marks). encodeOf (messageOf (marksTo rec w))) (sym (marks-aborted (rec .marks)));
         after = refl;
         apart = refl;
@@ -113,9 +114,9 @@ module _ (rec : Record) (m : Message) where
     abbrev tells : Record
     tells = outboundTo rec (urgentOutTo (rec .outbound) (cond passed noPlace (rec .outbound .urgent)))
 
-    says-is : (made shut : Bool) → heard moved state ≡ saysIn (small made shut .said)
+    says-is : (made shut : Bool) → saysIn (small made shut .said) ≡ heard moved state
     unfolding saysIn
-    says-is made shut = ap (heard moved) (sym (state-back state))
+    says-is made shut = ap (heard moved) (state-back state)
 
     message-is : (shut : Bool) → encodeOf (messageOf next) ≡ encodeOf (messageOf (toldBy rec (small true shut)))
     unfolding messageOf toldBy marksTo marksHeard
@@ -124,11 +125,11 @@ module _ (rec : Record) (m : Message) where
     accepted-by : (made shut : Bool) → Agrees rec m (small made shut) (closedIf shut (outcomeOf (Heard moved state) made next))
     unfolding closedIf outcomeOf toldOf toldIn usedIn recordLeft inboundLeft outboundLeft endedOf marksTo
     accepted-by true true =
-        record { says = says-is true true; made = refl; message = message-is true; after = refl; apart = refl }
+        record { says = says-is true true; answers = refl; message = message-is true; after = refl; apart = refl }
     accepted-by true false =
-        record { says = says-is true false; made = refl; message = message-is false; after = refl; apart = refl }
-    accepted-by false true = record { says = says-is false true; made = refl; message = refl; after = refl; apart = refl }
-    accepted-by false false = record { says = says-is false false; made = refl; message = refl; after = refl; apart = refl }
+        record { says = says-is true false; answers = refl; message = message-is false; after = refl; apart = refl }
+    accepted-by false true = record { says = says-is false true; answers = refl; message = refl; after = refl; apart = refl }
+    accepted-by false false = record { says = says-is false false; answers = refl; message = refl; after = refl; apart = refl }
 
   module _ (n : ℕ) where
     accepted-agrees : Agrees rec m (acceptedHearing n rec m) (acceptedOf n rec m)

@@ -1,17 +1,16 @@
 -- What the walks of `hearing_at`, `take_at`, `end_at`, `put`, `tell_at` and `fordlinnet_make_hear` give. Assumes nothing.
-use Prim.Native.Nat.{ℕ, _≤_, _<_}
+use Prim.Native.Nat.{ℕ}
 use mathlib.Core.Path.{_≡_, refl, sym, ap, _∙_, subst}
 use mathlib.Core.Bool.{Bool, true, false, _&&_, _||_, not, cond, false≢true}
 use mathlib.Core.List.{List, []}
 use native.Mathlib.Omega.{arith}
 use lib.Dec.{T as Holds, ltb, eqb, ltb→lt, nltb→le}
-use lib.ListN.{length, take, getD, set}
-use borrow.Author.Tests.{le-leb, lt-leb, ne-eqb}
+use lib.ListN.{length, getD, set}
+use borrow.Author.Tests.{ne-eqb}
 use Rattle.cdc.specs.declared.Message.{Message}
 use Rattle.cdc.specs.declared.Decoded.{Decoded}
 use Rattle.cdc.specs.declared.Decoded.the-variants.{Good, Malformed}
 use Rattle.cdc.specs.Cdc.{encodeOf, decodeOf}
-use Rattle.cdc.proofs.RoundTrip.{encode-length}
 use Rattle.connection.specs.declared.Record.{Record}
 use Rattle.connection.specs.Connection.{zeroRecord, numbersOk, coherentB}
 use Rattle.connection.proofs.Laws.{refusal-3}
@@ -22,20 +21,20 @@ use Rattle.table.specs.declared.Links.{Links}
 use Rattle.table.specs.Table.{sizesB, indexOf, recordAt, withRecord, activeB, holderIn, refusedBy, keptBy, turnedBy, settledBy}
 use Rattle.table.proofs.Laws.{record-kept}
 use Rattle.slots.proofs.Laws.{record-at-returns, record-at-returns-2, put-record-returns, put-record-returns-2}
-use Rattle.rules.specs.Rules.{Call, Did, groupOf}
+use Rattle.rules.specs.Rules.{hear, Answer, answer, linksOf, groupOf}
 use Rattle.rules.specs.Promises.{Promise}
 use Rattle.calls.specs.Calls.{tokenIs, tokenIn, heardBy}
 use Rattle.calls.proofs.Laws.{hear-unsized, hear-bad, hear-good}
 use Rattle.direct.specs.declared.LinkStates.{LinkStates}
-use Rattle.direct.specs.Direct.{writtenIn, BufferKept}
-use Rattle.direct.proofs.Laws.{front, kept}
+use Rattle.direct_made.specs.DirectMade.{InEveryGroup}
+use Rattle.direct_made.proofs.Laws.{made-by, told-same}
 use Rattle.hearing.specs.declared.HearAnswer.{HearAnswer}
 use Rattle.hearing.specs.declared.Parsed.{Parsed}
 use Rattle.hearing.specs.declared.Hearing.{Hearing}
 use Rattle.hearing.specs.Hearing.{parsedOf, parsedIn, refusedBefore, refusedHearing, hearingOf, noneHearing}
 use Rattle.hearing.specs.Hearing.{recordLeft, endedOf, toldBy, messageLeft}
 use Rattle.direct_hear.specs.TableLeft.{slotIf, tableLeft, HeardBy}
-use Rattle.direct_hear.specs.DirectHear.{answerIn, refusedAnswer, HearMade}
+use Rattle.direct_hear.specs.DirectHear.{hearAnswerOf, HearMade, saysIn, NothingLost}
 use Rattle.direct_hear.proofs.Agree.{leftOf, Agrees, refused-agrees, agree}
 
 -- THE RECORD THAT THE SLOT SHOWS
@@ -125,27 +124,22 @@ unfolding tableLeft slotIf
 left-is t k m q e = left-by t k m q (q .takes) (q .closes || q .aborts) e
 
 -- WHAT IS TESTED FIRST
-module _ (s n len count buffer : ℕ) (good : Bool) (k : ℕ) where
-  first-short : buffer < 44 → refusedBefore s n len count buffer good k ≡ 1
+module _ (s n len count : ℕ) (good : Bool) (k : ℕ) where
+  first-1 : sizesB s n len count ≡ false → refusedBefore s n len count good k ≡ 1
   unfolding refusedBefore
-  first-short h = simp (lt-leb 44 buffer h)
+  first-1 y = simp y
 
-  module _ (h : 44 ≤ buffer) where
-    first-1 : sizesB s n len count ≡ false → refusedBefore s n len count buffer good k ≡ 1
-    unfolding refusedBefore
-    first-1 y = simp (le-leb 44 buffer h, y)
+  first-4 : sizesB s n len count ≡ true → good ≡ false → refusedBefore s n len count good k ≡ 4
+  unfolding refusedBefore
+  first-4 y g = simp (y, g)
 
-    first-4 : sizesB s n len count ≡ true → good ≡ false → refusedBefore s n len count buffer good k ≡ 4
-    unfolding refusedBefore
-    first-4 y g = simp (le-leb 44 buffer h, y, g)
+  first-5 : sizesB s n len count ≡ true → good ≡ true → eqb k 0 ≡ true → refusedBefore s n len count good k ≡ 5
+  unfolding refusedBefore
+  first-5 y g e = simp (y, g, e)
 
-    first-5 : sizesB s n len count ≡ true → good ≡ true → eqb k 0 ≡ true → refusedBefore s n len count buffer good k ≡ 5
-    unfolding refusedBefore
-    first-5 y g e = simp (le-leb 44 buffer h, y, g, e)
-
-    first-0 : sizesB s n len count ≡ true → good ≡ true → eqb k 0 ≡ false → refusedBefore s n len count buffer good k ≡ 0
-    unfolding refusedBefore
-    first-0 y g e = simp (le-leb 44 buffer h, y, g, e)
+  first-0 : sizesB s n len count ≡ true → good ≡ true → eqb k 0 ≡ false → refusedBefore s n len count good k ≡ 0
+  unfolding refusedBefore
+  first-0 y g e = simp (y, g, e)
 
 hearing-refused : (n : ℕ) (active : Bool) (rec : Record) (m : Message) (j : ℕ) → eqb j 0 ≡ false
     → hearingOf n active rec m j ≡ refusedHearing j
@@ -174,7 +168,7 @@ module _ (n : ℕ) (ls : Links) (k : ℕ) (rec : Record) (m : Message) where
 module _
     (s n : ℕ) (mem : List ℕ) (t : List Record) (states : LinkStates) (bytes b : List ℕ)
     (w : Parsed) (ew : w ≡ parsedIn bytes) (token : ℕ) (et : token ≡ w .message .token) (k : ℕ) (ek : k ≡ holderIn t token)
-    (j : ℕ) (ej : j ≡ refusedBefore s n (length mem) (length t) (length b) (w .good) k)
+    (j : ℕ) (ej : j ≡ refusedBefore s n (length mem) (length t) (w .good) k)
     (r : Hearing) (er : r ≡ hearingOf n (activeB (states .active) (recordAt t k .id .link)) (recordAt t k) (w .message) j)
     (c : List ℕ) (ec : c ≡ messageLeft (recordAt t k) r b) (u : List Record) (eu : u ≡ tableLeft t k (w .message) r)
   where
@@ -188,38 +182,36 @@ module _
     unfolding tokenIn parsedIn
     holder-is = ek ∙ ap (holderIn t) (et ∙ ap (λ (p : Parsed). p .message .token) ew ∙ token-same (decodeOf bytes))
 
-    told : c ≡ cond (r .said .made) (writtenIn (encodeOf (messageOf (toldBy rec r))) b) b
-    unfolding messageLeft
-    told = ec
-
-    long : length (encodeOf (messageOf (toldBy rec r))) ≡ 44
-    long = encode-length (messageOf (toldBy rec r))
-
     refused-is : (x : ℕ) → j ≡ x → eqb x 0 ≡ false → r ≡ refusedHearing x
     refused-is x e z = er ∙ ap (hearingOf n active rec (w .message)) e ∙ hearing-refused n active rec (w .message) x z
 
-    -- a buffer of 44 bytes or more
-    module _ (h : 44 ≤ length b) (ls : Links) (ea : ls .active ≡ states .active) where
+    module _ (ls : Links) (ea : ls .active ≡ states .active) where
       abbrev Done : Type 0
-      Done = Did (groupOf s n t ls mem) (Call.hear bytes) (answerIn (r .said) c) (groupOf s n u ls mem)
+      Done =
+          HearMade (groupOf s n t ls mem) bytes b (r .said) (groupOf s n u ls mem) c
+          × (let x = answer (groupOf s n t ls mem) (hear bytes) in saysIn (hearAnswerOf x) ≡ x .says)
 
       module _ (o : Outcome) (g : Agrees rec (w .message) r o) where
-        message-is : cond (r .said .made) (take 44 c) noMessage ≡ o .message
-        message-is = front (encodeOf (messageOf (toldBy rec r))) b c long h (r .said .made) told ∙ sym (g .message)
+        message-is : c ≡ cond (o .made) (o .message) b
+        unfolding messageLeft
+        message-is =
+            ec
+            ∙ told-same (r .said .made) (encodeOf (messageOf (toldBy rec r))) noMessage b
+            ∙ (λ i. cond (g .answers i .made) (sym (g .message) i) b)
 
         table-is : u ≡ withRecord t k (o .after)
         table-is = eu ∙ left-is t k (w .message) r (g .apart) ∙ ap (withRecord t k) (sym (g .after))
 
-        settles : Promise s n mem mem t ls (Call.hear bytes) k (turnedBy ls o) [] → Done
-        unfolding turnedBy answerIn
-        settles d =
-            record {
-              answered = (λ i. record { says = sym (g .says) i; made = sym (g .made) i; message = message-is i; out = [] }) ∙ d .answered;
-              left = (λ i. groupOf s n (table-is i) ls mem) ∙ d .left;
-            }
+        settles : Promise s n mem mem t ls (hear bytes) k (turnedBy ls o) [] → Done
+        unfolding turnedBy
+        settles d = (
+          made-by hearAnswerOf b (record { answered = d .answered; left = (λ i. groupOf s n (table-is i) ls mem) ∙ d .left }) (g .answers)
+              refl message-is,
+          subst (λ (x : Answer). saysIn (hearAnswerOf x) ≡ x .says) (d .answered) (ap saysIn (sym (g .answers)) ∙ g .says),
+        )
 
       -- 1, 4 and 5
-      refuses : (x : ℕ) → j ≡ x → eqb x 0 ≡ false → Promise s n mem mem t ls (Call.hear bytes) k (turnedBy ls (refusedOf x rec)) [] → Done
+      refuses : (x : ℕ) → j ≡ x → eqb x 0 ≡ false → Promise s n mem mem t ls (hear bytes) k (turnedBy ls (refusedOf x rec)) [] → Done
       refuses x e z =
           settles (refusedOf x rec)
           (subst (λ (q : Hearing). Agrees rec (w .message) q (refusedOf x rec)) (sym (refused-is x e z))
@@ -227,7 +219,7 @@ module _
 
       unsized : sizesB s n (length mem) (length t) ≡ false → Done
       unsized y =
-          refuses 1 (ej ∙ first-1 s n (length mem) (length t) (length b) (w .good) k h y) refl
+          refuses 1 (ej ∙ first-1 s n (length mem) (length t) (w .good) k y) refl
           (hear-unsized s n t ls mem bytes k holder-is rec refl (turnedBy ls (refusedOf 1 rec)) y (refused-same 1 ls rec))
 
       module _ (y : sizesB s n (length mem) (length t) ≡ true) where
@@ -238,19 +230,19 @@ module _
         malformed : decodeOf bytes ≡ Malformed → Done
         malformed d =
             refuses 4
-            (ej ∙ first-4 s n (length mem) (length t) (length b) (w .good) k h y (ap (λ (p : Parsed). p .good) (parsed-is Malformed d)))
+            (ej ∙ first-4 s n (length mem) (length t) (w .good) k y (ap (λ (p : Parsed). p .good) (parsed-is Malformed d)))
             refl
             (hear-bad s n t ls mem bytes k holder-is rec refl (turnedBy ls (refusedOf 4 rec)) y d (refused-same 4 ls rec))
 
         module _ (g : w .good ≡ true) (d : decodeOf bytes ≡ Good (w .message)) where
           by-holder : (z : Bool) → eqb k 0 ≡ z → Done
           by-holder true z =
-              refuses 5 (ej ∙ first-5 s n (length mem) (length t) (length b) (w .good) k h y g z) refl
+              refuses 5 (ej ∙ first-5 s n (length mem) (length t) (w .good) k y g z) refl
               (hear-good s n t ls mem bytes k holder-is rec refl (turnedBy ls (refusedOf 5 rec)) y (w .message) d
               (refused-same 5 ls rec ∙ sym (heard-none n ls k rec (w .message) z)))
           by-holder false z =
               let o = hearOf n active rec (w .message) in
-              let first = ej ∙ first-0 s n (length mem) (length t) (length b) (w .good) k h y g z in
+              let first = ej ∙ first-0 s n (length mem) (length t) (w .good) k y g z in
               settles o
               (subst (λ (q : Hearing). Agrees rec (w .message) q o) (sym (er ∙ ap (hearingOf n active rec (w .message)) first))
               (agree rec (w .message) n active))
@@ -271,25 +263,6 @@ module _
 
       pub hears : Done
       hears = by-sizes (sizesB s n (length mem) (length t)) refl
-
-    pub buffer-kept : 44 ≤ length b → BufferKept (r .said .made) b c
-    buffer-kept h = kept (encodeOf (messageOf (toldBy rec r))) b c long h (r .said .made) told
-
-    -- a shorter one
-    module _ (h : length b < 44) where
-      short-is : r ≡ refusedHearing 1
-      short-is = refused-is 1 (ej ∙ first-short s n (length mem) (length t) (length b) (w .good) k h) refl
-
-      pub short-table : u ≡ t
-      short-table =
-          eu ∙ ap (tableLeft t k (w .message)) short-is ∙ left-is t k (w .message) (refusedHearing 1) refl ∙ record-kept t k
-
-      pub short-message : c ≡ b
-      unfolding messageLeft
-      short-message = ec ∙ ap (λ (q : Hearing). messageLeft rec q b) short-is
-
-      pub short-answer : r .said ≡ refusedAnswer 1
-      short-answer = ap (λ (q : Hearing). q .said) short-is
 
 -- THE PARTS OF THE CALL
 pub hear-on-returns : (n : ℕ) (t : List Record) (links : LinkStates) (k : ℕ) (m : Message) (b : List ℕ)
@@ -327,19 +300,19 @@ hear-unless-returns-2 j n t links k m b h a u c e =
 
 pub fordlinnet-make-hear-returns : (s n : ℕ) (mem : List ℕ) (t : List Record) (states : LinkStates) (bytes b : List ℕ)
     → (w : Parsed) → w ≡ parsedIn bytes → (token : ℕ) → token ≡ w .message .token → (k : ℕ) → k ≡ holderIn t token
-    → (j : ℕ) → j ≡ refusedBefore s n (length mem) (length t) (length b) (w .good) k
+    → (j : ℕ) → j ≡ refusedBefore s n (length mem) (length t) (w .good) k
     → (a : HearAnswer) (u : List Record) (c : List ℕ) → HeardBy j n t (states .active) k (w .message) b a u c
-    → HearMade s n mem t (states .active) bytes b a u c
-fordlinnet-make-hear-returns s n mem t states bytes b w ew token et k ek j ej a u c (ea, eu, ec) =
+    → InEveryGroup (states .active) (λ (ls : Links). HearMade (groupOf s n t ls mem) bytes b a (groupOf s n u ls mem) c)
+fordlinnet-make-hear-returns s n mem t states bytes b w ew token et k ek j ej a u c (ea, eu, ec) ls e =
     let r = hearingOf n (activeB (states .active) (recordAt t k .id .link)) (recordAt t k) (w .message) j in
-    subst (λ (y : HearAnswer). HearMade s n mem t (states .active) bytes b y u c) (sym ea) (
-      λ h. (
-        λ ls e. hears s n mem t states bytes b w ew token et k ek j ej r refl c ec u eu h ls e,
-        buffer-kept s n mem t states bytes b w ew token et k ek j ej r refl c ec u eu h,
-      ),
-      λ h. (
-        short-answer s n mem t states bytes b w ew token et k ek j ej r refl c ec u eu h,
-        short-table s n mem t states bytes b w ew token et k ek j ej r refl c ec u eu h,
-        short-message s n mem t states bytes b w ew token et k ek j ej r refl c ec u eu h,
-      ),
-    )
+    subst (λ (y : HearAnswer). HearMade (groupOf s n t ls mem) bytes b y (groupOf s n u ls mem) c) (sym ea)
+    (hears s n mem t states bytes b w ew token et k ek j ej r refl c ec u eu ls e .0)
+
+pub nothing-lost : NothingLost
+nothing-lost g bytes =
+    let w = parsedIn bytes in
+    let k = holderIn (g .table) (w .message .token) in
+    let j = refusedBefore (g .S) (g .N) (length (g .memory)) (length (g .table)) (w .good) k in
+    let r = hearingOf (g .N) (activeB (g .links) (recordAt (g .table) k .id .link)) (recordAt (g .table) k) (w .message) j in
+    hears (g .S) (g .N) (g .memory) (g .table) (record { active = g .links }) bytes [] w refl (w .message .token) refl k refl j refl r refl
+    (messageLeft (recordAt (g .table) k) r []) refl (tableLeft (g .table) k (w .message) r) refl (linksOf g) refl .1

@@ -4,7 +4,10 @@
 // The record is read where it is needed and its changed fields alone are put back, as in crate `direct_read`.
 ghost use mathlib.Core.Path.{_≡_};
 ghost use mathlib.Core.Bool.{_||_};
+ghost use Rattle.table.specs.declared.Links.{Links};
 ghost use Rattle.table.specs.Table.{activeB, recordAt, withRecord};
+ghost use Rattle.rules.specs.Rules.{groupOf};
+ghost use Rattle.direct_made.specs.DirectMade.{InEveryGroup};
 ghost use Rattle.hearing.specs.Hearing.{hearingOf, recordLeft, endedOf, messageLeft};
 ghost use Rattle.direct_hear.specs.DirectHear.{HearMade};
 ghost use Rattle.direct_hear.specs.TableLeft.{HeardBy, slotIf, tableLeft};
@@ -87,7 +90,7 @@ fn put(table: &mut [Record], slot: usize, m: Message, t: Hearing)
     end_at(table, gone, t);
 }
 
-fn tell_at(table: &[Record], slot: usize, t: Hearing, to: &mut [u8])
+fn tell_at(table: &[Record], slot: usize, t: Hearing, to: &mut [u8; 44])
     ensures { λ _. ⌜ now (to .exit) ≡ messageLeft (recordAt (now (table .entry)) slot) t (now (to .entry)) ⌝ }
 {
     let i = slots::index(slot, table.len());
@@ -109,14 +112,14 @@ fn answer_of(t: Hearing) -> HearAnswer
     t.said
 }
 
-// A hear that 1, 4 and 5 do not refuse, with a buffer for the message.
+// A hear that 1, 4 and 5 do not refuse.
 fn hear_on(
     n: u32,
     table: &mut [Record],
     links: LinkStates,
     slot: usize,
     m: Message,
-    message: &mut [u8],
+    message: &mut [u8; 44],
 ) -> HearAnswer
     ensures { λ r.
         ⌜ HeardBy 0 n (now (table .entry)) (links .active) slot m (now (message .entry)) r (now (table .exit)) (now (message .exit)) ⌝ }
@@ -135,7 +138,7 @@ fn hear_unless(
     links: LinkStates,
     slot: usize,
     m: Message,
-    message: &mut [u8],
+    message: &mut [u8; 44],
 ) -> HearAnswer
     ensures { λ r.
         ⌜ HeardBy j n (now (table .entry)) (links .active) slot m (now (message .entry)) r (now (table .exit)) (now (message .exit)) ⌝ }
@@ -148,7 +151,7 @@ fn hear_unless(
     }
 }
 
-// Hears. A buffer for the message under 44 bytes is refused by 1. What refuses comes first, as in `direct_read`.
+// Hears. What refuses comes first, as in `direct_read`.
 #[no_mangle]
 pub extern "C" fn fordlinnet_make_hear(
     s: u32,
@@ -157,16 +160,17 @@ pub extern "C" fn fordlinnet_make_hear(
     table: &mut [Record],
     links: LinkStates,
     bytes: &[u8],
-    message: &mut [u8],
+    message: &mut [u8; 44],
 ) -> HearAnswer
     ensures { λ r.
-        ⌜ HearMade s n (now (mem .entry)) (now (table .entry)) (links .active) (now (bytes .entry)) (now (message .entry))
-        r (now (table .exit)) (now (message .exit)) ⌝ }
+        ⌜ InEveryGroup (links .active) (λ (ls : Links).
+        HearMade (groupOf s n (now (table .entry)) ls (now (mem .entry))) (now (bytes .entry)) (now (message .entry)) r
+        (groupOf s n (now (table .exit)) ls (now (mem .entry))) (now (message .exit))) ⌝ }
 {
     let what = hearing::parse(bytes);
     let token = hearing::token_of(what);
     let slot = slots::find(table, token);
-    let j = hearing::before(s, n, mem.len(), table.len(), message.len(), what, slot);
+    let j = hearing::before(s, n, mem.len(), table.len(), what, slot);
     let m = what.message;
     hear_unless(j, n, table, links, slot, m, message)
 }

@@ -44,15 +44,16 @@ namedIn (linkChanged n) = nothing
 namedIn (linkHeard fields fate up n) = nothing
 namedIn (linkSent up n) = nothing
 
--- ONE PROMISE FOR EVERY CALL. On the group g the call q, lent 44 bytes b for a message, is answered by r, which is `of` of the rules' answer,
--- and leaves the group h, the out bytes `left` and the 44 bytes c: the message where one is made, else as they were. A call that is lent no
--- out buffer or no bytes for a message has [] there
+-- ONE PROMISE FOR EVERY CALL. On the group g the call q, lent 44 bytes b for a message, is answered by r, which is `of` of the rules'
+-- answer, and leaves the group h, the out bytes `left` and the 44 bytes c: the message where one is made, else as they were. A call that is
+-- lent no out buffer or no bytes for a message has [] there
 pub record Made {R : Type 0} (of : Answer → R) (g : Group) (q : Call) (b : List ℕ) (r : R) (h : Group) (left c : List ℕ) : Type 0 where
   pub answered : r ≡ of (answer g q)
   pub next-left : h ≡ next g q
   pub out-left : left ≡ answer g q .out
   pub message-left : c ≡ cond (answer g q .made) (answer g q .message) b
 
--- Such a call is given the links' states alone: it holds in every group that has them, whatever gauges, role, exchange and queue stand beside
+-- Such a call is given the links' states alone: it holds in every group that has them, whatever gauges, role, exchange and queue stand
+-- beside
 abbrev pub InEveryGroup : List Bool → (Links → Type 0) → Type 0
 InEveryGroup active P = (links : Links) → links .active ≡ active → P links

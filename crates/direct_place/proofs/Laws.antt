@@ -4,28 +4,31 @@ use mathlib.Core.Path.{_≡_, refl, sym, ap, _∙_, subst}
 use mathlib.Core.Bool.{Bool, true, false, not, cond}
 use mathlib.Core.List.{List, []}
 use lib.Dec.{T as Holds, ltb, eqb}
+use borrow.Author.Tests.{eqb-true}
 use lib.ListN.{length, getD}
 use Rattle.element.specs.Element.{baseOf, storedOf}
 use Rattle.connection.specs.declared.Record.{Record}
 use Rattle.outcome.specs.declared.Reply.the-variants.{Refused, Accepted}
 use Rattle.outcome.specs.declared.Outcome.{Outcome}
 use Rattle.connection.specs.Connection.{zeroRecord}
-use Rattle.outcome.specs.Outcome.{noMessage, effectOf}
+use Rattle.outcome.specs.Outcome.{effectOf}
 use Rattle.receive.specs.Receive.{placeOf}
 use Rattle.table.specs.declared.Links.{Links}
 use Rattle.table.specs.declared.Turned.{Turned}
 use Rattle.table.specs.Table.{sizesB, indexOf, recordAt, activeB, foundOf, keptBy, settledBy}
 use Rattle.table.proofs.Laws.{record-kept}
 use Rattle.slots.proofs.Laws.{record-at-returns, record-at-returns-2}
-use Rattle.rules.specs.Rules.{saysOf, Call, Did, groupOf}
+use Rattle.rules.specs.Rules.{saysOf, on, place, Answer, answer, Did, linksOf, groupOf, answerOf}
 use Rattle.rules.specs.Rules as Rules
 use Rattle.rules.specs.Promises.{Promise}
 use Rattle.receiving.specs.Receiving.{storesB}
 use Rattle.receiving.proofs.Laws.{place-stored, place-kept}
 use Rattle.direct.specs.declared.LinkStates.{LinkStates}
 use Rattle.direct.specs.Direct.{heldOf, refusalAt}
+use Rattle.direct_made.specs.DirectMade.{namedIn, InEveryGroup}
+use Rattle.direct_made.proofs.Laws.{made-by}
 use Rattle.direct_place.specs.Placing.{placingOf, storedBy}
-use Rattle.direct_place.specs.DirectPlace.{saysIn, answerIn, PlaceMade}
+use Rattle.direct_place.specs.DirectPlace.{placeAnswerOf, PlaceMade, saysIn, NothingLost}
 use Rattle.direct_place.proofs.Agree.{replyBy, answeredBy, agree}
 
 -- THE RECORD THAT THE SLOT SHOWS
@@ -39,7 +42,11 @@ module _ (n : ℕ) (t : List Record) (k first at len : ℕ) (r : ℕ) (e : r ≡
   placing-at-returns-2 h z ez q eq = eq ∙ ap (λ (c : Record). placingOf n c first at len) (record-at-returns-2 t k r e h z ez)
 
 -- WHAT THE NUMBER SAYS, and whether bytes are stored
-says-is : (b : Bool) (r : ℕ) → saysOf (cond b Accepted (Refused r)) ≡ cond b Rules.accepted (Rules.refusal r)
+number-is : (r : ℕ) (z : Bool) → eqb r 0 ≡ z → r ≡ namedIn (saysOf (cond z Accepted (Refused r))) .refused
+number-is r true e = eqb-true r 0 e
+number-is r false e = refl
+
+says-is : (z : Bool) (r : ℕ) → cond z Rules.accepted (Rules.refusal r) ≡ saysOf (cond z Accepted (Refused r))
 says-is true r = refl
 says-is false r = refl
 
@@ -85,7 +92,7 @@ module _
     up : active ≡ activeB (ls .active) (recordAt t k .id .link)
     up = ap (λ (x : List Bool). activeB x (recordAt t k .id .link)) (sym ea)
 
-    by-number : (q : Bool) → eqb r 0 ≡ q → Promise s n m l t ls (Call.on k (Rules.Request.place at b)) k a []
+    by-number : (q : Bool) → eqb r 0 ≡ q → Promise s n m l t ls (on k (place at b)) k a []
     unfolding storedBy
     by-number true e =
         place-stored s n t ls m k at b (recordAt t k) refl j refl active up o refl a refl l (stores-as ∙ e)
@@ -94,23 +101,46 @@ module _
         place-kept s n t ls m k at b (recordAt t k) refl j refl active up o refl a refl l (stores-as ∙ e)
         (el ∙ ap (λ (x : Bool). cond x (storedOf m (baseOf n k + at) b) m) e)
 
-    settled-did : Promise s n m l t ls (Call.on k (Rules.Request.place at b)) k (keptBy (recordAt t k) (answeredBy r ls)) []
+    settled-did : Promise s n m l t ls (on k (place at b)) k (keptBy (recordAt t k) (answeredBy r ls)) []
     settled-did =
-        subst (λ (x : Turned). Promise s n m l t ls (Call.on k (Rules.Request.place at b)) k x []) same (by-number (eqb r 0) refl)
+        subst (λ (x : Turned). Promise s n m l t ls (on k (place at b)) k x []) same (by-number (eqb r 0) refl)
 
-    pub placed : Did (groupOf s n t ls m) (Call.on k (Rules.Request.place at b)) (answerIn r) (groupOf s n t ls l)
-    unfolding answerIn saysIn keptBy replyBy
-    placed =
-        let did = settled-did in
+    abbrev said : Answer
+    said = answerOf (answeredBy r ls) []
+
+    did : Did (groupOf s n t ls m) (on k (place at b)) said (groupOf s n t ls l)
+    unfolding keptBy
+    did =
         record {
-          answered =
-              (λ i. record { says = sym (says-is (eqb r 0) r) i; made = false; message = noMessage; out = [] }) ∙ did .answered;
-          left = (λ i. groupOf s n (sym (record-kept t k) i) ls l) ∙ did .left;
+          answered = settled-did .answered;
+          left = (λ i. groupOf s n (sym (record-kept t k) i) ls l) ∙ settled-did .left;
         }
+
+    answers : r ≡ placeAnswerOf said
+    unfolding replyBy
+    answers = number-is r (eqb r 0) refl
+
+    pub placed : PlaceMade (groupOf s n t ls m) k at b r (groupOf s n t ls l)
+    placed = made-by placeAnswerOf [] did answers refl refl
+
+    -- so nothing is lost in the number
+    says-all : saysIn r ≡ said .says
+    unfolding saysIn replyBy
+    says-all = says-is (eqb r 0) r
+
+    pub all-said : (let x = answer (groupOf s n t ls m) (on k (place at b)) in saysIn (placeAnswerOf x) ≡ x .says)
+    all-said = subst (λ (x : Answer). saysIn (placeAnswerOf x) ≡ x .says) (did .answered) (ap saysIn (sym answers) ∙ says-all)
 
 pub fordlinnet-make-place-returns : (s n : ℕ) (m : List ℕ) (t : List Record) (states : LinkStates) (k at : ℕ) (b : List ℕ)
     → (first : ℕ) → first ≡ refusalAt s n (length m) t (states .active) k
     → (r : ℕ) → r ≡ placingOf n (recordAt t k) first at (length b)
     → (v : Unit {0}) (l : List ℕ) → l ≡ storedBy n m k r at b
-    → PlaceMade s n m t (states .active) k at b r l
+    → InEveryGroup (states .active) (λ (ls : Links). PlaceMade (groupOf s n t ls m) k at b r (groupOf s n t ls l))
 fordlinnet-make-place-returns s n m t states k at b first eno r er v l el = placed s n m t states k at b first eno r er l el
+
+pub nothing-lost : NothingLost
+nothing-lost g k at b =
+    let first = refusalAt (g .S) (g .N) (length (g .memory)) (g .table) (g .links) k in
+    let r = placingOf (g .N) (recordAt (g .table) k) first at (length b) in
+    all-said (g .S) (g .N) (g .memory) (g .table) (record { active = g .links }) k at b first refl r refl
+    (storedBy (g .N) (g .memory) k r at b) refl (linksOf g) refl

@@ -4,7 +4,10 @@
 // The tests leave one by one, and the record is read where they need it (docs/SPEED.md).
 ghost use mathlib.Core.Path.{_≡_};
 ghost use Rattle.receive.specs.Receive.{mayPlace};
+ghost use Rattle.table.specs.declared.Links.{Links};
 ghost use Rattle.table.specs.Table.{recordAt};
+ghost use Rattle.rules.specs.Rules.{groupOf};
+ghost use Rattle.direct_made.specs.DirectMade.{InEveryGroup};
 ghost use Rattle.direct_place.specs.Placing.{placingOf, storedBy};
 ghost use Rattle.direct_place.specs.DirectPlace.{PlaceMade};
 use connection::Inbound;
@@ -88,7 +91,9 @@ pub extern "C" fn fordlinnet_make_place(
     bytes: &[u8],
 ) -> u8
     ensures { λ r.
-        ⌜ PlaceMade s n (now (mem .entry)) (now (table .entry)) (links .active) slot offset (now (bytes .entry)) r (now (mem .exit)) ⌝ }
+        ⌜ InEveryGroup (links .active) (λ (ls : Links).
+        PlaceMade (groupOf s n (now (table .entry)) ls (now (mem .entry))) slot offset (now (bytes .entry)) r
+        (groupOf s n (now (table .entry)) ls (now (mem .exit)))) ⌝ }
 {
     let no = direct::refusal_at(s, n, mem.len(), table, links, slot);
     let k = placing_at(n, table, slot, no, offset, bytes.len());

@@ -30,13 +30,14 @@ use Rattle.direct.specs.Direct.{heldOf}
 use Rattle.direct.proofs.Laws.{marks-kept, marks-aborted}
 use Rattle.reading.specs.declared.Reading.{Reading}
 use Rattle.reading.specs.Reading.{unreadIn, dueIn, tookOf, tornReading, readingOf, refusedReading, inboundLeft, outboundLeft, recordLeft, movedOf}
-use Rattle.direct_read.specs.DirectRead.{saysIn}
+use Rattle.direct_made.specs.DirectMade.{namedIn}
+use Rattle.direct_read.specs.DirectRead.{readAnswer, saysIn}
 use Rattle.reading.proofs.Steps.{tookBy, read-forbidden, read-took, read-torn}
 
 -- what a reading t of the record rec shares with the answer and the record that the rules leave
 pub record Agrees (rec : Record) (t : Reading) (a : Turned) : Type 0 where
-  pub says : saysOf (a .answer .reply) ≡ saysIn (t .said)
-  pub made : a .answer .made ≡ t .said .made
+  pub answers : t .said ≡ readAnswer (namedIn (saysOf (a .answer .reply))) (a .answer .made)
+  pub says : saysIn (t .said) ≡ saysOf (a .answer .reply)
   pub message : a .answer .message ≡ cond (t .said .made) (encodeOf (messageOf (movedOf rec t))) noMessage
   pub after : a .after ≡ cond (eqb (t .said .refusal) 0) (recordLeft rec t) rec
   pub copied : copiedOf (effectOf (a .answer .reply)) ≡ t .said .count
@@ -59,7 +60,7 @@ module _ (ls : Links) (rec : Record) where
   refused-agrees j z =
       record {
         says = simp (ne-eqb j 0 z);
-        made = refl;
+        answers = refl;
         message = refl;
         after = simp (ne-eqb j 0 z);
         copied = refl;
@@ -76,7 +77,7 @@ module _ (ls : Links) (rec : Record) where
   torn-agrees =
       record {
         says = refl;
-        made = refl;
+        answers = refl;
         message = ap (λ (w : Marks). encodeOf (messageOf (marksTo rec w))) (sym (marks-aborted (rec .marks)));
         after = ap (λ (w : Marks). toldOf (marksTo rec w)) (sym (marks-aborted (rec .marks)));
         copied = refl;
@@ -97,7 +98,7 @@ module _ (ls : Links) (rec : Record) where
     took-by true =
         record {
           says = refl;
-          made = refl;
+          answers = refl;
           message = ap (λ (w : Marks). encodeOf (messageOf (marksTo moved w))) (sym (marks-kept (rec .marks)));
           after = ap (λ (w : Marks). marksTo (toldOf next) w) (sym (marks-kept (rec .marks)));
           copied = refl;
@@ -107,7 +108,7 @@ module _ (ls : Links) (rec : Record) where
     took-by false =
         record {
           says = refl;
-          made = refl;
+          answers = refl;
           message = refl;
           after = ap (λ (w : Marks). marksTo next w) (sym (marks-kept (rec .marks)));
           copied = refl;

@@ -1,13 +1,12 @@
 -- What the walks of `reading_at`, `put`, `tell_at` and `fordlinnet_make_read` give. Assumes nothing.
-use Prim.Native.Nat.{ℕ, zero, suc, _≤_}
+use Prim.Native.Nat.{ℕ, zero, suc}
 use mathlib.Core.Path.{_≡_, refl, sym, ap, _∙_, subst}
 use mathlib.Core.Bool.{Bool, true, false, _||_, not, cond}
-use mathlib.Core.List.{List}
+use mathlib.Core.List.{List, []}
 use native.Mathlib.Omega.{arith}
 use lib.Dec.{T as Holds, ltb, eqb, ltb→lt, nltb→le}
-use lib.ListN.{length, take, getD, set}
+use lib.ListN.{length, getD, set}
 use Rattle.cdc.specs.Cdc.{encodeOf}
-use Rattle.cdc.proofs.RoundTrip.{encode-length}
 use Rattle.element.specs.Element.{baseOf, intactAt}
 use Rattle.element.specs.Element as Element
 use Rattle.connection.specs.declared.Record.{Record}
@@ -20,19 +19,20 @@ use Rattle.table.specs.declared.Turned.{Turned}
 use Rattle.table.specs.Table.{sizesB, indexOf, recordAt, withRecord, activeB, foundOf, settledBy}
 use Rattle.table.proofs.Laws.{record-kept}
 use Rattle.slots.proofs.Laws.{record-at-returns, record-at-returns-2, put-record-returns, put-record-returns-2}
-use Rattle.rules.specs.Rules.{Call, Did, groupOf, answerOf}
-use Rattle.rules.specs.Rules as Rules
+use Rattle.rules.specs.Rules.{on, read, Answer, answer, Did, linksOf, groupOf, answerOf}
 use Rattle.receiving.specs.Receiving.{copiedOf}
 use Rattle.receiving.proofs.Bytes.{read-none}
 use Rattle.receiving.proofs.Laws.{read-did}
 use Rattle.direct.specs.declared.LinkStates.{LinkStates}
-use Rattle.direct.specs.Direct.{heldOf, refusalAt, writtenIn, BufferKept, marksLeft}
-use Rattle.direct.proofs.Laws.{front, kept, links-stay}
+use Rattle.direct.specs.Direct.{heldOf, refusalAt, marksLeft}
+use Rattle.direct.proofs.Laws.{links-stay}
+use Rattle.direct_made.specs.DirectMade.{InEveryGroup}
+use Rattle.direct_made.proofs.Laws.{made-by, told-same}
 use Rattle.reading.specs.declared.ReadAnswer.{ReadAnswer}
 use Rattle.reading.specs.declared.Reading.{Reading}
 use Rattle.reading.specs.Reading.{refusedAnswer, refusedReading, tornReading, tookOf, readingOf, inboundLeft, outboundLeft, recordLeft, movedOf, messageLeft, copiedBy}
 use Rattle.direct_read.specs.ReadLeft.{LeftBy, LeftUnless}
-use Rattle.direct_read.specs.DirectRead.{answerIn, ReadMade}
+use Rattle.direct_read.specs.DirectRead.{readAnswerOf, ReadMade, saysIn, NothingLost}
 use Rattle.direct_read.proofs.Agree.{Agrees, agree, refused-agree}
 
 -- THE RECORD THAT THE SLOT SHOWS
@@ -111,7 +111,7 @@ module _ (n room : ℕ) (rec : Record) where
   left-either intact = stays (readForbids (rec .marks)) intact
 
 -- THE READ
-module _ (s n : ℕ) (m : List ℕ) (t : List Record) (states : LinkStates) (k : ℕ) (out b : List ℕ) (h : 44 ≤ length b) where
+module _ (s n : ℕ) (m : List ℕ) (t : List Record) (states : LinkStates) (k : ℕ) (out b : List ℕ) where
   abbrev held : ℕ
   held = cond (sizesB s n (length m) (length t)) (heldOf s n (states .active) k (recordAt t k)) 1
 
@@ -131,6 +131,10 @@ module _ (s n : ℕ) (m : List ℕ) (t : List Record) (states : LinkStates) (k :
   abbrev o : Outcome
   o = readOf n active (recordAt t k) whole (length out)
 
+  -- what is promised of an answer r, a table u, the out bytes l and the 44 bytes c
+  abbrev Promised : ReadAnswer → List Record → List ℕ → List ℕ → Type 0
+  Promised r u l c = InEveryGroup (states .active) (λ (ls : Links). ReadMade (groupOf s n t ls m) k out b r (groupOf s n u ls m) l c)
+
   -- a reading that agrees with the rules' read, and what it leaves
   module _ (r : Reading) (stays : Stays n (length out) (recordAt t k) r) (c : List ℕ) (ec : c ≡ messageLeft (recordAt t k) r b)
       (u : List Record) (eu : u ≡ withRecord t k (recordLeft (recordAt t k) r)) (l : List ℕ) (el : l ≡ copiedBy n m k r out)
@@ -143,74 +147,82 @@ module _ (s n : ℕ) (m : List ℕ) (t : List Record) (states : LinkStates) (k :
         unfolding copiedBy
         out-is = el ∙ ap (λ (x : ℕ). Element.readOf m (baseOf n k) n x (r .said .count) out) (ag .from-is)
 
-        did : Did (groupOf s n t ls m) (Call.on k (Rules.Request.read out)) (answerOf (a .answer) l)
+        did : Did (groupOf s n t ls m) (on k (read out)) (answerOf (a .answer) l)
             (groupOf s n (withRecord t k (a .after)) (a .answer .links) m)
         did =
             let up = ap (λ (x : List Bool). activeB x (recordAt t k .id .link)) (sym ea) in
             read-did s n t ls m k out (recordAt t k) refl j refl active up whole refl o refl a refl
             (r .said .count) (sym (ag .copied)) l out-is
 
-        told : c ≡ cond (r .said .made) (writtenIn (encodeOf (messageOf (movedOf (recordAt t k) r))) b) b
-        unfolding messageLeft
-        told = ec
-
-        long : length (encodeOf (messageOf (movedOf (recordAt t k) r))) ≡ 44
-        long = encode-length (messageOf (movedOf (recordAt t k) r))
-
-        message-is : cond (r .said .made) (take 44 c) noMessage ≡ a .answer .message
-        message-is = front (encodeOf (messageOf (movedOf (recordAt t k) r))) b c long h (r .said .made) told ∙ sym (ag .message)
-
-        same : answerIn (r .said) c l ≡ answerOf (a .answer) l
-        unfolding answerIn
-        same =
-            λ i. record { says = sym (ag .says) i; made = sym (ag .made) i; message = message-is i; out = l }
-
-        reads : Did (groupOf s n t ls m) (Call.on k (Rules.Request.read out)) (answerIn (r .said) c l) (groupOf s n u ls m)
-        reads =
+        pub did-read : Did (groupOf s n t ls m) (on k (read out)) (answerOf (a .answer) l) (groupOf s n u ls m)
+        did-read =
             record {
-              answered = same ∙ did .answered;
+              answered = did .answered;
               left =
                   (λ i. groupOf s n ((eu ∙ ap (withRecord t k) (stays ∙ sym (ag .after))) i) (sym (links-stay j ls (recordAt t k) o) i) m)
                   ∙ did .left;
             }
 
-      buffer-kept : BufferKept (r .said .made) b c
-      unfolding messageLeft
-      buffer-kept =
-          let tells = messageOf (movedOf (recordAt t k) r) in kept (encodeOf tells) b c (encode-length tells) h (r .said .made) ec
+        message-is : c ≡ cond (a .answer .made) (a .answer .message) b
+        unfolding messageLeft
+        message-is =
+            let bytes = encodeOf (messageOf (movedOf (recordAt t k) r)) in
+            ec
+            ∙ told-same (r .said .made) bytes noMessage b
+            ∙ (λ i. cond (ag .answers i .made) (sym (ag .message) i) b)
 
-      made : ((ls : Links) → Agrees (recordAt t k) r (settledBy j ls (recordAt t k) o))
-          → ReadMade s n m t (states .active) k out b (r .said) u l c
-      made ag = (λ _. (λ ls ea. reads ls ea (ag ls), buffer-kept), λ x. absurd (omega (arith, x, h)))
+        reads : ReadMade (groupOf s n t ls m) k out b (r .said) (groupOf s n u ls m) l c
+        reads = made-by readAnswerOf b did-read (ag .answers) refl message-is
+
+      made : ((ls : Links) → Agrees (recordAt t k) r (settledBy j ls (recordAt t k) o)) → Promised (r .said) u l c
+      made ag ls ea = reads ls ea (ag ls)
 
   -- one that 1, 2, 3 and 6 do not refuse
   pub read-made : refusalAt s n (length m) t (states .active) k ≡ 0
-      → (a : ReadAnswer) (u : List Record) (l c : List ℕ) → LeftBy n m t k out b a u l c
-      → ReadMade s n m t (states .active) k out b a u l c
+      → (a : ReadAnswer) (u : List Record) (l c : List ℕ) → LeftBy n m t k out b a u l c → Promised a u l c
   read-made z a u l c (ea, eu, el, ec) =
-      subst (λ (y : ReadAnswer). ReadMade s n m t (states .active) k out b y u l c) (sym ea)
+      subst (λ (y : ReadAnswer). Promised y u l c) (sym ea)
       (made (readingOf n whole (recordAt t k) (length out)) (left-either n (length out) (recordAt t k) whole) c ec u eu l el
       (λ ls. agree s n (length m) (length t) k (states .active) (recordAt t k) whole (length out) ls (sym held-is ∙ z)))
 
   -- one that they refuse
   pub refused-made : (refusalAt s n (length m) t (states .active) k ≡ 0 → ⊥)
-      → ReadMade s n m t (states .active) k out b (refusedAnswer (refusalAt s n (length m) t (states .active) k)) t out b
+      → Promised (refusedAnswer (refusalAt s n (length m) t (states .active) k)) t out b
   unfolding messageLeft copiedBy
   refused-made z =
-      subst (λ (x : ℕ). ReadMade s n m t (states .active) k out b (refusedAnswer x) t out b) (sym held-is)
+      subst (λ (x : ℕ). Promised (refusedAnswer x) t out b) (sym held-is)
       (made (refusedReading held (recordAt t k .inbound .consumer)) (stays-refused n (length out) (recordAt t k) held) b refl t
       (sym (ap (withRecord t k) (left-refused (recordAt t k) held) ∙ record-kept t k)) out
       (sym (read-none m (baseOf n k) n (recordAt t k .inbound .consumer .offset) out))
       (λ ls. refused-agree s n (length m) (length t) k (states .active) (recordAt t k) whole (length out) ls (λ y. z (held-is ∙ y))))
 
-same-made : (s n : ℕ) (m : List ℕ) (t : List Record) (active : List Bool) (k : ℕ) (out b : List ℕ)
-    → (x y : ReadAnswer) → x ≡ y → (u v : List Record) → u ≡ v → (l q : List ℕ) → l ≡ q → (c d : List ℕ) → c ≡ d
-    → ReadMade s n m t active k out b y v q d → ReadMade s n m t active k out b x u l c
-same-made s n m t active k out b x y e u v f l q g c d i w =
-    subst (λ (z : ReadAnswer). ReadMade s n m t active k out b z u l c) (sym e)
-    (subst (λ (z : List Record). ReadMade s n m t active k out b y z l c) (sym f)
-    (subst (λ (z : List ℕ). ReadMade s n m t active k out b y v z c) (sym g)
-    (subst (λ (z : List ℕ). ReadMade s n m t active k out b y v q z) (sym i) w)))
+  -- so nothing is lost in the struct
+  module _ (ls : Links) (ea : ls .active ≡ states .active) where
+    abbrev Said : Answer → Type 0
+    Said a = saysIn (readAnswerOf a) ≡ a .says
+
+    said-by : (r : Reading) → Stays n (length out) (recordAt t k) r → Agrees (recordAt t k) r (settledBy j ls (recordAt t k) o)
+        → Said (answer (groupOf s n t ls m) (on k (read out)))
+    said-by r stays ag =
+        let d =
+        did-read r stays (messageLeft (recordAt t k) r b) refl (withRecord t k (recordLeft (recordAt t k) r)) refl (copiedBy n m k r out)
+        refl ls ea ag in
+        subst Said (d .answered) (ap saysIn (sym (ag .answers)) ∙ ag .says)
+
+    by-held : (x : ℕ) → held ≡ x → Said (answer (groupOf s n t ls m) (on k (read out)))
+    by-held zero e =
+        said-by (readingOf n whole (recordAt t k) (length out)) (left-either n (length out) (recordAt t k) whole)
+        (agree s n (length m) (length t) k (states .active) (recordAt t k) whole (length out) ls e)
+    by-held (suc i) e =
+        said-by (refusedReading held (recordAt t k .inbound .consumer)) (stays-refused n (length out) (recordAt t k) held)
+        (refused-agree s n (length m) (length t) k (states .active) (recordAt t k) whole (length out) ls
+        (λ z. absurd (omega (arith, z, e))))
+
+    pub all-said : Said (answer (groupOf s n t ls m) (on k (read out)))
+    all-said = by-held held refl
+
+pub nothing-lost : NothingLost
+nothing-lost g k out = all-said (g .S) (g .N) (g .memory) (g .table) (record { active = g .links }) k out [] (linksOf g) refl
 
 pub read-on-returns : (n : ℕ) (m : List ℕ) (t : List Record) (k : ℕ) (out b : List ℕ)
     → (r : Reading) → r ≡ readingOf n (intactAt m (baseOf n k)) (recordAt t k) (length out)
@@ -236,18 +248,16 @@ pub read-unless-returns-2 : (j n : ℕ) (m : List ℕ) (t : List Record) (k : �
 read-unless-returns-2 j n m t k out b h a u l c e = (λ _. e, λ z. absurd (z (omega (arith, nltb→le 0 j h))))
 
 pub fordlinnet-make-read-returns : (s n : ℕ) (m : List ℕ) (t : List Record) (states : LinkStates) (k : ℕ) (out b : List ℕ)
-    → Holds (ltb (length b) 44) → (a : ReadAnswer) → a ≡ refusedAnswer 1 → ReadMade s n m t (states .active) k out b a t out b
-fordlinnet-make-read-returns s n m t states k out b h a e =
-    (λ x. absurd (omega (arith, x, ltb→lt (length b) 44 h)), λ _. (e, refl, refl, refl))
-
-pub fordlinnet-make-read-returns-2 : (s n : ℕ) (m : List ℕ) (t : List Record) (states : LinkStates) (k : ℕ) (out b : List ℕ)
-    → Holds (not (ltb (length b) 44)) → (j : ℕ) → j ≡ refusalAt s n (length m) t (states .active) k
+    → (j : ℕ) → j ≡ refusalAt s n (length m) t (states .active) k
     → (a : ReadAnswer) (u : List Record) (l c : List ℕ) → LeftUnless j n m t k out b a u l c
-    → ReadMade s n m t (states .active) k out b a u l c
-fordlinnet-make-read-returns-2 s n m t states k out b h zero e a u l c (f, g) =
-    read-made s n m t states k out b (nltb→le (length b) 44 h) (sym e) a u l c (f refl)
-fordlinnet-make-read-returns-2 s n m t states k out b h (suc j) e a u l c (f, g) =
+    → Promised s n m t states k out b a u l c
+fordlinnet-make-read-returns s n m t states k out b zero e a u l c (f, g) = read-made s n m t states k out b (sym e) a u l c (f refl)
+fordlinnet-make-read-returns s n m t states k out b (suc j) e a u l c (f, g) =
     let some : suc j ≡ 0 → ⊥ = λ z. absurd (omega (arith, z)) in
-    let (ea, eu, el, ec) = g some in
-    let refused = refusedAnswer (refusalAt s n (length m) t (states .active) k) in
-    same-made s n m t (states .active) k out b a refused (ea ∙ ap refusedAnswer e) u t eu l out el c b ec (refused-made s n m t states k out b (nltb→le (length b) 44 h) (λ z. some (e ∙ z)))
+    let left = g some in
+    let P = Promised s n m t states k out b in
+    subst (λ (z : ReadAnswer). P z u l c) (sym (left .0 ∙ ap refusedAnswer e))
+    (subst (λ (z : List Record). P (refusedAnswer (refusalAt s n (length m) t (states .active) k)) z l c) (sym (left .1))
+    (subst (λ (z : List ℕ). P (refusedAnswer (refusalAt s n (length m) t (states .active) k)) t z c) (sym (left .2))
+    (subst (λ (z : List ℕ). P (refusedAnswer (refusalAt s n (length m) t (states .active) k)) t out z) (sym (left .3))
+    (refused-made s n m t states k out b (λ z. some (e ∙ z))))))

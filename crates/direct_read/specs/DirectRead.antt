@@ -1,37 +1,28 @@
--- What the read for C and Rust promises: the rules' read, whatever gauges, role, exchange and queue stand beside the links' states.
--- Assumes nothing.
-use Prim.Native.Nat.{ℕ, _≤_, _<_}
+-- What the read for C and Rust promises: the rules' read. Assumes nothing.
+use Prim.Native.Nat.{ℕ}
 use mathlib.Core.Path.{_≡_}
-use mathlib.Core.Bool.{Bool, false, cond}
+use mathlib.Core.Bool.{Bool, cond}
 use mathlib.Core.List.{List}
 use lib.Dec.{eqb}
-use lib.ListN.{length, take}
-use Rattle.connection.specs.declared.Record.{Record}
-use Rattle.outcome.specs.Outcome.{noMessage}
-use Rattle.table.specs.declared.Links.{Links}
-use Rattle.rules.specs.Rules.{Says, refusal, wasRead, torn, Answer, Call, Did, groupOf}
-use Rattle.rules.specs.Rules as Rules
-use Rattle.direct.specs.Direct.{BufferKept}
+use Rattle.rules.specs.Rules.{Says, refusal, wasRead, torn, Group, Call, on, read, Answer, answer}
+use Rattle.direct_made.specs.DirectMade.{Named, namedIn, Made}
 use Rattle.reading.specs.declared.ReadAnswer.{ReadAnswer}
-use Rattle.reading.specs.Reading.{refusedAnswer}
 
--- what the small answer says: a refusal's number, torn, or how many bytes were read
+-- the answer's struct: a refusal's number, whether the read was torn, whether a message is made, how many bytes were read
+abbrev pub readAnswer : Named → Bool → ReadAnswer
+readAnswer x made = record { refusal = x .refused; torn = x .tears; made = made; count = x .count }
+
+abbrev pub readAnswerOf : Answer → ReadAnswer
+readAnswerOf a = readAnswer (namedIn (a .says)) (a .made)
+
+-- on the group g, a read of slot k, lent `out` and 44 bytes b for a message: it is answered by r and leaves h, `left` and c
+abbrev pub ReadMade : Group → ℕ → List ℕ → List ℕ → ReadAnswer → Group → List ℕ → List ℕ → Type 0
+ReadMade g k out b r h left c = Made readAnswerOf g (on k (read out)) b r h left c
+
+-- NOTHING IS LOST in the struct: what it says is what the rules say. Proved in proofs/Laws.antt
 unfoldable pub saysIn : ReadAnswer → Says
 saysIn r = cond (eqb (r .refusal) 0) (cond (r .torn) torn (wasRead (r .count))) (refusal (r .refusal))
 
--- the rules' answer: a message that was made is the first 44 bytes of the buffer, as the call left it
-unfoldable pub answerIn : ReadAnswer → List ℕ → List ℕ → Answer
-answerIn r b out = record { says = saysIn r; made = r .made; message = cond (r .made) (take 44 b) noMessage; out = out }
-
--- a read of slot k, in every group that has these links' states
-abbrev pub Reads : ℕ → ℕ → List ℕ → List Record → List Bool → ℕ → List ℕ → ReadAnswer → List Record → List ℕ → List ℕ → Type 0
-Reads s n m t active k out r u left c =
-    (links : Links) → links .active ≡ active
-    → Did (groupOf s n t links m) (Call.on k (Rules.Request.read out)) (answerIn r c left) (groupOf s n u links m)
-
--- of the table t, the out buffer and the message's buffer b it leaves u, `left` and c. A message's buffer under 44 bytes: 1, and nothing
--- changes
-abbrev pub ReadMade : ℕ → ℕ → List ℕ → List Record → List Bool → ℕ → List ℕ → List ℕ → ReadAnswer → List Record → List ℕ → List ℕ → Type 0
-ReadMade s n m t active k out b r u left c =
-    (44 ≤ length b → Reads s n m t active k out r u left c × BufferKept (r .made) b c)
-    × (length b < 44 → (r ≡ refusedAnswer 1) × (u ≡ t) × (left ≡ out) × (c ≡ b))
+abbrev pub NothingLost : Type 0
+NothingLost = (g : Group) (k : ℕ) (out : List ℕ)
+    → let a = answer g (on k (read out)) in saysIn (readAnswerOf a) ≡ a .says

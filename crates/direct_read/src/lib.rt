@@ -2,7 +2,10 @@
 // 2026-11). It is given the links' states in place of the links, and writes a message that it makes into a lent buffer.
 ghost use mathlib.Core.Path.{_≡_};
 ghost use Rattle.element.specs.Element.{baseOf, intactAt};
+ghost use Rattle.table.specs.declared.Links.{Links};
 ghost use Rattle.table.specs.Table.{recordAt, withRecord};
+ghost use Rattle.rules.specs.Rules.{groupOf};
+ghost use Rattle.direct_made.specs.DirectMade.{InEveryGroup};
 ghost use Rattle.reading.specs.Reading.{readingOf, recordLeft, messageLeft};
 ghost use Rattle.direct_read.specs.ReadLeft.{LeftBy, LeftUnless};
 ghost use Rattle.direct_read.specs.DirectRead.{ReadMade};
@@ -39,7 +42,7 @@ fn put(table: &mut [Record], slot: u32, t: Reading)
     }
 }
 
-fn tell_at(table: &[Record], slot: u32, t: Reading, to: &mut [u8])
+fn tell_at(table: &[Record], slot: u32, t: Reading, to: &mut [u8; 44])
     ensures { λ _. ⌜ now (to .exit) ≡ messageLeft (recordAt (now (table .entry)) slot) t (now (to .entry)) ⌝ }
 {
     let i = direct::place_of(slot, table.len());
@@ -61,14 +64,14 @@ fn answer_of(t: Reading) -> ReadAnswer
     t.said
 }
 
-// A read that 1, 2, 3 and 6 do not refuse, with a buffer for the message.
+// A read that 1, 2, 3 and 6 do not refuse.
 fn read_on(
     n: u32,
     mem: &[u8],
     table: &mut [Record],
     slot: u32,
     out: &mut [u8],
-    message: &mut [u8],
+    message: &mut [u8; 44],
 ) -> ReadAnswer
     ensures { λ r.
         ⌜ LeftBy n (now (mem .entry)) (now (table .entry)) slot (now (out .entry)) (now (message .entry))
@@ -89,7 +92,7 @@ fn read_unless(
     table: &mut [Record],
     slot: u32,
     out: &mut [u8],
-    message: &mut [u8],
+    message: &mut [u8; 44],
 ) -> ReadAnswer
     ensures { λ r.
         ⌜ LeftUnless j n (now (mem .entry)) (now (table .entry)) slot (now (out .entry)) (now (message .entry))
@@ -102,8 +105,7 @@ fn read_unless(
     }
 }
 
-// Reads. A buffer for the message under 44 bytes is refused by 1. What refuses comes first, so that the compiler knows in what follows all
-// that the tests have shown.
+// Reads. What refuses comes first, so that the compiler knows in what follows all that the tests have shown.
 #[no_mangle]
 pub extern "C" fn fordlinnet_make_read(
     s: u32,
@@ -113,16 +115,13 @@ pub extern "C" fn fordlinnet_make_read(
     links: LinkStates,
     slot: u32,
     out: &mut [u8],
-    message: &mut [u8],
+    message: &mut [u8; 44],
 ) -> ReadAnswer
     ensures { λ r.
-        ⌜ ReadMade s n (now (mem .entry)) (now (table .entry)) (links .active) slot (now (out .entry)) (now (message .entry))
-        r (now (table .exit)) (now (out .exit)) (now (message .exit)) ⌝ }
+        ⌜ InEveryGroup (links .active) (λ (ls : Links).
+        ReadMade (groupOf s n (now (table .entry)) ls (now (mem .entry))) slot (now (out .entry)) (now (message .entry)) r
+        (groupOf s n (now (table .exit)) ls (now (mem .entry))) (now (out .exit)) (now (message .exit))) ⌝ }
 {
-    if message.len() < 44 {
-        return reading::refused(1);
-    } else {
-        let j = direct::refusal_at(s, n, mem.len(), table, links, slot);
-        return read_unless(j, n, mem, table, slot, out, message);
-    }
+    let j = direct::refusal_at(s, n, mem.len(), table, links, slot);
+    read_unless(j, n, mem, table, slot, out, message)
 }

@@ -20,18 +20,19 @@ use Rattle.outcome.specs.declared.Outcome.{Outcome}
 use Rattle.connection.specs.Connection.{qTo, blockedTo, outboundTo, remoteOk, coherentB, refusalOf}
 use Rattle.outcome.specs.Outcome.{noMessage, toldIn, usedIn, toldOf, messageOf, outcomeOf, refusedOf}
 use Rattle.connection.proofs.Laws.{coherent-facts, refusal-3, refusal-6, refusal-7, refusal-0}
-use Rattle.transmit.specs.Transmit.{rtokenOf, placingOf, placingsOf, sentOf, nothingSent, sendOf}
+use Rattle.transmit.specs.Transmit.{noPlacing, rtokenOf, placingOf, placingsOf, sentOf, nothingSent, sendOf}
 use Rattle.produced.specs.Produced.{sendForbids, waitsB, nOf, producedOut, producedOf, tellsOf}
 use Rattle.transmit.proofs.Laws.{element-fits, taken-placed}
 use Rattle.table.specs.declared.Links.{Links}
 use Rattle.table.specs.declared.Turned.{Turned}
 use Rattle.table.specs.Table.{sizesB, slotB, activeB, foundOf, refusedBy, keptBy, turnedBy, settledBy}
-use Rattle.rules.specs.Rules.{sent, saysOf}
+use Rattle.rules.specs.Rules.{saysOf}
 use Rattle.direct.specs.Direct.{heldOf}
 use Rattle.transmitting.specs.declared.Sending.{Sending}
-use Rattle.transmitting.specs.Transmitting.{takenIn, tellsIn, placingIn, saidOf, unsentAnswer, unsent, sentBy, sendingOf}
+use Rattle.transmitting.specs.Transmitting.{takenIn, tellsIn, placingIn, said, saidOf, unsent, sentBy, sendingOf}
 use Rattle.transmitted.specs.Transmitted.{inboundLeft, outboundLeft, recordLeft, movedOf}
-use Rattle.direct_send.specs.DirectSend.{saysIn, ZerosBeside}
+use Rattle.direct_made.specs.DirectMade.{namedIn}
+use Rattle.direct_send.specs.DirectSend.{sendAnswer, saysIn}
 use Rattle.transmitting.proofs.Steps.{send-forbidden, send-waits, send-sent}
 
 -- a send where `j` is what was refused before, 0 for nothing
@@ -43,8 +44,8 @@ refused-first j z rec len = simp (ne-eqb j 0 z)
 
 -- what a sending t of the record rec shares with the answer and the record that the rules leave
 pub record Agrees (rec : Record) (t : Sending) (a : Turned) : Type 0 where
-  pub says : saysOf (a .answer .reply) ≡ saysIn (t .said)
-  pub made : a .answer .made ≡ t .said .made
+  pub answers : t .said ≡ sendAnswer (namedIn (saysOf (a .answer .reply))) (a .answer .made)
+  pub says : saysIn (t .said) ≡ saysOf (a .answer .reply)
   pub message : a .answer .message ≡ cond (t .said .made) (encodeOf (messageOf (movedOf rec t))) noMessage
   pub after : a .after ≡ recordLeft rec t
 
@@ -69,17 +70,24 @@ module _ (rec : Record) (ok : remoteOk (rec .remote) ≡ true) where
 
   -- so the answer names what the rules' reply does
   says-same : (n : ℕ) (tells : Bool) (s : Stretches) → allPlaced (rec .remote .size) s
-      → saysOf (Sent n (placingsOf rec s)) ≡ saysIn (saidOf (placingBy rec) n tells s)
-  unfolding saysIn
+      → saidOf (placingBy rec) n tells s ≡ sendAnswer (namedIn (saysOf (Sent n (placingsOf rec s)))) tells
   says-same n tells Nowhere h = refl
-  says-same n tells (One a) h = ap (λ (p : Placing). sent n (p ∷ [])) (placed-is 0 a h)
-  says-same n tells (Two a b) h = λ i. sent n (placed-is 0 a (h .0) i ∷ placed-is (a .len) b (h .1) i ∷ [])
+  says-same n tells (One a) h = ap (λ (p : Placing). said n tells 1 p noPlacing) (sym (placed-is 0 a h))
+  says-same n tells (Two a b) h = λ i. said n tells 2 (sym (placed-is 0 a (h .0)) i) (sym (placed-is (a .len) b (h .1)) i)
+
+  -- which says all of it
+  says-all : (n : ℕ) (tells : Bool) (s : Stretches)
+      → saysIn (sendAnswer (namedIn (saysOf (Sent n (placingsOf rec s)))) tells) ≡ saysOf (Sent n (placingsOf rec s))
+  unfolding saysIn
+  says-all n tells Nowhere = refl
+  says-all n tells (One a) = refl
+  says-all n tells (Two a b) = refl
 
 module _ (ls : Links) (rec : Record) where
   refused-agrees : (j : ℕ) → (j ≡ 0 → ⊥) → Agrees rec (unsent j (rec .outbound)) (keptBy rec (refusedBy j ls))
   unfolding keptBy refusedBy saysIn recordLeft inboundLeft outboundLeft
   refused-agrees j z =
-      record { says = simp (ne-eqb j 0 z); made = refl; message = refl; after = refl }
+      record { answers = refl; says = simp (ne-eqb j 0 z); message = refl; after = refl }
 
   refused-same : (j : ℕ) → turnedBy ls (refusedOf j rec) ≡ keptBy rec (refusedBy j ls)
   unfolding turnedBy refusedOf keptBy refusedBy
@@ -87,7 +95,7 @@ module _ (ls : Links) (rec : Record) where
 
   nothing-agrees : Agrees rec (unsent 0 (rec .outbound)) (turnedBy ls (nothingSent rec))
   unfolding turnedBy outcomeOf saysIn recordLeft inboundLeft outboundLeft
-  nothing-agrees = record { says = refl; made = refl; message = refl; after = refl }
+  nothing-agrees = record { answers = refl; says = refl; message = refl; after = refl }
 
   -- k bytes taken, that go to the stretches s; Q moved to q, B set to b
   module _ (ok : remoteOk (rec .remote) ≡ true) (k : ℕ) (s : Stretches) (placed : allPlaced (rec .remote .size) s) (q : Cursor) (b : Bool)
@@ -102,15 +110,15 @@ module _ (ls : Links) (rec : Record) where
       unfolding next turnedBy outcomeOf toldOf toldIn usedIn recordLeft inboundLeft outboundLeft movedOf
       sent-by true =
           record {
-            says = says-same rec ok k true s placed;
-            made = refl;
+            answers = says-same rec ok k true s placed;
+            says = ap saysIn (says-same rec ok k true s placed) ∙ says-all rec ok k true s;
             message = refl;
             after = refl;
           }
       sent-by false =
           record {
-            says = says-same rec ok k false s placed;
-            made = refl;
+            answers = says-same rec ok k false s placed;
+            says = ap saysIn (says-same rec ok k false s placed) ∙ says-all rec ok k false s;
             message = refl;
             after = refl;
           }
@@ -241,37 +249,3 @@ module _ (s n size count k : ℕ) (active : List Bool) (rec : Record) (len : ℕ
 
   pub agree : Both
   agree = by-sizes (sizesB s n size count) refl
-
--- THE PLACINGS that are not named are all zeros
-zeros-beside : (go : Stretch → Placing) (n : ℕ) (tells : Bool) (s : Stretches) → ZerosBeside (saidOf go n tells s)
-zeros-beside go n tells Nowhere = record { most = omega arith; no-first = λ e. refl; no-second = λ e. refl }
-zeros-beside go n tells (One a) =
-    record { most = omega arith; no-first = λ e. absurd (omega (arith, e)); no-second = λ e. refl }
-zeros-beside go n tells (Two a b) =
-    record { most = omega arith; no-first = λ e. absurd (omega (arith, e)); no-second = λ e. absurd (omega (arith, e)) }
-
-none-named : (j : ℕ) → ZerosBeside (unsentAnswer j)
-none-named j = record { most = omega arith; no-first = λ e. refl; no-second = λ e. refl }
-
-module _ (rec : Record) (len : ℕ) where
-  zeros-sent : ZerosBeside (sentBy rec len .said)
-  unfolding sentBy
-  zeros-sent =
-      let n = takenIn (rec .remote .size) (rec .outbound) len in
-      zeros-beside (placingBy rec) n (tellsIn (rec .outbound) n len) (stretchesOf (rec .remote .size) (rec .outbound .producer) n)
-
-  picked : ℕ → Bool → Bool → Bool → Sending
-  picked j free forbids waits =
-      let o = rec .outbound in
-      cond free (cond forbids (unsent 7 o) (cond waits (unsent 0 o) (sentBy rec len))) (unsent j o)
-
-  by-tests : (j : ℕ) (free forbids waits : Bool) → ZerosBeside (picked j free forbids waits .said)
-  unfolding picked
-  by-tests j false forbids waits = none-named j
-  by-tests j true true waits = none-named 7
-  by-tests j true false true = none-named 0
-  by-tests j true false false = zeros-sent
-
-  pub zeros-are : (j : ℕ) → ZerosBeside (sendingUnless j rec len .said)
-  unfolding sendingOf picked
-  zeros-are j = by-tests j (eqb j 0) (sendForbids (rec .marks)) (waitsB rec len)

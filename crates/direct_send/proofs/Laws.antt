@@ -1,14 +1,13 @@
 -- What the walks of `sending_at`, `put`, `tell_at`, `send_on`, `send_unless` and `fordlinnet_make_send` give. Assumes nothing.
-use Prim.Native.Nat.{ℕ, zero, suc, _≤_, _<_}
+use Prim.Native.Nat.{ℕ, zero, suc, _<_}
 use mathlib.Core.Path.{_≡_, refl, sym, ap, _∙_, subst}
 use mathlib.Core.Bool.{Bool, true, false, not, cond}
 use mathlib.Core.List.{List, []}
 use native.Mathlib.Omega.{arith}
 use lib.Dec.{T as Holds, ltb, ltb→lt, nltb→le, eqb}
-use lib.ListN.{length, take, getD, set}
+use lib.ListN.{length, getD, set}
 use borrow.Author.Tests.{eqb-true, eqb-false}
 use Rattle.cdc.specs.Cdc.{encodeOf}
-use Rattle.cdc.proofs.RoundTrip.{encode-length}
 use Rattle.connection.specs.declared.Record.{Record}
 use Rattle.outcome.specs.declared.Outcome.{Outcome}
 use Rattle.connection.specs.Connection.{zeroRecord}
@@ -19,20 +18,21 @@ use Rattle.table.specs.declared.Turned.{Turned}
 use Rattle.table.specs.Table.{sizesB, indexOf, recordAt, withRecord, activeB, foundOf, settledBy}
 use Rattle.table.proofs.Laws.{record-kept}
 use Rattle.slots.proofs.Laws.{record-at-returns, record-at-returns-2, put-record-returns, put-record-returns-2}
-use Rattle.rules.specs.Rules.{Call, Did, groupOf, answerOf, elementIn}
-use Rattle.rules.specs.Rules as Rules
+use Rattle.rules.specs.Rules.{on, send, Answer, answer, Did, linksOf, groupOf, answerOf, elementIn}
 use Rattle.rules.proofs.Settled.{on-plain}
 use Rattle.sending.proofs.Laws.{send-turn}
 use Rattle.direct.specs.declared.LinkStates.{LinkStates}
-use Rattle.direct.specs.Direct.{heldOf, refusalAt, writtenIn, BufferKept}
-use Rattle.direct.proofs.Laws.{held-shut, front, kept, links-stay}
+use Rattle.direct.specs.Direct.{heldOf, refusalAt}
+use Rattle.direct.proofs.Laws.{held-shut, links-stay}
+use Rattle.direct_made.specs.DirectMade.{InEveryGroup}
+use Rattle.direct_made.proofs.Laws.{made-by, told-same}
 use Rattle.transmitting.specs.declared.SendAnswer.{SendAnswer}
 use Rattle.transmitting.specs.declared.Sending.{Sending}
 use Rattle.transmitting.specs.Transmitting.{unsentAnswer, unsent, sendingOf}
 use Rattle.transmitted.specs.Transmitted.{inboundLeft, outboundLeft, recordLeft, movedOf, messageLeft}
 use Rattle.direct_send.specs.TableLeft.{sendingAt, LeftBy, LeftUnless}
-use Rattle.direct_send.specs.DirectSend.{answerIn, SendMade}
-use Rattle.direct_send.proofs.Agree.{sendingUnless, refused-first, Agrees, agree, zeros-are}
+use Rattle.direct_send.specs.DirectSend.{sendAnswerOf, SendMade, saysIn, NothingLost}
+use Rattle.direct_send.proofs.Agree.{sendingUnless, refused-first, Agrees, agree}
 
 -- THE RECORD THAT THE SLOT SHOWS
 inside : (b : Bool) → Holds b → b ≡ true
@@ -123,62 +123,56 @@ module _
     unfolding refusalAt
     held-is = eno
 
-    abbrev told : List ℕ
-    told = encodeOf (messageOf (movedOf (recordAt t k) r))
+    module _ (ls : Links) where
+      abbrev active : Bool
+      active = activeB (states .active) (recordAt t k .id .link)
 
-    told-is : c ≡ cond (r .said .made) (writtenIn told b) b
-    unfolding messageLeft
-    told-is = ec
+      abbrev j : ℕ
+      j = foundOf s n (length m) (length t) k (recordAt t k)
 
-    -- a buffer of 44 bytes or more
-    module _ (h : 44 ≤ length b) where
-      module _ (ls : Links) where
-        abbrev active : Bool
-        active = activeB (states .active) (recordAt t k .id .link)
+      abbrev o : Outcome
+      o = sendOf n active (recordAt t k) (length bytes)
 
-        abbrev j : ℕ
-        j = foundOf s n (length m) (length t) k (recordAt t k)
+      abbrev a : Turned
+      a = settledBy j ls (recordAt t k) o
 
-        abbrev o : Outcome
-        o = sendOf n active (recordAt t k) (length bytes)
+      ag : Agrees (recordAt t k) r a
+      ag =
+          subst (λ (q : Sending). Agrees (recordAt t k) q a)
+          (sym (er ∙ ap (λ (x : ℕ). sendingUnless x (recordAt t k) (length bytes)) held-is))
+          (agree s n (length m) (length t) k (states .active) (recordAt t k) (length bytes) ls)
 
-        abbrev a : Turned
-        a = settledBy j ls (recordAt t k) o
+      did : ls .active ≡ states .active → Did (groupOf s n t ls m) (on k (send bytes)) (answerOf (a .answer) [])
+          (groupOf s n (withRecord t k (a .after)) (a .answer .links) m)
+      did ea =
+          on-plain s n t ls m k (send bytes) (recordAt t k) refl j refl active
+          (ap (λ (x : List Bool). activeB x (recordAt t k .id .link)) (sym ea)) o a refl
+          (send-turn n active (recordAt t k) (elementIn (groupOf s n t ls m) k) o bytes refl)
 
-        ag : Agrees (recordAt t k) r a
-        ag =
-            subst (λ (q : Sending). Agrees (recordAt t k) q a)
-            (sym (er ∙ ap (λ (x : ℕ). sendingUnless x (recordAt t k) (length bytes)) held-is))
-            (agree s n (length m) (length t) k (states .active) (recordAt t k) (length bytes) ls)
+      message-is : c ≡ cond (a .answer .made) (a .answer .message) b
+      unfolding messageLeft
+      message-is =
+          ec
+          ∙ told-same (r .said .made) (encodeOf (messageOf (movedOf (recordAt t k) r))) noMessage b
+          ∙ (λ i. cond (ag .answers i .made) (sym (ag .message) i) b)
 
-        did : ls .active ≡ states .active → Did (groupOf s n t ls m) (Call.on k (Rules.Request.send bytes)) (answerOf (a .answer) [])
-            (groupOf s n (withRecord t k (a .after)) (a .answer .links) m)
-        did ea =
-            on-plain s n t ls m k (Rules.Request.send bytes) (recordAt t k) refl j refl active
-            (ap (λ (x : List Bool). activeB x (recordAt t k .id .link)) (sym ea)) o a refl
-            (send-turn n active (recordAt t k) (elementIn (groupOf s n t ls m) k) o bytes refl)
+      table-is : u ≡ withRecord t k (a .after)
+      table-is = eu ∙ ap (withRecord t k) (sym (ag .after))
 
-        message-is : cond (r .said .made) (take 44 c) noMessage ≡ a .answer .message
-        message-is = front told b c (encode-length (messageOf (movedOf (recordAt t k) r))) h (r .said .made) told-is ∙ sym (ag .message)
+      pub sends : ls .active ≡ states .active → SendMade (groupOf s n t ls m) k bytes b (r .said) (groupOf s n u ls m) c
+      sends ea =
+          made-by sendAnswerOf b
+          (record {
+            answered = did ea .answered;
+            left = (λ i. groupOf s n (table-is i) (sym (links-stay j ls (recordAt t k) o) i) m) ∙ did ea .left;
+          })
+          (ag .answers) refl message-is
 
-        same : answerIn (r .said) c ≡ answerOf (a .answer) []
-        unfolding answerIn
-        same = λ i. record { says = sym (ag .says) i; made = sym (ag .made) i; message = message-is i; out = [] }
-
-        table-is : u ≡ withRecord t k (a .after)
-        table-is = eu ∙ ap (withRecord t k) (sym (ag .after))
-
-        pub sends : ls .active ≡ states .active
-            → Did (groupOf s n t ls m) (Call.on k (Rules.Request.send bytes)) (answerIn (r .said) c) (groupOf s n u ls m)
-        sends ea =
-            record {
-              answered = same ∙ did ea .answered;
-              left =
-                  (λ i. groupOf s n (table-is i) (sym (links-stay j ls (recordAt t k) o) i) m) ∙ did ea .left;
-            }
-
-      pub buffer-kept : BufferKept (r .said .made) b c
-      buffer-kept = kept told b c (encode-length (messageOf (movedOf (recordAt t k) r))) h (r .said .made) told-is
+      -- so nothing is lost in the struct
+      pub all-said : ls .active ≡ states .active
+          → (let x = answer (groupOf s n t ls m) (on k (send bytes)) in saysIn (sendAnswerOf x) ≡ x .says)
+      all-said ea =
+          subst (λ (x : Answer). saysIn (sendAnswerOf x) ≡ x .says) (did ea .answered) (ap saysIn (sym (ag .answers)) ∙ ag .says)
 
 -- the two ways of `send_unless` are one sending
 positive : (j : ℕ) → (j ≡ 0 → ⊥) → 0 < j
@@ -248,24 +242,19 @@ pub send-unless-returns-2 : (j : ℕ) (t : List Record) (k : ℕ) (bytes b : Lis
 send-unless-returns-2 j t k bytes b h a u c l = (λ e. l, λ e. absurd (omega (arith, nltb→le 0 j h, e)))
 
 pub fordlinnet-make-send-returns : (s n : ℕ) (m : List ℕ) (t : List Record) (states : LinkStates) (k : ℕ) (bytes b : List ℕ)
-    → Holds (ltb (length b) 44) → (a : SendAnswer) → a ≡ unsentAnswer 1 → SendMade s n m t (states .active) k bytes b a t b
-fordlinnet-make-send-returns s n m t states k bytes b h a ea =
-    (λ e. absurd (omega (arith, ltb→lt (length b) 44 h, e)), λ e. (ea, refl, refl))
-
-pub fordlinnet-make-send-returns-2 : (s n : ℕ) (m : List ℕ) (t : List Record) (states : LinkStates) (k : ℕ) (bytes b : List ℕ)
-    → Holds (not (ltb (length b) 44))
     → (first : ℕ) → first ≡ refusalAt s n (length m) t (states .active) k
     → (a : SendAnswer) (u : List Record) (c : List ℕ) → LeftUnless first t k bytes b a u c
-    → SendMade s n m t (states .active) k bytes b a u c
-fordlinnet-make-send-returns-2 s n m t states k bytes b h first eno a u c l =
+    → InEveryGroup (states .active) (λ (ls : Links). SendMade (groupOf s n t ls m) k bytes b a (groupOf s n u ls m) c)
+fordlinnet-make-send-returns s n m t states k bytes b first eno a u c l ls ea =
     let one = one-sending s n (length m) t (states .active) k bytes b first eno a u c l in
     let q : Sending = sendingUnless first (recordAt t k) (length bytes) in
-    let fits = nltb→le (length b) 44 h in
-    subst (λ (y : SendAnswer). SendMade s n m t (states .active) k bytes b y u c) (sym (one .answer-is)) (
-      λ e. (
-        λ ls x. sends s n m t states k bytes b first eno q refl c (one .message-is) u (one .table-is) fits ls x,
-        buffer-kept s n m t states k bytes b first eno q refl c (one .message-is) u (one .table-is) fits,
-        zeros-are (recordAt t k) (length bytes) first,
-      ),
-      λ e. absurd (omega (arith, fits, e)),
-    )
+    subst (λ (y : SendAnswer). SendMade (groupOf s n t ls m) k bytes b y (groupOf s n u ls m) c) (sym (one .answer-is))
+    (sends s n m t states k bytes b first eno q refl c (one .message-is) u (one .table-is) ls ea)
+
+pub nothing-lost : NothingLost
+nothing-lost g k bytes =
+    let t = g .table in
+    let first = refusalAt (g .S) (g .N) (length (g .memory)) t (g .links) k in
+    let q : Sending = sendingUnless first (recordAt t k) (length bytes) in
+    all-said (g .S) (g .N) (g .memory) t (record { active = g .links }) k bytes [] first refl q refl (messageLeft (recordAt t k) q []) refl
+    (withRecord t k (recordLeft (recordAt t k) q)) refl (linksOf g) refl

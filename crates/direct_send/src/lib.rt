@@ -4,7 +4,10 @@
 // The record is read where it is needed and its changed fields alone are put back: a record by value through each step costs more than the
 // step (docs/SPEED.md).
 ghost use mathlib.Core.Path.{_≡_};
+ghost use Rattle.table.specs.declared.Links.{Links};
 ghost use Rattle.table.specs.Table.{recordAt, withRecord};
+ghost use Rattle.rules.specs.Rules.{groupOf};
+ghost use Rattle.direct_made.specs.DirectMade.{InEveryGroup};
 ghost use Rattle.transmitted.specs.Transmitted.{recordLeft, messageLeft};
 ghost use Rattle.direct_send.specs.TableLeft.{sendingAt, LeftBy, LeftUnless};
 ghost use Rattle.direct_send.specs.DirectSend.{SendMade};
@@ -41,7 +44,7 @@ fn put(table: &mut [Record], slot: u32, t: Sending)
     }
 }
 
-fn tell_at(table: &[Record], slot: u32, t: Sending, to: &mut [u8])
+fn tell_at(table: &[Record], slot: u32, t: Sending, to: &mut [u8; 44])
     ensures { λ _. ⌜ now (to .exit) ≡ messageLeft (recordAt (now (table .entry)) slot) t (now (to .entry)) ⌝ }
 {
     let i = direct::place_of(slot, table.len());
@@ -63,8 +66,8 @@ fn answer_of(t: Sending) -> SendAnswer
     t.said
 }
 
-// A send that 1, 2, 3 and 6 do not refuse, with a buffer for the message.
-fn send_on(table: &mut [Record], slot: u32, bytes: &[u8], message: &mut [u8]) -> SendAnswer
+// A send that 1, 2, 3 and 6 do not refuse.
+fn send_on(table: &mut [Record], slot: u32, bytes: &[u8], message: &mut [u8; 44]) -> SendAnswer
     ensures { λ r.
         ⌜ LeftBy (now (table .entry)) slot (now (bytes .entry)) (now (message .entry)) r (now (table .exit)) (now (message .exit)) ⌝ }
 {
@@ -80,7 +83,7 @@ fn send_unless(
     table: &mut [Record],
     slot: u32,
     bytes: &[u8],
-    message: &mut [u8],
+    message: &mut [u8; 44],
 ) -> SendAnswer
     ensures { λ r.
         ⌜ LeftUnless j (now (table .entry)) slot (now (bytes .entry)) (now (message .entry)) r (now (table .exit)) (now (message .exit)) ⌝ }
@@ -92,8 +95,7 @@ fn send_unless(
     }
 }
 
-// Sends. A buffer for the message under 44 bytes is refused by 1. What refuses comes first, so that the compiler knows in what follows all
-// that the tests have shown.
+// Sends. What refuses comes first, so that the compiler knows in what follows all that the tests have shown.
 #[no_mangle]
 pub extern "C" fn fordlinnet_make_send(
     s: u32,
@@ -103,16 +105,13 @@ pub extern "C" fn fordlinnet_make_send(
     links: LinkStates,
     slot: u32,
     bytes: &[u8],
-    message: &mut [u8],
+    message: &mut [u8; 44],
 ) -> SendAnswer
     ensures { λ r.
-        ⌜ SendMade s n (now (mem .entry)) (now (table .entry)) (links .active) slot (now (bytes .entry)) (now (message .entry))
-        r (now (table .exit)) (now (message .exit)) ⌝ }
+        ⌜ InEveryGroup (links .active) (λ (ls : Links).
+        SendMade (groupOf s n (now (table .entry)) ls (now (mem .entry))) slot (now (bytes .entry)) (now (message .entry)) r
+        (groupOf s n (now (table .exit)) ls (now (mem .entry))) (now (message .exit))) ⌝ }
 {
-    if message.len() < 44 {
-        return transmitting::refused(1);
-    } else {
-        let j = direct::refusal_at(s, n, mem.len(), table, links, slot);
-        return send_unless(j, table, slot, bytes, message);
-    }
+    let j = direct::refusal_at(s, n, mem.len(), table, links, slot);
+    send_unless(j, table, slot, bytes, message)
 }

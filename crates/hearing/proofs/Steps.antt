@@ -1,10 +1,10 @@
 -- What the parts of a hear come to, by the code's tests. Assumes nothing.
-use Prim.Native.Nat.{ℕ, _≤_, _<_}
+use Prim.Native.Nat.{ℕ}
 use mathlib.Core.Path.{_≡_, sym, ap, _∙_}
 use mathlib.Core.Bool.{Bool, true, false, _&&_, _||_, not}
 use mathlib.Core.List.{List}
 use lib.Dec.{ltb}
-use borrow.Author.Tests.{le-leb, lt-leb, eq-eqb, ne-eqb, not-true, not-false}
+use borrow.Author.Tests.{eq-eqb, ne-eqb, not-true, not-false}
 use Rattle.cursor.specs.Cursor.{sameB}
 use Rattle.cdc.specs.declared.Message.{Message}
 use Rattle.cdc.specs.Cdc.{encodeOf}
@@ -16,35 +16,29 @@ use Rattle.connection.specs.Connection.{reachedB, refusalOf}
 use Rattle.outcome.specs.Outcome.{messageOf}
 use Rattle.heard.specs.Heard.{movedBy, nextB}
 use Rattle.table.specs.Table.{sizesB}
-use Rattle.direct.specs.Direct.{writtenIn}
 use Rattle.hearing.specs.declared.Hearing.{Hearing}
 use Rattle.hearing.specs.Hearing.{refusedBefore, refusedHearing, abortHearing, keptHearing, validatedHearing, acceptedHearing}
 use Rattle.hearing.specs.Hearing.{ruledHearing, hearingOf, toldBy, messageLeft}
 
 -- what is tested before the record
-module _ (s n len count buffer : ℕ) (good : Bool) (k : ℕ) where
-  pub before-short : buffer < 44 → 1 ≡ refusedBefore s n len count buffer good k
+module _ (s n len count : ℕ) (good : Bool) (k : ℕ) (y : Bool) (ey : y ≡ sizesB s n len count) where
+  pub before-unsized : not y ≡ true → 1 ≡ refusedBefore s n len count good k
   unfolding refusedBefore
-  before-short h = simp (lt-leb 44 buffer h)
+  before-unsized e = simp (← ey, not-true y e)
 
-  module _ (h : 44 ≤ buffer) (y : Bool) (ey : y ≡ sizesB s n len count) where
-    pub before-unsized : not y ≡ true → 1 ≡ refusedBefore s n len count buffer good k
+  module _ (e : not y ≡ false) where
+    pub before-bad : not good ≡ true → 4 ≡ refusedBefore s n len count good k
     unfolding refusedBefore
-    before-unsized e = simp (le-leb 44 buffer h, ← ey, not-true y e)
+    before-bad g = simp (← ey, not-false y e, not-true good g)
 
-    module _ (e : not y ≡ false) where
-      pub before-bad : not good ≡ true → 4 ≡ refusedBefore s n len count buffer good k
+    module _ (g : not good ≡ false) where
+      pub before-none : k ≡ 0 → 5 ≡ refusedBefore s n len count good k
       unfolding refusedBefore
-      before-bad g = simp (le-leb 44 buffer h, ← ey, not-false y e, not-true good g)
+      before-none z = simp (← ey, not-false y e, not-false good g, eq-eqb k 0 z)
 
-      module _ (g : not good ≡ false) where
-        pub before-none : k ≡ 0 → 5 ≡ refusedBefore s n len count buffer good k
-        unfolding refusedBefore
-        before-none z = simp (le-leb 44 buffer h, ← ey, not-false y e, not-false good g, eq-eqb k 0 z)
-
-        pub before-some : (k ≡ 0 → ⊥) → 0 ≡ refusedBefore s n len count buffer good k
-        unfolding refusedBefore
-        before-some z = simp (le-leb 44 buffer h, ← ey, not-false y e, not-false good g, ne-eqb k 0 z)
+      pub before-some : (k ≡ 0 → ⊥) → 0 ≡ refusedBefore s n len count good k
+      unfolding refusedBefore
+      before-some z = simp (← ey, not-false y e, not-false good g, ne-eqb k 0 z)
 
 -- an accepted message, put together
 module _ (n : ℕ) (rec : Record) (m : Message) (moved : ℕ) (marks : Marks) (state : State) (number : ℕ) (passed same : Bool) where
@@ -108,10 +102,10 @@ module _ (n : ℕ) (active : Bool) (rec : Record) (m : Message) (j : ℕ) (r : H
 
 -- the message in its buffer
 module _ (rec : Record) (t : Hearing) (b : List ℕ) where
-  pub told-parts : (x : Record) (m : Message) (bytes c : List ℕ) → t .said .made ≡ true → x ≡ toldBy rec t → m ≡ messageOf x
-      → bytes ≡ encodeOf m → c ≡ writtenIn bytes b → c ≡ messageLeft rec t b
+  pub told-parts : (x : Record) (m : Message) (bytes : List ℕ) → t .said .made ≡ true → x ≡ toldBy rec t → m ≡ messageOf x
+      → bytes ≡ encodeOf m → bytes ≡ messageLeft rec t b
   unfolding messageLeft
-  told-parts x m bytes c e hx hm hb hc = simp (hc, hb, hm, hx, e)
+  told-parts x m bytes e hx hm hb = simp (hb, hm, hx, e)
 
   pub told-none : t .said .made ≡ false → b ≡ messageLeft rec t b
   unfolding messageLeft

@@ -3,7 +3,7 @@
 use Prim.Native.Nat.{ℕ}
 use mathlib.Core.Bool.{Bool, true, false, _&&_, _||_, not, cond}
 use mathlib.Core.List.{List}
-use lib.Dec.{ltb, leb, eqb}
+use lib.Dec.{ltb, eqb}
 use Rattle.cursor.specs.Cursor.{sameB}
 use Rattle.cdc.specs.declared.Message.{Message}
 use Rattle.cdc.specs.declared.Decoded.{Decoded}
@@ -19,7 +19,7 @@ use Rattle.connection.specs.Connection.{pTo, tTo, lastTo, flagsTo, urgentInTo, 
 use Rattle.outcome.specs.Outcome.{sequenceAfter, toldOf, messageOf}
 use Rattle.heard.specs.Heard.{producerB, consumerB, movedBy, nextB}
 use Rattle.table.specs.Table.{sizesB}
-use Rattle.direct.specs.Direct.{writtenIn, marksLeft}
+use Rattle.direct.specs.Direct.{marksLeft}
 use Rattle.hearing.specs.declared.Parsed.{Parsed}
 use Rattle.hearing.specs.declared.Hearing.{Hearing}
 
@@ -51,10 +51,9 @@ parsedOf Malformed = record { good = false; message = noHeard }
 unfoldable pub parsedIn : List ℕ → Parsed
 parsedIn b = parsedOf (decodeOf b)
 
--- 1, which covers a buffer under 44 bytes, then 4, then 5; 0: none of them
-unfoldable pub refusedBefore : ℕ → ℕ → ℕ → ℕ → ℕ → Bool → ℕ → ℕ
-refusedBefore s n len count buffer good slot =
-    cond (leb 44 buffer) (cond (sizesB s n len count) (cond good (cond (eqb slot 0) 5 0) 4) 1) 1
+-- 1, then 4, then 5; 0: none of them
+unfoldable pub refusedBefore : ℕ → ℕ → ℕ → ℕ → Bool → ℕ → ℕ
+refusedBefore s n len count good slot = cond (sizesB s n len count) (cond good (cond (eqb slot 0) 5 0) 4) 1
 
 abbrev pub refusedHearing : ℕ → Hearing
 refusedHearing j =
@@ -181,4 +180,4 @@ toldBy rec t =
     (marksLeft (rec .marks) (t .aborts))
 
 unfoldable pub messageLeft : Record → Hearing → List ℕ → List ℕ
-messageLeft rec t b = cond (t .said .made) (writtenIn (encodeOf (messageOf (toldBy rec t))) b) b
+messageLeft rec t b = cond (t .said .made) (encodeOf (messageOf (toldBy rec t))) b

@@ -90,13 +90,10 @@ pub fn token_of(p: Parsed) -> u32
     p.message.token
 }
 
-// What is tested before the record is looked at: 1, which covers a buffer under 44 bytes, then 4, then 5; 0 for none.
-pub fn before(s: u32, n: u32, len: usize, count: usize, buffer: usize, p: Parsed, slot: usize) -> u8
-    ensures { λ r. ⌜ r ≡ refusedBefore s n len count buffer (p .good) slot ⌝ }
+// What is tested before the record is looked at: 1, then 4, then 5; 0 for none.
+pub fn before(s: u32, n: u32, len: usize, count: usize, p: Parsed, slot: usize) -> u8
+    ensures { λ r. ⌜ r ≡ refusedBefore s n len count (p .good) slot ⌝ }
 {
-    if buffer < 44 {
-        return 1;
-    }
     if !table::sizes_ok(s, n, len, count) {
         return 1;
     }
@@ -388,10 +385,11 @@ fn told_by(rec: Record, t: Hearing) -> Record
 }
 
 // The record's message in the buffer, where one is made.
-pub fn tell(rec: Record, t: Hearing, to: &mut [u8])
+pub fn tell(rec: Record, t: Hearing, to: &mut [u8; 44])
     ensures { λ _. ⌜ now (to .exit) ≡ messageLeft rec t (now (to .entry)) ⌝ }
 {
     if t.said.made {
-        direct::write(cdc::encode(outcome::message_of(told_by(rec, t))), to);
+        let bytes = cdc::encode(outcome::message_of(told_by(rec, t)));
+        *to = bytes;
     }
 }

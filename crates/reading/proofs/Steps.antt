@@ -17,7 +17,6 @@ use Rattle.connection.specs.declared.Record.{Record}
 use Rattle.connection.specs.Connection.{reachedB}
 use Rattle.outcome.specs.Outcome.{messageOf}
 use Rattle.receive.specs.Receive.{readForbids}
-use Rattle.direct.specs.Direct.{writtenIn}
 use Rattle.reading.specs.declared.ReadAnswer.{ReadAnswer}
 use Rattle.reading.specs.declared.Reading.{Reading}
 use Rattle.reading.specs.Reading.{unreadIn, dueIn, tookOf, tornReading, readingOf, refusedAnswer, refusedReading, movedOf, messageLeft, copiedBy}
@@ -101,10 +100,10 @@ copied-parts n m k t out l base e h = simp (h, e)
 
 -- the message in its buffer
 module _ (rec : Record) (t : Reading) (b : List ℕ) where
-  pub told-parts : (x : Record) (m : Message) (bytes c : List ℕ) → t .said .made ≡ true → x ≡ movedOf rec t → m ≡ messageOf x
-      → bytes ≡ encodeOf m → c ≡ writtenIn bytes b → c ≡ messageLeft rec t b
+  pub told-parts : (x : Record) (m : Message) (bytes : List ℕ) → t .said .made ≡ true → x ≡ movedOf rec t → m ≡ messageOf x
+      → bytes ≡ encodeOf m → bytes ≡ messageLeft rec t b
   unfolding messageLeft
-  told-parts x m bytes c e hx hm hb hc = simp (hc, hb, hm, hx, e)
+  told-parts x m bytes e hx hm hb = simp (hb, hm, hx, e)
 
   pub told-none : t .said .made ≡ false → b ≡ messageLeft rec t b
   unfolding messageLeft

@@ -15,7 +15,7 @@ use Rattle.connection.specs.declared.Record.{Record}
 use Rattle.connection.specs.Connection.{noPlace, cTo, tTo, urgentInTo, nextTo, inboundTo, outboundTo, marksTo, reachedB}
 use Rattle.outcome.specs.Outcome.{sequenceAfter, messageOf}
 use Rattle.receive.specs.Receive.{readForbids}
-use Rattle.direct.specs.Direct.{writtenIn, marksLeft}
+use Rattle.direct.specs.Direct.{marksLeft}
 use Rattle.reading.specs.declared.ReadAnswer.{ReadAnswer}
 use Rattle.reading.specs.declared.Reading.{Reading}
 
@@ -73,7 +73,7 @@ unfoldable pub movedOf : Record → Reading → Record
 movedOf rec t = marksTo (inboundTo rec (cTo (rec .inbound) (t .consumer))) (marksLeft (rec .marks) (t .said .torn))
 
 unfoldable pub messageLeft : Record → Reading → List ℕ → List ℕ
-messageLeft rec t b = cond (t .said .made) (writtenIn (encodeOf (messageOf (movedOf rec t))) b) b
+messageLeft rec t b = cond (t .said .made) (encodeOf (messageOf (movedOf rec t))) b
 
 unfoldable pub copiedBy : ℕ → List ℕ → ℕ → Reading → List ℕ → List ℕ
 copiedBy N m k t out = Element.readOf m (Element.baseOf N k) N (t .from) (t .said .count) out

@@ -191,11 +191,12 @@ fn moved(rec: Record, t: Reading) -> Record
 }
 
 // The record's message, as a read leaves it, in the buffer, where one is made.
-pub fn tell(rec: Record, t: Reading, to: &mut [u8])
+pub fn tell(rec: Record, t: Reading, to: &mut [u8; 44])
     ensures { λ _. ⌜ now (to .exit) ≡ messageLeft rec t (now (to .entry)) ⌝ }
 {
     if t.said.made {
-        direct::write(cdc::encode(outcome::message_of(moved(rec, t))), to);
+        let bytes = cdc::encode(outcome::message_of(moved(rec, t)));
+        *to = bytes;
     }
 }
 

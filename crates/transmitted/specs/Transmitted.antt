@@ -8,7 +8,6 @@ use Rattle.connection.specs.declared.Outbound.{Outbound}
 use Rattle.connection.specs.declared.Record.{Record}
 use Rattle.connection.specs.Connection.{tTo, qTo, blockedTo, nextTo, inboundTo, outboundTo}
 use Rattle.outcome.specs.Outcome.{sequenceAfter, messageOf}
-use Rattle.direct.specs.Direct.{writtenIn}
 use Rattle.transmitting.specs.declared.Sending.{Sending}
 
 -- T where a message is made; Q, B and the sequence number
@@ -27,4 +26,4 @@ unfoldable pub movedOf : Record → Sending → Record
 movedOf rec t = outboundTo rec (blockedTo (qTo (rec .outbound) (t .producer)) (t .blocked))
 
 unfoldable pub messageLeft : Record → Sending → List ℕ → List ℕ
-messageLeft rec t b = cond (t .said .made) (writtenIn (encodeOf (messageOf (movedOf rec t))) b) b
+messageLeft rec t b = cond (t .said .made) (encodeOf (messageOf (movedOf rec t))) b

@@ -89,9 +89,16 @@ use Rattle.direct_hear.proofs.fordlinnet_make_hear.Statement as stated
 use Rattle.direct_hear.proofs.fordlinnet_make_hear.Code as code
 use Rattle.direct_hear.specs.DirectHear.{HearMade}
 use Rattle.direct_hear.specs.TableLeft.{HeardBy}
+use Rattle.direct_made.specs.DirectMade.{InEveryGroup}
 use Rattle.hearing.specs.Hearing.{parsedIn, refusedBefore}
+use Rattle.rules.specs.Rules.{groupOf}
 use Rattle.table.specs.Table.{holderIn}
+use Rattle.table.specs.declared.Links.{Links}
 use Rattle.direct_hear.proofs.Laws.{fordlinnet-make-hear-returns}
+use denote.Ref.{MutRef, ptr-vals, mut-tells}
+use denote.Array.{Array}
+use denote.Signature.Array.{arrayOf}
+use denote.Triple.Walked.{gave-ref, goes-gave-ref}
 
 -- what is left of a body after its first k statements
 abbrev later-part : Body → Body
@@ -111,7 +118,7 @@ after zero b = b
 after (suc k) b = after k (later-part b)
 
 abbrev stayed : Stays (call.ended .signature .params) (call.ended .kept)
-stayed = (stay-dropped (plain (λ _. u32)) yes, (stay-dropped (plain (λ _. u32)) yes, (stay-dropped (shrSliceOf (0 ∷ []) tt (plain (λ _. u8))) yes, (gave-slice (1 ∷ []) tt (plain (λ _. RecordT.the-row)), (stay-dropped (plain (λ _. LinkStatesT.the-row)) yes, (stay-dropped (shrSliceOf (2 ∷ []) tt (plain (λ _. u8))) yes, (gave-slice (3 ∷ []) tt (plain (λ _. u8)), tt)))))))
+stayed = (stay-dropped (plain (λ _. u32)) yes, (stay-dropped (plain (λ _. u32)) yes, (stay-dropped (shrSliceOf (0 ∷ []) tt (plain (λ _. u8))) yes, (gave-slice (1 ∷ []) tt (plain (λ _. RecordT.the-row)), (stay-dropped (plain (λ _. LinkStatesT.the-row)) yes, (stay-dropped (shrSliceOf (2 ∷ []) tt (plain (λ _. u8))) yes, (gave-ref (3 ∷ []) tt (arrayOf (plain (λ _. u8)) 44), tt)))))))
 
 -- the contracts that the walk cites, and what each asks
 module _ {M : Type 1} (𝓤 : URA M) (H : Heap 𝓤) (A : Atoms 𝓤) (mem : Memory → SProp 𝓤) (run : Routine → Fun 𝓤) where
@@ -136,8 +143,8 @@ module _ {M : Type 1} (𝓤 : URA M) (H : Heap 𝓤) (A : Atoms 𝓤) (mem : Mem
   abbrev C-f-before : Contract 𝓤
   C-f-before = tripleOf 𝓤 H A f-before.signature (f-before.spec 𝓤 H A mem run)
 
-  abbrev to-f-before : (x0 : ℕ) (v0 : Val) (x1 : ℕ) (v1 : Val) (x2 : ℕ) (v2 : Val) (x3 : ℕ) (v3 : Val) (x4 : ℕ) (v4 : Val) (x5 : Parsed) (v5 : Val) (x6 : ℕ) (v6 : Val) → C-f-before .Ghost
-  to-f-before x0 v0 x1 v1 x2 v2 x3 v3 x4 v4 x5 v5 x6 v6 = ((tt, tt, tt, (x0, (x1, (x2, (x3, (x4, (x5, (x6, tt))))))), (v0 ∷ [], (v1 ∷ [], (v2 ∷ [], (v3 ∷ [], (v4 ∷ [], (v5 ∷ [], (v6 ∷ [], tt)))))))), tt)
+  abbrev to-f-before : (x0 : ℕ) (v0 : Val) (x1 : ℕ) (v1 : Val) (x2 : ℕ) (v2 : Val) (x3 : ℕ) (v3 : Val) (x4 : Parsed) (v4 : Val) (x5 : ℕ) (v5 : Val) → C-f-before .Ghost
+  to-f-before x0 v0 x1 v1 x2 v2 x3 v3 x4 v4 x5 v5 = ((tt, tt, tt, (x0, (x1, (x2, (x3, (x4, (x5, tt)))))), (v0 ∷ [], (v1 ∷ [], (v2 ∷ [], (v3 ∷ [], (v4 ∷ [], (v5 ∷ [], tt))))))), tt)
 
   abbrev C-f-hear-unless : Contract 𝓤
   C-f-hear-unless = tripleOf 𝓤 H A f-hear-unless.signature (f-hear-unless.spec 𝓤 H A mem run)
@@ -158,17 +165,17 @@ module _ {M : Type 1} (𝓤 : URA M) (H : Heap 𝓤) (A : Atoms 𝓤) (W : Given
   goes-f-find κ0 q0 x0 v0 x1 v1 i1 =
       qed W ((‵ (flft κ0 q0) ⊛ ‵ (ShrSlice (named 0) κ0 RecordT.the-row .own x0 (v0 ∷ [])) ⊛ ‵ ftrue) ∷ []) ∵ split ! $ move ! (1 ∷ []) $ split ! $ move ! (1 ∷ []) $ drop ! $ nothing ! $ owned ! u32 (Is u32) (uint-makes 𝓤 H A W w32) x1 _ i1 $ fjoin ! $ move ! (1 ∷ 0 ∷ []) $ fjoin ! $ nothing ! $ move ! (2 ∷ 0 ∷ []) $ join ! $ join ! $ frame ! $ done !
 
-  goes-f-before : (x0 : ℕ) (v0 : Val) (x1 : ℕ) (v1 : Val) (x2 : ℕ) (v2 : Val) (x3 : ℕ) (v3 : Val) (x4 : ℕ) (v4 : Val) (x5 : Parsed) (v5 : Val) (x6 : ℕ) (v6 : Val) (i0 : Is u32 x0 (v0 ∷ [])) (i1 : Is u32 x1 (v1 ∷ [])) (i2 : Is usize x2 (v2 ∷ [])) (i3 : Is usize x3 (v3 ∷ [])) (i4 : Is usize x4 (v4 ∷ [])) (i5 : Is ParsedT.the-row x5 (v5 ∷ [])) (i6 : Is usize x6 (v6 ∷ [])) → ent 𝓤 (emp 𝓤) (C-f-before 𝓤 H A mem run .pre (to-f-before 𝓤 H A mem run x0 v0 x1 v1 x2 v2 x3 v3 x4 v4 x5 v5 x6 v6))
-  goes-f-before x0 v0 x1 v1 x2 v2 x3 v3 x4 v4 x5 v5 x6 v6 i0 i1 i2 i3 i4 i5 i6 =
-      qed W ([]) ∵ nothing ! $ owned ! usize (Is usize) (uint-makes 𝓤 H A W w64) x6 _ i6 $ fjoin ! $ owned ! ParsedT.the-row (Is ParsedT.the-row) (LL.makes ParsedT.the-type ParsedL.the-plain 𝓤 H A) x5 _ i5 $ fjoin ! $ owned ! usize (Is usize) (uint-makes 𝓤 H A W w64) x4 _ i4 $ fjoin ! $ owned ! usize (Is usize) (uint-makes 𝓤 H A W w64) x3 _ i3 $ fjoin ! $ owned ! usize (Is usize) (uint-makes 𝓤 H A W w64) x2 _ i2 $ fjoin ! $ owned ! u32 (Is u32) (uint-makes 𝓤 H A W w32) x1 _ i1 $ fjoin ! $ owned ! u32 (Is u32) (uint-makes 𝓤 H A W w32) x0 _ i0 $ fjoin ! $ nothing ! $ join ! $ frame ! $ done !
+  goes-f-before : (x0 : ℕ) (v0 : Val) (x1 : ℕ) (v1 : Val) (x2 : ℕ) (v2 : Val) (x3 : ℕ) (v3 : Val) (x4 : Parsed) (v4 : Val) (x5 : ℕ) (v5 : Val) (i0 : Is u32 x0 (v0 ∷ [])) (i1 : Is u32 x1 (v1 ∷ [])) (i2 : Is usize x2 (v2 ∷ [])) (i3 : Is usize x3 (v3 ∷ [])) (i4 : Is ParsedT.the-row x4 (v4 ∷ [])) (i5 : Is usize x5 (v5 ∷ [])) → ent 𝓤 (emp 𝓤) (C-f-before 𝓤 H A mem run .pre (to-f-before 𝓤 H A mem run x0 v0 x1 v1 x2 v2 x3 v3 x4 v4 x5 v5))
+  goes-f-before x0 v0 x1 v1 x2 v2 x3 v3 x4 v4 x5 v5 i0 i1 i2 i3 i4 i5 =
+      qed W ([]) ∵ nothing ! $ owned ! usize (Is usize) (uint-makes 𝓤 H A W w64) x5 _ i5 $ fjoin ! $ owned ! ParsedT.the-row (Is ParsedT.the-row) (LL.makes ParsedT.the-type ParsedL.the-plain 𝓤 H A) x4 _ i4 $ fjoin ! $ owned ! usize (Is usize) (uint-makes 𝓤 H A W w64) x3 _ i3 $ fjoin ! $ owned ! usize (Is usize) (uint-makes 𝓤 H A W w64) x2 _ i2 $ fjoin ! $ owned ! u32 (Is u32) (uint-makes 𝓤 H A W w32) x1 _ i1 $ fjoin ! $ owned ! u32 (Is u32) (uint-makes 𝓤 H A W w32) x0 _ i0 $ fjoin ! $ nothing ! $ join ! $ frame ! $ done !
 
-  goes-f-hear-unless : (κ2 : Lft) (q2 : Share) (κ6 : Lft) (q6 : Share) (x0 : ℕ) (v0 : Val) (x1 : ℕ) (v1 : Val) (x2 : RefT (List Record)) (v2 : Val) (x3 : LinkStates) (v3 : Val) (x4 : ℕ) (v4 : Val) (x5 : Message) (v5 : Val) (x6 : RefT (List ℕ)) (v6 : Val) (i0 : Is u8 x0 (v0 ∷ [])) (i1 : Is u32 x1 (v1 ∷ [])) (i3 : Is LinkStatesT.the-row x3 (v3 ∷ [])) (i4 : Is usize x4 (v4 ∷ [])) (i5 : Is MessageT.the-row x5 (v5 ∷ [])) → ent 𝓤 (mean 𝓤 H A (‵ (flft κ2 q2) ⊛ ‵ (flft κ6 q6) ⊛ ‵ (MutSlice (named 0) κ2 RecordT.the-row .own x2 (v2 ∷ [])) ⊛ ‵ (MutSlice (named 0) κ6 u8 .own x6 (v6 ∷ [])) ⊛ ‵ ftrue)) (C-f-hear-unless 𝓤 H A mem run .pre (to-f-hear-unless 𝓤 H A mem run κ2 q2 κ6 q6 x0 v0 x1 v1 x2 v2 x3 v3 x4 v4 x5 v5 x6 v6))
+  goes-f-hear-unless : (κ2 : Lft) (q2 : Share) (κ6 : Lft) (q6 : Share) (x0 : ℕ) (v0 : Val) (x1 : ℕ) (v1 : Val) (x2 : RefT (List Record)) (v2 : Val) (x3 : LinkStates) (v3 : Val) (x4 : ℕ) (v4 : Val) (x5 : Message) (v5 : Val) (x6 : RefT (List ℕ)) (v6 : Val) (i0 : Is u8 x0 (v0 ∷ [])) (i1 : Is u32 x1 (v1 ∷ [])) (i3 : Is LinkStatesT.the-row x3 (v3 ∷ [])) (i4 : Is usize x4 (v4 ∷ [])) (i5 : Is MessageT.the-row x5 (v5 ∷ [])) → ent 𝓤 (mean 𝓤 H A (‵ (flft κ2 q2) ⊛ ‵ (flft κ6 q6) ⊛ ‵ (MutSlice (named 0) κ2 RecordT.the-row .own x2 (v2 ∷ [])) ⊛ ‵ (MutRef (named 0) κ6 (Array u8 44) .own x6 (v6 ∷ [])) ⊛ ‵ ftrue)) (C-f-hear-unless 𝓤 H A mem run .pre (to-f-hear-unless 𝓤 H A mem run κ2 q2 κ6 q6 x0 v0 x1 v1 x2 v2 x3 v3 x4 v4 x5 v5 x6 v6))
   goes-f-hear-unless κ2 q2 κ6 q6 x0 v0 x1 v1 x2 v2 x3 v3 x4 v4 x5 v5 x6 v6 i0 i1 i3 i4 i5 =
-      qed W ((‵ (flft κ2 q2) ⊛ ‵ (flft κ6 q6) ⊛ ‵ (MutSlice (named 0) κ2 RecordT.the-row .own x2 (v2 ∷ [])) ⊛ ‵ (MutSlice (named 0) κ6 u8 .own x6 (v6 ∷ [])) ⊛ ‵ ftrue) ∷ []) ∵ split ! $ move ! (1 ∷ []) $ split ! $ move ! (1 ∷ []) $ split ! $ move ! (1 ∷ []) $ split ! $ move ! (1 ∷ []) $ drop ! $ nothing ! $ move ! (1 ∷ 0 ∷ []) $ fjoin ! $ owned ! MessageT.the-row (Is MessageT.the-row) (LL.makes MessageT.the-type MessageL.the-plain 𝓤 H A) x5 _ i5 $ fjoin ! $ owned ! usize (Is usize) (uint-makes 𝓤 H A W w64) x4 _ i4 $ fjoin ! $ owned ! LinkStatesT.the-row (Is LinkStatesT.the-row) (LL.makes LinkStatesT.the-type LinkStatesL.the-plain 𝓤 H A) x3 _ i3 $ fjoin ! $ move ! (1 ∷ 0 ∷ []) $ fjoin ! $ owned ! u32 (Is u32) (uint-makes 𝓤 H A W w32) x1 _ i1 $ fjoin ! $ owned ! u8 (Is u8) (uint-makes 𝓤 H A W w8) x0 _ i0 $ fjoin ! $ nothing ! $ move ! (2 ∷ 0 ∷ []) $ join ! $ move ! (2 ∷ 0 ∷ []) $ join ! $ join ! $ frame ! $ done !
+      qed W ((‵ (flft κ2 q2) ⊛ ‵ (flft κ6 q6) ⊛ ‵ (MutSlice (named 0) κ2 RecordT.the-row .own x2 (v2 ∷ [])) ⊛ ‵ (MutRef (named 0) κ6 (Array u8 44) .own x6 (v6 ∷ [])) ⊛ ‵ ftrue) ∷ []) ∵ split ! $ move ! (1 ∷ []) $ split ! $ move ! (1 ∷ []) $ split ! $ move ! (1 ∷ []) $ split ! $ move ! (1 ∷ []) $ drop ! $ nothing ! $ move ! (1 ∷ 0 ∷ []) $ fjoin ! $ owned ! MessageT.the-row (Is MessageT.the-row) (LL.makes MessageT.the-type MessageL.the-plain 𝓤 H A) x5 _ i5 $ fjoin ! $ owned ! usize (Is usize) (uint-makes 𝓤 H A W w64) x4 _ i4 $ fjoin ! $ owned ! LinkStatesT.the-row (Is LinkStatesT.the-row) (LL.makes LinkStatesT.the-type LinkStatesL.the-plain 𝓤 H A) x3 _ i3 $ fjoin ! $ move ! (1 ∷ 0 ∷ []) $ fjoin ! $ owned ! u32 (Is u32) (uint-makes 𝓤 H A W w32) x1 _ i1 $ fjoin ! $ owned ! u8 (Is u8) (uint-makes 𝓤 H A W w8) x0 _ i0 $ fjoin ! $ nothing ! $ move ! (2 ∷ 0 ∷ []) $ join ! $ move ! (2 ∷ 0 ∷ []) $ join ! $ join ! $ frame ! $ done !
 
 module _ {M : Type 1} (𝓤 : URA M) (H : Heap 𝓤) (A : Atoms 𝓤) (W : Given 𝓤 H A) (mem : Memory → SProp 𝓤) (run : Routine → Fun 𝓤) (κ₀ κ₁ κ₂ κ₃ : Lft) (q₀ q₁ q₂ q₃ : Share)
     (s : ℕ) (n : ℕ) (b-mem o-mem : ℕ) (γ-mem : GName) (ys-mem : List ℕ) (b-table o-table : ℕ) (γ-table : GName) (ys-table : List Record) (links : LinkStates) (v-links : Val) (b-bytes o-bytes : ℕ) (γ-bytes : GName) (ys-bytes : List ℕ) (b-message o-message : ℕ) (γ-message : GName) (ys-message : List ℕ)
-    (g-s : s < 2 ^ 32) (g-n : n < 2 ^ 32) (g-mem : Room u8 (length ys-mem)) (g-table : Room RecordT.the-row (length ys-table)) (g-links : Is LinkStatesT.the-row links (v-links ∷ [])) (g-bytes : Room u8 (length ys-bytes)) (g-message : Room u8 (length ys-message)) where
+    (g-s : s < 2 ^ 32) (g-n : n < 2 ^ 32) (g-mem : Room u8 (length ys-mem)) (g-table : Room RecordT.the-row (length ys-table)) (g-links : Is LinkStatesT.the-row links (v-links ∷ [])) (g-bytes : Room u8 (length ys-bytes)) where
   abbrev x-mem : RefT (List ℕ)
   x-mem = record { ptr = (b-mem, o-mem); name = γ-mem; now = ys-mem }
 
@@ -200,10 +207,10 @@ module _ {M : Type 1} (𝓤 : URA M) (H : Heap 𝓤) (A : Atoms 𝓤) (W : Given
   x-message = record { ptr = (b-message, o-message); name = γ-message; now = ys-message }
 
   abbrev s-message : Val
-  s-message = sliceVal (b-message, o-message) (length ys-message)
+  s-message = vptr b-message o-message
 
   abbrev Own-message : Fml
-  Own-message = MutSlice (named 3) κ₃ u8 .own x-message (s-message ∷ [])
+  Own-message = MutRef (named 3) κ₃ (Array u8 44) .own x-message (s-message ∷ [])
 
   abbrev x : ℕ × (ℕ × (RefT (List ℕ) × (RefT (List Record) × (LinkStates × (RefT (List ℕ) × (RefT (List ℕ) × Unit {0}))))))
   x = (s, (n, (x-mem, (x-table, (links, (x-bytes, (x-message, tt)))))))
@@ -220,108 +227,106 @@ module _ {M : Type 1} (𝓤 : URA M) (H : Heap 𝓤) (A : Atoms 𝓤) (W : Given
   abbrev Post : Val → SProp 𝓤
   Post = walkOf 𝓤 H A call.ended stayed (call.clauses 𝓤 H A mem run) .post ((κs, qs, tt, x, at), tt)
 
-  exits : (res : HearAnswer) (v : Val) (w-table : List Record) (w-message : List ℕ) → length w-table ≡ length ys-table → length w-message ≡ length ys-message → HearMade s n (ys-mem) (ys-table) (links .active) (ys-bytes) (ys-message) res (w-table) (w-message) → Is HearAnswerT.the-row res (v ∷ [])
-      → ent 𝓤 (⋆ 𝓤 H A (‵ (flft κ₀ q₀) ∷ ‵ (flft κ₁ q₁) ∷ ‵ (flft κ₂ q₂) ∷ ‵ (flft κ₃ q₃) ∷ ‵ (finally RecordT.the-row γ-table w-table) ∷ ‵ (finally u8 γ-message w-message) ∷ [])) (Post v)
-  exits res v w-table w-message l-table l-message e is =
-      qed W (‵ (flft κ₀ q₀) ∷ ‵ (flft κ₁ q₁) ∷ ‵ (flft κ₂ q₂) ∷ ‵ (flft κ₃ q₃) ∷ ‵ (finally RecordT.the-row γ-table w-table) ∷ ‵ (finally u8 γ-message w-message) ∷ []) ∵ suffices ! _ (ends-at 𝓤 H A call.ended stayed (call.clauses 𝓤 H A mem run) W ((κs, qs, tt, x, at), tt) v res (tt, (tt, (tt, (w-table, (tt, (tt, (w-message, tt))))))) (tt, (tt, (tt, (l-table, (tt, (tt, (l-message, tt)))))))) $
+  exits : (res : HearAnswer) (v : Val) (w-table : List Record) (w-message : List ℕ) → length w-table ≡ length ys-table → InEveryGroup (links .active) (λ (ls : Links). HearMade (groupOf s n (ys-table) ls (ys-mem)) (ys-bytes) (ys-message) res (groupOf s n (w-table) ls (ys-mem)) (w-message)) → Is HearAnswerT.the-row res (v ∷ [])
+      → ent 𝓤 (⋆ 𝓤 H A (‵ (flft κ₀ q₀) ∷ ‵ (flft κ₁ q₁) ∷ ‵ (flft κ₂ q₂) ∷ ‵ (flft κ₃ q₃) ∷ ‵ (finally RecordT.the-row γ-table w-table) ∷ ‵ (fres γ-message ((Array u8 44) .coded .code w-message)) ∷ [])) (Post v)
+  exits res v w-table w-message l-table e is =
+      qed W (‵ (flft κ₀ q₀) ∷ ‵ (flft κ₁ q₁) ∷ ‵ (flft κ₂ q₂) ∷ ‵ (flft κ₃ q₃) ∷ ‵ (finally RecordT.the-row γ-table w-table) ∷ ‵ (fres γ-message ((Array u8 44) .coded .code w-message)) ∷ []) ∵ suffices ! _ (ends-at 𝓤 H A call.ended stayed (call.clauses 𝓤 H A mem run) W ((κs, qs, tt, x, at), tt) v res (tt, (tt, (tt, (w-table, (tt, (tt, (w-message, tt))))))) (tt, (tt, (tt, (l-table, (tt, (tt, (tt, tt)))))))) $
       says ! e $ nothing ! $ move ! (4 ∷ 0 ∷ []) $ join ! $ move ! (3 ∷ 0 ∷ []) $ join ! $ move ! (2 ∷ 0 ∷ []) $ join ! $ move ! (1 ∷ 0 ∷ []) $ join ! $ frame ! $ nothing ! $ move ! (2 ∷ 0 ∷ []) $ fjoin ! $ nothing ! $ fjoin ! $ nothing ! $ fjoin ! $ move ! (1 ∷ 0 ∷ []) $ fjoin ! $ nothing ! $ fjoin ! $ nothing ! $ fjoin ! $ nothing ! $ fjoin ! $ frame ! $ owned ! HearAnswerT.the-row (Is HearAnswerT.the-row) (LL.makes HearAnswerT.the-type HearAnswerL.the-plain 𝓤 H A) res _ is $ done !
 
   module _ (C : Calls 𝓤 H) (Λ : Loops 𝓤 H) (fm : FmC 𝓤 H (W .laws) C) (known-f-parse : Triple 𝓤 (C #f-parse) (C-f-parse 𝓤 H A mem run)) (known-f-token-of : Triple 𝓤 (C #f-token-of) (C-f-token-of 𝓤 H A mem run)) (known-f-find : Triple 𝓤 (C #f-find) (C-f-find 𝓤 H A mem run)) (known-f-before : Triple 𝓤 (C #f-before) (C-f-before 𝓤 H A mem run)) (known-f-hear-unless : Triple 𝓤 (C #f-hear-unless) (C-f-hear-unless 𝓤 H A mem run)) where
     Parsed-message-is : (r : Parsed) (w : Val) → Is ParsedT.the-row r (w ∷ []) → Is MessageT.the-row (r .message) (MessageL.lowered (r .message) ∷ [])
     Parsed-message-is r w is = let p = LL.owed ParsedT.the-type ParsedL.the-laws r _ is .1 .0 in subst (Is MessageT.the-row (r .message)) (MessageL.lowers .val-is (r .message) _ p) p
 
-    abbrev locals : ℕ → ℕ → ℕ → ℕ → ℕ → ℕ → ℕ → ℕ → ℕ → ℕ → ℕ → ℕ → ℕ → ℕ → ℕ → ℕ → ℕ → ℕ → ℕ → ℕ → ℕ → ℕ → Env 𝓤 H
-    locals l₀ l₁ l₂ l₃ l₄ l₅ l₆ l₇ l₈ l₉ l₁₀ l₁₁ l₁₂ l₁₃ l₁₄ l₁₅ l₁₆ l₁₇ l₁₈ l₁₉ l₂₀ l₂₁ = (HearAnswerL.mir, l₀) ∷ ((tyInt w32), l₁) ∷ ((tyInt w32), l₂) ∷ ((sliceTy (tyRef (named 0) imm (tyInt w8))), l₃) ∷ ((sliceTy (tyRef (named 1) mut (pointee (RecordT.the-row .written)))), l₄) ∷ (LinkStatesL.mir, l₅) ∷ ((sliceTy (tyRef (named 2) imm (tyInt w8))), l₆) ∷ ((sliceTy (tyRef (named 3) mut (tyInt w8))), l₇) ∷ (ParsedL.mir, l₈) ∷ ((tyInt w32), l₉) ∷ ((tyInt w64), l₁₀) ∷ ((tyInt w8), l₁₁) ∷ (MessageL.mir, l₁₂) ∷ ((tyRef erased imm (pointee (RecordT.the-row .written))), l₁₃) ∷ ((sliceTy (tyRef erased imm (pointee (RecordT.the-row .written)))), l₁₄) ∷ ((tyInt w64), l₁₅) ∷ ((tyInt w64), l₁₆) ∷ ((tyInt w64), l₁₇) ∷ ((tyRef erased mut (pointee (RecordT.the-row .written))), l₁₈) ∷ ((sliceTy (tyRef erased mut (pointee (RecordT.the-row .written)))), l₁₉) ∷ ((tyRef erased mut (tyInt w8)), l₂₀) ∷ ((sliceTy (tyRef erased mut (tyInt w8))), l₂₁) ∷ []
+    abbrev locals : ℕ → ℕ → ℕ → ℕ → ℕ → ℕ → ℕ → ℕ → ℕ → ℕ → ℕ → ℕ → ℕ → ℕ → ℕ → ℕ → ℕ → ℕ → ℕ → ℕ → Env 𝓤 H
+    locals l₀ l₁ l₂ l₃ l₄ l₅ l₆ l₇ l₈ l₉ l₁₀ l₁₁ l₁₂ l₁₃ l₁₄ l₁₅ l₁₆ l₁₇ l₁₈ l₁₉ = (HearAnswerL.mir, l₀) ∷ ((tyInt w32), l₁) ∷ ((tyInt w32), l₂) ∷ ((sliceTy (tyRef (named 0) imm (tyInt w8))), l₃) ∷ ((sliceTy (tyRef (named 1) mut (pointee (RecordT.the-row .written)))), l₄) ∷ (LinkStatesL.mir, l₅) ∷ ((sliceTy (tyRef (named 2) imm (tyInt w8))), l₆) ∷ ((tyRef (named 3) mut (pointee ((Array u8 44) .written))), l₇) ∷ (ParsedL.mir, l₈) ∷ ((tyInt w32), l₉) ∷ ((tyInt w64), l₁₀) ∷ ((tyInt w8), l₁₁) ∷ (MessageL.mir, l₁₂) ∷ ((tyRef erased imm (pointee (RecordT.the-row .written))), l₁₃) ∷ ((sliceTy (tyRef erased imm (pointee (RecordT.the-row .written)))), l₁₄) ∷ ((tyInt w64), l₁₅) ∷ ((tyInt w64), l₁₆) ∷ ((tyRef erased mut (pointee (RecordT.the-row .written))), l₁₇) ∷ ((sliceTy (tyRef erased mut (pointee (RecordT.the-row .written)))), l₁₈) ∷ ((tyRef erased mut (pointee ((Array u8 44) .written))), l₁₉) ∷ []
 
-    part-4 : (l₀ l₁ l₂ l₃ l₄ l₅ l₆ l₇ l₈ l₉ l₁₀ l₁₁ l₁₂ l₁₃ l₁₄ l₁₅ l₁₆ l₁₇ l₁₈ l₁₉ l₂₀ l₂₁ : ℕ) (w : Val) (r : Parsed) (ws : Unit {0} × Unit {0}) (e : r ≡ parsedIn (ys-bytes)) (is : Is ParsedT.the-row r (w ∷ [])) (w₂ : Val) (r₂ : ℕ) (ws₂ : Unit {0} × Unit {0}) (e₂ : r₂ ≡ r .message .token) (is₂ : Is u32 r₂ (w₂ ∷ [])) (w₃ : Val) (r₃ : ℕ) (ws₃ : Unit {0} × (Unit {0} × Unit {0})) (e₃ : r₃ ≡ holderIn (ys-table) r₂) (is₃ : Is usize r₃ (w₃ ∷ [])) (w₄ : Val) (r₄ : ℕ) (ws₄ : Unit {0} × (Unit {0} × (Unit {0} × (Unit {0} × (Unit {0} × (Unit {0} × (Unit {0} × Unit {0}))))))) (e₄ : r₄ ≡ refusedBefore s n (length ys-mem) (length ys-table) (length ys-message) (r .good) r₃) (is₄ : Is u8 r₄ (w₄ ∷ [])) → Sq W (‵ Own-table ∷ ‵ (flft κ₁ q₁) ∷ ‵ (flft κ₂ q₂) ∷ ‵ Own-bytes ∷ ‵ (flft κ₃ q₃) ∷ ‵ (flft κ₀ q₀) ∷ ‵ Own-message ∷ ‵ Own-mem ∷ ‵ (froom (sliceTy (tyRef erased mut (tyInt w8))) l₂₁ 0) ∷ ‵ (fdies (sliceTy (tyRef erased mut (tyInt w8))) l₂₁) ∷ ‵ (froom (tyRef erased mut (tyInt w8)) l₂₀ 0) ∷ ‵ (fdies (tyRef erased mut (tyInt w8)) l₂₀) ∷ ‵ (froom (sliceTy (tyRef erased mut (pointee (RecordT.the-row .written)))) l₁₉ 0) ∷ ‵ (fdies (sliceTy (tyRef erased mut (pointee (RecordT.the-row .written)))) l₁₉) ∷ ‵ (froom (tyRef erased mut (pointee (RecordT.the-row .written))) l₁₈ 0) ∷ ‵ (fdies (tyRef erased mut (pointee (RecordT.the-row .written))) l₁₈) ∷ ‵ (fat fullShare (tyInt w64) l₁₇ 0 (vint w64 (length ys-message))) ∷ ‵ (fdies (tyInt w64) l₁₇) ∷ ‵ (fat fullShare (tyInt w64) l₁₆ 0 (vint w64 (length ys-table))) ∷ ‵ (fdies (tyInt w64) l₁₆) ∷ ‵ (fat fullShare (tyInt w64) l₁₅ 0 (vint w64 (length ys-mem))) ∷ ‵ (fdies (tyInt w64) l₁₅) ∷ ‵ (fat fullShare (sliceTy (tyRef erased imm (pointee (RecordT.the-row .written)))) l₁₄ 0 (s-table)) ∷ ‵ (fdies (sliceTy (tyRef erased imm (pointee (RecordT.the-row .written)))) l₁₄) ∷ ‵ (fat fullShare (tyRef erased imm (pointee (RecordT.the-row .written))) l₁₃ 0 (vptr b-table o-table)) ∷ ‵ (fdies (tyRef erased imm (pointee (RecordT.the-row .written))) l₁₃) ∷ ‵ (froom MessageL.mir l₁₂ 0) ∷ ‵ (fdies MessageL.mir l₁₂) ∷ ‵ (fat fullShare (tyInt w8) l₁₁ 0 (vint w8 r₄)) ∷ ‵ (fdies (tyInt w8) l₁₁) ∷ ‵ (fat fullShare (tyInt w64) l₁₀ 0 (vint w64 r₃)) ∷ ‵ (fdies (tyInt w64) l₁₀) ∷ ‵ (fat fullShare (tyInt w32) l₉ 0 (vint w32 r₂)) ∷ ‵ (fdies (tyInt w32) l₉) ∷ ‵ (fat fullShare ParsedL.mir l₈ 0 (ParsedL.lowered r)) ∷ ‵ (fdies ParsedL.mir l₈) ∷ ‵ (fat fullShare (sliceTy (tyRef (named 3) mut (tyInt w8))) l₇ 0 (s-message)) ∷ ‵ (fdies (sliceTy (tyRef (named 3) mut (tyInt w8))) l₇) ∷ ‵ (fat fullShare (sliceTy (tyRef (named 2) imm (tyInt w8))) l₆ 0 (s-bytes)) ∷ ‵ (fdies (sliceTy (tyRef (named 2) imm (tyInt w8))) l₆) ∷ ‵ (fat fullShare LinkStatesL.mir l₅ 0 (v-links)) ∷ ‵ (fdies LinkStatesL.mir l₅) ∷ ‵ (fat fullShare (sliceTy (tyRef (named 1) mut (pointee (RecordT.the-row .written)))) l₄ 0 (s-table)) ∷ ‵ (fdies (sliceTy (tyRef (named 1) mut (pointee (RecordT.the-row .written)))) l₄) ∷ ‵ (fat fullShare (sliceTy (tyRef (named 0) imm (tyInt w8))) l₃ 0 (s-mem)) ∷ ‵ (fdies (sliceTy (tyRef (named 0) imm (tyInt w8))) l₃) ∷ ‵ (fat fullShare (tyInt w32) l₂ 0 (vint w32 n)) ∷ ‵ (fdies (tyInt w32) l₂) ∷ ‵ (fat fullShare (tyInt w32) l₁ 0 (vint w32 s)) ∷ ‵ (fdies (tyInt w32) l₁) ∷ ‵ (froom HearAnswerL.mir l₀ 0) ∷ ‵ (fdies HearAnswerL.mir l₀) ∷ []) (runs C Λ (locals l₀ l₁ l₂ l₃ l₄ l₅ l₆ l₇ l₈ l₉ l₁₀ l₁₁ l₁₂ l₁₃ l₁₄ l₁₅ l₁₆ l₁₇ l₁₈ l₁₉ l₂₀ l₂₁) (after 9 (code.function .body)) (atRet (locals l₀ l₁ l₂ l₃ l₄ l₅ l₆ l₇ l₈ l₉ l₁₀ l₁₁ l₁₂ l₁₃ l₁₄ l₁₅ l₁₆ l₁₇ l₁₈ l₁₉ l₂₀ l₂₁) Post))
-    part-4 l₀ l₁ l₂ l₃ l₄ l₅ l₆ l₇ l₈ l₉ l₁₀ l₁₁ l₁₂ l₁₃ l₁₄ l₁₅ l₁₆ l₁₇ l₁₈ l₁₉ l₂₀ l₂₁ w r ws e is w₂ r₂ ws₂ e₂ is₂ w₃ r₃ ws₃ e₃ is₃ w₄ r₄ ws₄ e₄ is₄ =
-        assigns ! (of-opd ! (load ! (from ! (fld ! refl (stop !))) (look-in ! 34 (sub ! 1 refl (whole !))))) (from ! (stop !)) (init ! 26 refl (LL.lawful MessageT.the-type MessageL.the-laws 𝓤 H A W .typed (r .message) _ (Parsed-message-is r w is) .0)) $
-        assigns ! (addr ! (from ! (fld ! refl (hop ! (look-in ! 42 (sub ! 0 refl (whole !))) (stop !))))) (from ! (stop !)) (init ! 14 refl (tt, tt)) $
-        assigns ! (agg ! (and-then ! (load ! (from ! (stop !)) (look ! 14 refl)) (and-then ! (load ! (from ! (fld ! refl (stop !))) (look-in ! 42 (sub ! 1 refl (whole !)))) (no-more !)))) (from ! (stop !)) (init ! 12 refl (tt, (tt, (record { fits = g-table .0 }, tt)))) $
-        assigns ! (addr ! (from ! (fld ! refl (hop ! (look-in ! 36 (sub ! 0 refl (whole !))) (stop !))))) (from ! (stop !)) (init ! 10 refl (tt, tt)) $
-        assigns ! (agg ! (and-then ! (load ! (from ! (stop !)) (look ! 10 refl)) (and-then ! (load ! (from ! (fld ! refl (stop !))) (look-in ! 36 (sub ! 1 refl (whole !)))) (no-more !)))) (from ! (stop !)) (init ! 8 refl (tt, (tt, (record { fits = g-message .0 }, tt)))) $
+    part-4 : (l₀ l₁ l₂ l₃ l₄ l₅ l₆ l₇ l₈ l₉ l₁₀ l₁₁ l₁₂ l₁₃ l₁₄ l₁₅ l₁₆ l₁₇ l₁₈ l₁₉ : ℕ) (w : Val) (r : Parsed) (ws : Unit {0} × Unit {0}) (e : r ≡ parsedIn (ys-bytes)) (is : Is ParsedT.the-row r (w ∷ [])) (w₂ : Val) (r₂ : ℕ) (ws₂ : Unit {0} × Unit {0}) (e₂ : r₂ ≡ r .message .token) (is₂ : Is u32 r₂ (w₂ ∷ [])) (w₃ : Val) (r₃ : ℕ) (ws₃ : Unit {0} × (Unit {0} × Unit {0})) (e₃ : r₃ ≡ holderIn (ys-table) r₂) (is₃ : Is usize r₃ (w₃ ∷ [])) (w₄ : Val) (r₄ : ℕ) (ws₄ : Unit {0} × (Unit {0} × (Unit {0} × (Unit {0} × (Unit {0} × (Unit {0} × Unit {0})))))) (e₄ : r₄ ≡ refusedBefore s n (length ys-mem) (length ys-table) (r .good) r₃) (is₄ : Is u8 r₄ (w₄ ∷ [])) → Sq W (‵ Own-table ∷ ‵ (flft κ₁ q₁) ∷ ‵ (flft κ₂ q₂) ∷ ‵ Own-bytes ∷ ‵ (flft κ₃ q₃) ∷ ‵ (flft κ₀ q₀) ∷ ‵ Own-message ∷ ‵ Own-mem ∷ ‵ (froom (tyRef erased mut (pointee ((Array u8 44) .written))) l₁₉ 0) ∷ ‵ (fdies (tyRef erased mut (pointee ((Array u8 44) .written))) l₁₉) ∷ ‵ (froom (sliceTy (tyRef erased mut (pointee (RecordT.the-row .written)))) l₁₈ 0) ∷ ‵ (fdies (sliceTy (tyRef erased mut (pointee (RecordT.the-row .written)))) l₁₈) ∷ ‵ (froom (tyRef erased mut (pointee (RecordT.the-row .written))) l₁₇ 0) ∷ ‵ (fdies (tyRef erased mut (pointee (RecordT.the-row .written))) l₁₇) ∷ ‵ (fat fullShare (tyInt w64) l₁₆ 0 (vint w64 (length ys-table))) ∷ ‵ (fdies (tyInt w64) l₁₆) ∷ ‵ (fat fullShare (tyInt w64) l₁₅ 0 (vint w64 (length ys-mem))) ∷ ‵ (fdies (tyInt w64) l₁₅) ∷ ‵ (fat fullShare (sliceTy (tyRef erased imm (pointee (RecordT.the-row .written)))) l₁₄ 0 (s-table)) ∷ ‵ (fdies (sliceTy (tyRef erased imm (pointee (RecordT.the-row .written)))) l₁₄) ∷ ‵ (fat fullShare (tyRef erased imm (pointee (RecordT.the-row .written))) l₁₃ 0 (vptr b-table o-table)) ∷ ‵ (fdies (tyRef erased imm (pointee (RecordT.the-row .written))) l₁₃) ∷ ‵ (froom MessageL.mir l₁₂ 0) ∷ ‵ (fdies MessageL.mir l₁₂) ∷ ‵ (fat fullShare (tyInt w8) l₁₁ 0 (vint w8 r₄)) ∷ ‵ (fdies (tyInt w8) l₁₁) ∷ ‵ (fat fullShare (tyInt w64) l₁₀ 0 (vint w64 r₃)) ∷ ‵ (fdies (tyInt w64) l₁₀) ∷ ‵ (fat fullShare (tyInt w32) l₉ 0 (vint w32 r₂)) ∷ ‵ (fdies (tyInt w32) l₉) ∷ ‵ (fat fullShare ParsedL.mir l₈ 0 (ParsedL.lowered r)) ∷ ‵ (fdies ParsedL.mir l₈) ∷ ‵ (fat fullShare (tyRef (named 3) mut (pointee ((Array u8 44) .written))) l₇ 0 (s-message)) ∷ ‵ (fdies (tyRef (named 3) mut (pointee ((Array u8 44) .written))) l₇) ∷ ‵ (fat fullShare (sliceTy (tyRef (named 2) imm (tyInt w8))) l₆ 0 (s-bytes)) ∷ ‵ (fdies (sliceTy (tyRef (named 2) imm (tyInt w8))) l₆) ∷ ‵ (fat fullShare LinkStatesL.mir l₅ 0 (v-links)) ∷ ‵ (fdies LinkStatesL.mir l₅) ∷ ‵ (fat fullShare (sliceTy (tyRef (named 1) mut (pointee (RecordT.the-row .written)))) l₄ 0 (s-table)) ∷ ‵ (fdies (sliceTy (tyRef (named 1) mut (pointee (RecordT.the-row .written)))) l₄) ∷ ‵ (fat fullShare (sliceTy (tyRef (named 0) imm (tyInt w8))) l₃ 0 (s-mem)) ∷ ‵ (fdies (sliceTy (tyRef (named 0) imm (tyInt w8))) l₃) ∷ ‵ (fat fullShare (tyInt w32) l₂ 0 (vint w32 n)) ∷ ‵ (fdies (tyInt w32) l₂) ∷ ‵ (fat fullShare (tyInt w32) l₁ 0 (vint w32 s)) ∷ ‵ (fdies (tyInt w32) l₁) ∷ ‵ (froom HearAnswerL.mir l₀ 0) ∷ ‵ (fdies HearAnswerL.mir l₀) ∷ []) (runs C Λ (locals l₀ l₁ l₂ l₃ l₄ l₅ l₆ l₇ l₈ l₉ l₁₀ l₁₁ l₁₂ l₁₃ l₁₄ l₁₅ l₁₆ l₁₇ l₁₈ l₁₉) (after 8 (code.function .body)) (atRet (locals l₀ l₁ l₂ l₃ l₄ l₅ l₆ l₇ l₈ l₉ l₁₀ l₁₁ l₁₂ l₁₃ l₁₄ l₁₅ l₁₆ l₁₇ l₁₈ l₁₉) Post))
+    part-4 l₀ l₁ l₂ l₃ l₄ l₅ l₆ l₇ l₈ l₉ l₁₀ l₁₁ l₁₂ l₁₃ l₁₄ l₁₅ l₁₆ l₁₇ l₁₈ l₁₉ w r ws e is w₂ r₂ ws₂ e₂ is₂ w₃ r₃ ws₃ e₃ is₃ w₄ r₄ ws₄ e₄ is₄ =
+        assigns ! (of-opd ! (load ! (from ! (fld ! refl (stop !))) (look-in ! 30 (sub ! 1 refl (whole !))))) (from ! (stop !)) (init ! 22 refl (LL.lawful MessageT.the-type MessageL.the-laws 𝓤 H A W .typed (r .message) _ (Parsed-message-is r w is) .0)) $
+        assigns ! (addr ! (from ! (fld ! refl (hop ! (look-in ! 38 (sub ! 0 refl (whole !))) (stop !))))) (from ! (stop !)) (init ! 12 refl (tt, tt)) $
+        assigns ! (agg ! (and-then ! (load ! (from ! (stop !)) (look ! 12 refl)) (and-then ! (load ! (from ! (fld ! refl (stop !))) (look-in ! 38 (sub ! 1 refl (whole !)))) (no-more !)))) (from ! (stop !)) (init ! 10 refl (tt, (tt, (record { fits = g-table .0 }, tt)))) $
+        assigns ! (addr ! (from ! (hop ! (look ! 32 refl) (stop !)))) (from ! (stop !)) (init ! 8 refl (tt, tt)) $
         nothing ! $ move ! (7 ∷ 0 ∷ []) $ join ! $ move ! (1 ∷ 0 ∷ []) $ join ! $ move ! (4 ∷ 0 ∷ []) $ join ! $ move ! (1 ∷ 0 ∷ []) $ join ! $ use1 W (raw (C-f-hear-unless 𝓤 H A mem run .pre (to-f-hear-unless 𝓤 H A mem run κ₁ q₁ κ₃ q₃ r₄ (vint w8 r₄) n (vint w32 n) x-table s-table links (v-links) r₃ (vint w64 r₃) (r .message) (MessageL.lowered (r .message)) x-message s-message))) (goes-f-hear-unless 𝓤 H A W mem run κ₁ q₁ κ₃ q₃ r₄ (vint w8 r₄) n (vint w32 n) x-table s-table links (v-links) r₃ (vint w64 r₃) (r .message) (MessageL.lowered (r .message)) x-message s-message (refl, (is₄ .1)) (refl, g-n) g-links (refl, (is₃ .1)) (Parsed-message-is r w is)) $
-        calls-at ! fm (C-f-hear-unless 𝓤 H A mem run) known-f-hear-unless (to-f-hear-unless 𝓤 H A mem run κ₁ q₁ κ₃ q₃ r₄ (vint w8 r₄) n (vint w32 n) x-table s-table links (v-links) r₃ (vint w64 r₃) (r .message) (MessageL.lowered (r .message)) x-message s-message) (and-then ! (load ! (from ! (stop !)) (look ! 25 refl)) (and-then ! (load ! (from ! (stop !)) (look ! 43 refl)) (and-then ! (load ! (from ! (stop !)) (look ! 9 refl)) (and-then ! (load ! (from ! (stop !)) (look ! 37 refl)) (and-then ! (load ! (from ! (stop !)) (look ! 27 refl)) (and-then ! (load ! (from ! (stop !)) (look ! 23 refl)) (and-then ! (load ! (from ! (stop !)) (look ! 5 refl)) (no-more !)))))))) (λ w₅.
+        calls-at ! fm (C-f-hear-unless 𝓤 H A mem run) known-f-hear-unless (to-f-hear-unless 𝓤 H A mem run κ₁ q₁ κ₃ q₃ r₄ (vint w8 r₄) n (vint w32 n) x-table s-table links (v-links) r₃ (vint w64 r₃) (r .message) (MessageL.lowered (r .message)) x-message s-message) (and-then ! (load ! (from ! (stop !)) (look ! 21 refl)) (and-then ! (load ! (from ! (stop !)) (look ! 39 refl)) (and-then ! (load ! (from ! (stop !)) (look ! 7 refl)) (and-then ! (load ! (from ! (stop !)) (look ! 33 refl)) (and-then ! (load ! (from ! (stop !)) (look ! 23 refl)) (and-then ! (load ! (from ! (stop !)) (look ! 19 refl)) (and-then ! (load ! (from ! (stop !)) (look ! 5 refl)) (no-more !)))))))) (λ w₅.
         use1 W (later (some (λ (r₅ : HearAnswer). ((‵ (flft κ₁ q₁) ⊛ ‵ (flft κ₃ q₃) ⊛ ‵ ftrue) ⊛ ‵ (HearAnswerT.the-row .own r₅ (w₅ ∷ []))) ⊛ raw (ensured 𝓤 H A f-hear-unless.ended (f-hear-unless.clauses 𝓤 H A mem run) (κ₁, (κ₃, tt)) (r₄, (n, (x-table, (links, (r₃, ((r .message), (x-message, tt))))))) tt r₅)))) (id⊢ 𝓤 _) $ await ! tt $ pick ! (λ r₅.
         split ! $ move ! (1 ∷ []) $ use1 W (some (λ (ws₅ : Unit {0} × (Unit {0} × (List Record × (Unit {0} × (Unit {0} × (Unit {0} × (List ℕ × Unit {0}))))))). ‵ (lasts f-hear-unless.ended (κ₁, (κ₃, tt)) (r₄, (n, (x-table, (links, (r₃, ((r .message), (x-message, tt))))))) ws₅) ⊛ raw (fact 𝓤 (HeardBy r₄ n (ys-table) (links .active) r₃ (r .message) (ys-message) r₅ (ws₅ .1 .1 .0) (ws₅ .1 .1 .1 .1 .1 .1 .0))))) (id⊢ 𝓤 _) $ pick ! (λ ws₅.
         split ! $ move ! (1 ∷ []) $ heard ! (HeardBy r₄ n (ys-table) (links .active) r₃ (r .message) (ys-message) r₅ (ws₅ .1 .1 .0) (ws₅ .1 .1 .1 .1 .1 .1 .0)) (λ e₅.
-        fsplit ! $ drop ! $ fsplit ! $ drop ! $ fsplit ! $ fsplit ! $ move ! (1 ∷ []) $ feqL ! (λ len. move ! (1 ∷ []) $ fsplit ! $ drop ! $ fsplit ! $ drop ! $ fsplit ! $ drop ! $ fsplit ! $ fsplit ! $ move ! (1 ∷ []) $ feqL ! (λ len₂. move ! (1 ∷ []) $ drop ! $ move ! (2 ∷ []) $ split ! $
+        fsplit ! $ drop ! $ fsplit ! $ drop ! $ fsplit ! $ fsplit ! $ move ! (1 ∷ []) $ feqL ! (λ len. move ! (1 ∷ []) $ fsplit ! $ drop ! $ fsplit ! $ drop ! $ fsplit ! $ drop ! $ fsplit ! $ move ! (1 ∷ []) $ drop ! $ move ! (2 ∷ []) $ split ! $
         move ! (1 ∷ []) $ peeks ! HearAnswerT.the-row (Is HearAnswerT.the-row) (shows 𝓤 H A HearAnswerT.the-row) r₅ (w₅ ∷ []) (λ is₅. drop ! $
-        land ! (from ! (stop !)) (init ! 49 refl (LL.lawful HearAnswerT.the-type HearAnswerL.the-laws 𝓤 H A W .typed r₅ _ is₅ .0)) $
+        land ! (from ! (stop !)) (init ! 45 refl (LL.lawful HearAnswerT.the-type HearAnswerL.the-laws 𝓤 H A W .typed r₅ _ is₅ .0)) $
         split ! $ move ! (1 ∷ []) $ split ! $ move ! (1 ∷ []) $ drop ! $
-        returns ! (look ! 50 refl) $ forget ! 8 refl $ forget ! 10 refl $ forget ! 12 refl $ forget ! 14 refl $ forget ! 16 refl $ forget ! 18 refl $ forget ! 20 refl $ forget ! 22 refl $ forget ! 24 refl $ forget ! 26 refl $ forget ! 28 refl $ forget ! 30 refl $ forget ! 32 refl $ forget ! 34 refl $ forget ! 36 refl $ forget ! 38 refl $ forget ! 40 refl $ forget ! 42 refl $ forget ! 44 refl $ forget ! 46 refl $ forget ! 48 refl $ forget ! 50 refl $
-        move ! (50 ∷ 51 ∷ []) $ free1 ! $ move ! (48 ∷ 49 ∷ []) $ free1 ! $ move ! (46 ∷ 47 ∷ []) $ free1 ! $ move ! (44 ∷ 45 ∷ []) $ free1 ! $ move ! (42 ∷ 43 ∷ []) $ free1 ! $ move ! (40 ∷ 41 ∷ []) $ free1 ! $ move ! (38 ∷ 39 ∷ []) $ free1 ! $ move ! (36 ∷ 37 ∷ []) $ free1 ! $ move ! (34 ∷ 35 ∷ []) $ free1 ! $ move ! (32 ∷ 33 ∷ []) $ free1 ! $ move ! (30 ∷ 31 ∷ []) $ free1 ! $ move ! (28 ∷ 29 ∷ []) $ free1 ! $ move ! (26 ∷ 27 ∷ []) $ free1 ! $ move ! (24 ∷ 25 ∷ []) $ free1 ! $ move ! (22 ∷ 23 ∷ []) $ free1 ! $ move ! (20 ∷ 21 ∷ []) $ free1 ! $ move ! (18 ∷ 19 ∷ []) $ free1 ! $ move ! (16 ∷ 17 ∷ []) $ free1 ! $ move ! (14 ∷ 15 ∷ []) $ free1 ! $ move ! (12 ∷ 13 ∷ []) $ free1 ! $ move ! (10 ∷ 11 ∷ []) $ free1 ! $ move ! (8 ∷ 9 ∷ []) $ free1 ! $ free0 ! $
-        keep ! (6 ∷ 1 ∷ 4 ∷ 0 ∷ 3 ∷ 2 ∷ []) $ by ! (exits r₅ (w₅) (ws₅ .1 .1 .0) (ws₅ .1 .1 .1 .1 .1 .1 .0) len len₂ (fordlinnet-make-hear-returns s n ys-mem ys-table links ys-bytes ys-message r e r₂ e₂ r₃ e₃ r₄ e₄ r₅ (ws₅ .1 .1 .0) (ws₅ .1 .1 .1 .1 .1 .1 .0) e₅) is₅))))))))
+        returns ! (look ! 46 refl) $ forget ! 8 refl $ forget ! 10 refl $ forget ! 12 refl $ forget ! 14 refl $ forget ! 16 refl $ forget ! 18 refl $ forget ! 20 refl $ forget ! 22 refl $ forget ! 24 refl $ forget ! 26 refl $ forget ! 28 refl $ forget ! 30 refl $ forget ! 32 refl $ forget ! 34 refl $ forget ! 36 refl $ forget ! 38 refl $ forget ! 40 refl $ forget ! 42 refl $ forget ! 44 refl $ forget ! 46 refl $
+        move ! (46 ∷ 47 ∷ []) $ free1 ! $ move ! (44 ∷ 45 ∷ []) $ free1 ! $ move ! (42 ∷ 43 ∷ []) $ free1 ! $ move ! (40 ∷ 41 ∷ []) $ free1 ! $ move ! (38 ∷ 39 ∷ []) $ free1 ! $ move ! (36 ∷ 37 ∷ []) $ free1 ! $ move ! (34 ∷ 35 ∷ []) $ free1 ! $ move ! (32 ∷ 33 ∷ []) $ free1 ! $ move ! (30 ∷ 31 ∷ []) $ free1 ! $ move ! (28 ∷ 29 ∷ []) $ free1 ! $ move ! (26 ∷ 27 ∷ []) $ free1 ! $ move ! (24 ∷ 25 ∷ []) $ free1 ! $ move ! (22 ∷ 23 ∷ []) $ free1 ! $ move ! (20 ∷ 21 ∷ []) $ free1 ! $ move ! (18 ∷ 19 ∷ []) $ free1 ! $ move ! (16 ∷ 17 ∷ []) $ free1 ! $ move ! (14 ∷ 15 ∷ []) $ free1 ! $ move ! (12 ∷ 13 ∷ []) $ free1 ! $ move ! (10 ∷ 11 ∷ []) $ free1 ! $ move ! (8 ∷ 9 ∷ []) $ free1 ! $ free0 ! $
+        keep ! (6 ∷ 1 ∷ 4 ∷ 0 ∷ 3 ∷ 2 ∷ []) $ by ! (exits r₅ (w₅) (ws₅ .1 .1 .0) (ws₅ .1 .1 .1 .1 .1 .1 .0) len (fordlinnet-make-hear-returns s n ys-mem ys-table links ys-bytes ys-message r e r₂ e₂ r₃ e₃ r₄ e₄ r₅ (ws₅ .1 .1 .0) (ws₅ .1 .1 .1 .1 .1 .1 .0) e₅) is₅)))))))
 
-    part-3 : (l₀ l₁ l₂ l₃ l₄ l₅ l₆ l₇ l₈ l₉ l₁₀ l₁₁ l₁₂ l₁₃ l₁₄ l₁₅ l₁₆ l₁₇ l₁₈ l₁₉ l₂₀ l₂₁ : ℕ) (w : Val) (r : Parsed) (ws : Unit {0} × Unit {0}) (e : r ≡ parsedIn (ys-bytes)) (is : Is ParsedT.the-row r (w ∷ [])) (w₂ : Val) (r₂ : ℕ) (ws₂ : Unit {0} × Unit {0}) (e₂ : r₂ ≡ r .message .token) (is₂ : Is u32 r₂ (w₂ ∷ [])) → Sq W (‵ (flft κ₂ q₂) ∷ ‵ Own-bytes ∷ ‵ (flft κ₃ q₃) ∷ ‵ (flft κ₁ q₁) ∷ ‵ (flft κ₀ q₀) ∷ ‵ Own-message ∷ ‵ Own-table ∷ ‵ Own-mem ∷ ‵ (froom (sliceTy (tyRef erased mut (tyInt w8))) l₂₁ 0) ∷ ‵ (fdies (sliceTy (tyRef erased mut (tyInt w8))) l₂₁) ∷ ‵ (froom (tyRef erased mut (tyInt w8)) l₂₀ 0) ∷ ‵ (fdies (tyRef erased mut (tyInt w8)) l₂₀) ∷ ‵ (froom (sliceTy (tyRef erased mut (pointee (RecordT.the-row .written)))) l₁₉ 0) ∷ ‵ (fdies (sliceTy (tyRef erased mut (pointee (RecordT.the-row .written)))) l₁₉) ∷ ‵ (froom (tyRef erased mut (pointee (RecordT.the-row .written))) l₁₈ 0) ∷ ‵ (fdies (tyRef erased mut (pointee (RecordT.the-row .written))) l₁₈) ∷ ‵ (froom (tyInt w64) l₁₇ 0) ∷ ‵ (fdies (tyInt w64) l₁₇) ∷ ‵ (froom (tyInt w64) l₁₆ 0) ∷ ‵ (fdies (tyInt w64) l₁₆) ∷ ‵ (froom (tyInt w64) l₁₅ 0) ∷ ‵ (fdies (tyInt w64) l₁₅) ∷ ‵ (froom (sliceTy (tyRef erased imm (pointee (RecordT.the-row .written)))) l₁₄ 0) ∷ ‵ (fdies (sliceTy (tyRef erased imm (pointee (RecordT.the-row .written)))) l₁₄) ∷ ‵ (froom (tyRef erased imm (pointee (RecordT.the-row .written))) l₁₃ 0) ∷ ‵ (fdies (tyRef erased imm (pointee (RecordT.the-row .written))) l₁₃) ∷ ‵ (froom MessageL.mir l₁₂ 0) ∷ ‵ (fdies MessageL.mir l₁₂) ∷ ‵ (froom (tyInt w8) l₁₁ 0) ∷ ‵ (fdies (tyInt w8) l₁₁) ∷ ‵ (froom (tyInt w64) l₁₀ 0) ∷ ‵ (fdies (tyInt w64) l₁₀) ∷ ‵ (fat fullShare (tyInt w32) l₉ 0 (vint w32 r₂)) ∷ ‵ (fdies (tyInt w32) l₉) ∷ ‵ (fat fullShare ParsedL.mir l₈ 0 (ParsedL.lowered r)) ∷ ‵ (fdies ParsedL.mir l₈) ∷ ‵ (fat fullShare (sliceTy (tyRef (named 3) mut (tyInt w8))) l₇ 0 (s-message)) ∷ ‵ (fdies (sliceTy (tyRef (named 3) mut (tyInt w8))) l₇) ∷ ‵ (fat fullShare (sliceTy (tyRef (named 2) imm (tyInt w8))) l₆ 0 (s-bytes)) ∷ ‵ (fdies (sliceTy (tyRef (named 2) imm (tyInt w8))) l₆) ∷ ‵ (fat fullShare LinkStatesL.mir l₅ 0 (v-links)) ∷ ‵ (fdies LinkStatesL.mir l₅) ∷ ‵ (fat fullShare (sliceTy (tyRef (named 1) mut (pointee (RecordT.the-row .written)))) l₄ 0 (s-table)) ∷ ‵ (fdies (sliceTy (tyRef (named 1) mut (pointee (RecordT.the-row .written)))) l₄) ∷ ‵ (fat fullShare (sliceTy (tyRef (named 0) imm (tyInt w8))) l₃ 0 (s-mem)) ∷ ‵ (fdies (sliceTy (tyRef (named 0) imm (tyInt w8))) l₃) ∷ ‵ (fat fullShare (tyInt w32) l₂ 0 (vint w32 n)) ∷ ‵ (fdies (tyInt w32) l₂) ∷ ‵ (fat fullShare (tyInt w32) l₁ 0 (vint w32 s)) ∷ ‵ (fdies (tyInt w32) l₁) ∷ ‵ (froom HearAnswerL.mir l₀ 0) ∷ ‵ (fdies HearAnswerL.mir l₀) ∷ []) (runs C Λ (locals l₀ l₁ l₂ l₃ l₄ l₅ l₆ l₇ l₈ l₉ l₁₀ l₁₁ l₁₂ l₁₃ l₁₄ l₁₅ l₁₆ l₁₇ l₁₈ l₁₉ l₂₀ l₂₁) (after 2 (code.function .body)) (atRet (locals l₀ l₁ l₂ l₃ l₄ l₅ l₆ l₇ l₈ l₉ l₁₀ l₁₁ l₁₂ l₁₃ l₁₄ l₁₅ l₁₆ l₁₇ l₁₈ l₁₉ l₂₀ l₂₁) Post))
-    part-3 l₀ l₁ l₂ l₃ l₄ l₅ l₆ l₇ l₈ l₉ l₁₀ l₁₁ l₁₂ l₁₃ l₁₄ l₁₅ l₁₆ l₁₇ l₁₈ l₁₉ l₂₀ l₂₁ w r ws e is w₂ r₂ ws₂ e₂ is₂ =
-        assigns ! (addr ! (from ! (fld ! refl (hop ! (look-in ! 42 (sub ! 0 refl (whole !))) (stop !))))) (from ! (stop !)) (init ! 24 refl (tt, tt)) $
-        assigns ! (agg ! (and-then ! (load ! (from ! (stop !)) (look ! 24 refl)) (and-then ! (load ! (from ! (fld ! refl (stop !))) (look-in ! 42 (sub ! 1 refl (whole !)))) (no-more !)))) (from ! (stop !)) (init ! 22 refl (tt, (tt, (record { fits = g-table .0 }, tt)))) $
+    part-3 : (l₀ l₁ l₂ l₃ l₄ l₅ l₆ l₇ l₈ l₉ l₁₀ l₁₁ l₁₂ l₁₃ l₁₄ l₁₅ l₁₆ l₁₇ l₁₈ l₁₉ : ℕ) (w : Val) (r : Parsed) (ws : Unit {0} × Unit {0}) (e : r ≡ parsedIn (ys-bytes)) (is : Is ParsedT.the-row r (w ∷ [])) (w₂ : Val) (r₂ : ℕ) (ws₂ : Unit {0} × Unit {0}) (e₂ : r₂ ≡ r .message .token) (is₂ : Is u32 r₂ (w₂ ∷ [])) → Sq W (‵ (flft κ₂ q₂) ∷ ‵ Own-bytes ∷ ‵ (flft κ₃ q₃) ∷ ‵ (flft κ₁ q₁) ∷ ‵ (flft κ₀ q₀) ∷ ‵ Own-message ∷ ‵ Own-table ∷ ‵ Own-mem ∷ ‵ (froom (tyRef erased mut (pointee ((Array u8 44) .written))) l₁₉ 0) ∷ ‵ (fdies (tyRef erased mut (pointee ((Array u8 44) .written))) l₁₉) ∷ ‵ (froom (sliceTy (tyRef erased mut (pointee (RecordT.the-row .written)))) l₁₈ 0) ∷ ‵ (fdies (sliceTy (tyRef erased mut (pointee (RecordT.the-row .written)))) l₁₈) ∷ ‵ (froom (tyRef erased mut (pointee (RecordT.the-row .written))) l₁₇ 0) ∷ ‵ (fdies (tyRef erased mut (pointee (RecordT.the-row .written))) l₁₇) ∷ ‵ (froom (tyInt w64) l₁₆ 0) ∷ ‵ (fdies (tyInt w64) l₁₆) ∷ ‵ (froom (tyInt w64) l₁₅ 0) ∷ ‵ (fdies (tyInt w64) l₁₅) ∷ ‵ (froom (sliceTy (tyRef erased imm (pointee (RecordT.the-row .written)))) l₁₄ 0) ∷ ‵ (fdies (sliceTy (tyRef erased imm (pointee (RecordT.the-row .written)))) l₁₄) ∷ ‵ (froom (tyRef erased imm (pointee (RecordT.the-row .written))) l₁₃ 0) ∷ ‵ (fdies (tyRef erased imm (pointee (RecordT.the-row .written))) l₁₃) ∷ ‵ (froom MessageL.mir l₁₂ 0) ∷ ‵ (fdies MessageL.mir l₁₂) ∷ ‵ (froom (tyInt w8) l₁₁ 0) ∷ ‵ (fdies (tyInt w8) l₁₁) ∷ ‵ (froom (tyInt w64) l₁₀ 0) ∷ ‵ (fdies (tyInt w64) l₁₀) ∷ ‵ (fat fullShare (tyInt w32) l₉ 0 (vint w32 r₂)) ∷ ‵ (fdies (tyInt w32) l₉) ∷ ‵ (fat fullShare ParsedL.mir l₈ 0 (ParsedL.lowered r)) ∷ ‵ (fdies ParsedL.mir l₈) ∷ ‵ (fat fullShare (tyRef (named 3) mut (pointee ((Array u8 44) .written))) l₇ 0 (s-message)) ∷ ‵ (fdies (tyRef (named 3) mut (pointee ((Array u8 44) .written))) l₇) ∷ ‵ (fat fullShare (sliceTy (tyRef (named 2) imm (tyInt w8))) l₆ 0 (s-bytes)) ∷ ‵ (fdies (sliceTy (tyRef (named 2) imm (tyInt w8))) l₆) ∷ ‵ (fat fullShare LinkStatesL.mir l₅ 0 (v-links)) ∷ ‵ (fdies LinkStatesL.mir l₅) ∷ ‵ (fat fullShare (sliceTy (tyRef (named 1) mut (pointee (RecordT.the-row .written)))) l₄ 0 (s-table)) ∷ ‵ (fdies (sliceTy (tyRef (named 1) mut (pointee (RecordT.the-row .written)))) l₄) ∷ ‵ (fat fullShare (sliceTy (tyRef (named 0) imm (tyInt w8))) l₃ 0 (s-mem)) ∷ ‵ (fdies (sliceTy (tyRef (named 0) imm (tyInt w8))) l₃) ∷ ‵ (fat fullShare (tyInt w32) l₂ 0 (vint w32 n)) ∷ ‵ (fdies (tyInt w32) l₂) ∷ ‵ (fat fullShare (tyInt w32) l₁ 0 (vint w32 s)) ∷ ‵ (fdies (tyInt w32) l₁) ∷ ‵ (froom HearAnswerL.mir l₀ 0) ∷ ‵ (fdies HearAnswerL.mir l₀) ∷ []) (runs C Λ (locals l₀ l₁ l₂ l₃ l₄ l₅ l₆ l₇ l₈ l₉ l₁₀ l₁₁ l₁₂ l₁₃ l₁₄ l₁₅ l₁₆ l₁₇ l₁₈ l₁₉) (after 2 (code.function .body)) (atRet (locals l₀ l₁ l₂ l₃ l₄ l₅ l₆ l₇ l₈ l₉ l₁₀ l₁₁ l₁₂ l₁₃ l₁₄ l₁₅ l₁₆ l₁₇ l₁₈ l₁₉) Post))
+    part-3 l₀ l₁ l₂ l₃ l₄ l₅ l₆ l₇ l₈ l₉ l₁₀ l₁₁ l₁₂ l₁₃ l₁₄ l₁₅ l₁₆ l₁₇ l₁₈ l₁₉ w r ws e is w₂ r₂ ws₂ e₂ is₂ =
+        assigns ! (addr ! (from ! (fld ! refl (hop ! (look-in ! 38 (sub ! 0 refl (whole !))) (stop !))))) (from ! (stop !)) (init ! 20 refl (tt, tt)) $
+        assigns ! (agg ! (and-then ! (load ! (from ! (stop !)) (look ! 20 refl)) (and-then ! (load ! (from ! (fld ! refl (stop !))) (look-in ! 38 (sub ! 1 refl (whole !)))) (no-more !)))) (from ! (stop !)) (init ! 18 refl (tt, (tt, (record { fits = g-table .0 }, tt)))) $
         move ! (6 ∷ []) $ fsplit ! $ move ! (1 ∷ []) $ fsplit ! $ move ! (0 ∷ 1 ∷ 6 ∷ []) $ opens-slice ! tt RecordT.the-row ys-table b-table o-table $ feqI ! ℕ (length ys-table) (length ys-table) refl $ fjoin ! $ lft-new ! tt (λ ν. move ! (1 ∷ []) $ use1 W (later (some (λ (δ : GName). ‵ (ShrSlice (named 1) (ν ∷ []) RecordT.the-row .own (record { ptr = (b-table, o-table); name = δ; now = ys-table }) (s-table ∷ [])) ⊛ ‵ (flent (ν ∷ []) (arr-parts (shares RecordT.the-row) (length ys-table) .part fullShare ys-table b-table o-table))))) (lends-shr-slice 𝓤 H A W RecordT.the-row (named 1) (ν ∷ []) fullShare ys-table b-table o-table g-table) $ await ! tt $ pick ! (λ δ. split ! $
         nothing ! $ move ! (1 ∷ 0 ∷ []) $ join ! $ move ! (2 ∷ 0 ∷ []) $ join ! $ use1 W (raw (C-f-find 𝓤 H A mem run .pre (to-f-find 𝓤 H A mem run (ν ∷ []) fullShare (record { ptr = (b-table, o-table); name = δ; now = ys-table }) s-table r₂ (vint w32 r₂)))) (goes-f-find 𝓤 H A W mem run (ν ∷ []) fullShare (record { ptr = (b-table, o-table); name = δ; now = ys-table }) s-table r₂ (vint w32 r₂) (refl, (is₂ .1))) $
-        calls-at ! fm (C-f-find 𝓤 H A mem run) known-f-find (to-f-find 𝓤 H A mem run (ν ∷ []) fullShare (record { ptr = (b-table, o-table); name = δ; now = ys-table }) s-table r₂ (vint w32 r₂)) (and-then ! (load ! (from ! (stop !)) (look ! 26 refl)) (and-then ! (load ! (from ! (stop !)) (look ! 36 refl)) (no-more !))) (λ w₃.
+        calls-at ! fm (C-f-find 𝓤 H A mem run) known-f-find (to-f-find 𝓤 H A mem run (ν ∷ []) fullShare (record { ptr = (b-table, o-table); name = δ; now = ys-table }) s-table r₂ (vint w32 r₂)) (and-then ! (load ! (from ! (stop !)) (look ! 22 refl)) (and-then ! (load ! (from ! (stop !)) (look ! 32 refl)) (no-more !))) (λ w₃.
         use1 W (later (some (λ (r₃ : ℕ). ((‵ (flft (ν ∷ []) fullShare) ⊛ ‵ ftrue) ⊛ ‵ (usize .own r₃ (w₃ ∷ []))) ⊛ raw (ensured 𝓤 H A f-find.ended (f-find.clauses 𝓤 H A mem run) ((ν ∷ []), tt) ((record { ptr = (b-table, o-table); name = δ; now = ys-table }), (r₂, tt)) tt r₃)))) (id⊢ 𝓤 _) $ await ! tt $ pick ! (λ r₃.
         split ! $ move ! (1 ∷ []) $ use1 W (some (λ (ws₃ : Unit {0} × (Unit {0} × Unit {0})). ‵ (lasts f-find.ended ((ν ∷ []), tt) ((record { ptr = (b-table, o-table); name = δ; now = ys-table }), (r₂, tt)) ws₃) ⊛ raw (fact 𝓤 (r₃ ≡ holderIn (ys-table) r₂)))) (id⊢ 𝓤 _) $ pick ! (λ ws₃.
         split ! $ move ! (1 ∷ []) $ heard ! (r₃ ≡ holderIn (ys-table) r₂) (λ e₃.
         fsplit ! $ drop ! $ fsplit ! $ drop ! $ drop ! $ split ! $
         move ! (1 ∷ []) $ peeks ! usize (Is usize) (shows 𝓤 H A usize) r₃ (w₃ ∷ []) (λ is₃. drop ! $
-        land ! (from ! (stop !)) (init ! 34 refl (uint-lawful 𝓤 H A W w64 .typed r₃ _ is₃ .0)) $ rewrite ! 34 (λ (u : Val). ‵ (fat fullShare (tyInt w64) l₁₀ 0 u)) (ap only (is₃ .0)) refl $
+        land ! (from ! (stop !)) (init ! 30 refl (uint-lawful 𝓤 H A W w64 .typed r₃ _ is₃ .0)) $ rewrite ! 30 (λ (u : Val). ‵ (fat fullShare (tyInt w64) l₁₀ 0 u)) (ap only (is₃ .0)) refl $
         split ! $ move ! (1 ∷ []) $ drop ! $ lft-end ! tt $ lent-back ! tt $ fsplit ! $ drop ! $ closes-slice ! tt RecordT.the-row ys-table ys-table refl b-table o-table $ fjoin ! $ move ! (2 ∷ 0 ∷ []) $ fjoin ! $
-        assigns ! (of-opd ! (load ! (from ! (fld ! refl (stop !))) (look-in ! 44 (sub ! 1 refl (whole !))))) (from ! (stop !)) (init ! 20 refl (tt, record { fits = (g-mem .0) })) $
-        assigns ! (of-opd ! (load ! (from ! (fld ! refl (stop !))) (look-in ! 42 (sub ! 1 refl (whole !))))) (from ! (stop !)) (init ! 18 refl (tt, record { fits = (g-table .0) })) $
-        assigns ! (of-opd ! (load ! (from ! (fld ! refl (stop !))) (look-in ! 36 (sub ! 1 refl (whole !))))) (from ! (stop !)) (init ! 16 refl (tt, record { fits = (g-message .0) })) $
-        use0 W (raw (C-f-before 𝓤 H A mem run .pre (to-f-before 𝓤 H A mem run s (vint w32 s) n (vint w32 n) (length ys-mem) (vint w64 (length ys-mem)) (length ys-table) (vint w64 (length ys-table)) (length ys-message) (vint w64 (length ys-message)) r (ParsedL.lowered r) r₃ (vint w64 r₃)))) (goes-f-before 𝓤 H A W mem run s (vint w32 s) n (vint w32 n) (length ys-mem) (vint w64 (length ys-mem)) (length ys-table) (vint w64 (length ys-table)) (length ys-message) (vint w64 (length ys-message)) r (ParsedL.lowered r) r₃ (vint w64 r₃) (refl, g-s) (refl, g-n) (refl, (g-mem .0)) (refl, (g-table .0)) (refl, (g-message .0)) (subst (Is ParsedT.the-row r) (ParsedL.lowers .val-is r _ is) is) (refl, (is₃ .1))) $
-        calls-at ! fm (C-f-before 𝓤 H A mem run) known-f-before (to-f-before 𝓤 H A mem run s (vint w32 s) n (vint w32 n) (length ys-mem) (vint w64 (length ys-mem)) (length ys-table) (vint w64 (length ys-table)) (length ys-message) (vint w64 (length ys-message)) r (ParsedL.lowered r) r₃ (vint w64 r₃)) (and-then ! (load ! (from ! (stop !)) (look ! 49 refl)) (and-then ! (load ! (from ! (stop !)) (look ! 47 refl)) (and-then ! (load ! (from ! (stop !)) (look ! 21 refl)) (and-then ! (load ! (from ! (stop !)) (look ! 19 refl)) (and-then ! (load ! (from ! (stop !)) (look ! 17 refl)) (and-then ! (load ! (from ! (stop !)) (look ! 35 refl)) (and-then ! (load ! (from ! (stop !)) (look ! 31 refl)) (no-more !)))))))) (λ w₄.
-        use1 W (later (some (λ (r₄ : ℕ). ((‵ ftrue) ⊛ ‵ (u8 .own r₄ (w₄ ∷ []))) ⊛ raw (ensured 𝓤 H A f-before.ended (f-before.clauses 𝓤 H A mem run) tt (s, (n, ((length ys-mem), ((length ys-table), ((length ys-message), (r, (r₃, tt))))))) tt r₄)))) (id⊢ 𝓤 _) $ await ! tt $ pick ! (λ r₄.
-        split ! $ move ! (1 ∷ []) $ use1 W (some (λ (ws₄ : Unit {0} × (Unit {0} × (Unit {0} × (Unit {0} × (Unit {0} × (Unit {0} × (Unit {0} × Unit {0}))))))). ‵ (lasts f-before.ended tt (s, (n, ((length ys-mem), ((length ys-table), ((length ys-message), (r, (r₃, tt))))))) ws₄) ⊛ raw (fact 𝓤 (r₄ ≡ refusedBefore s n (length ys-mem) (length ys-table) (length ys-message) (r .good) r₃)))) (id⊢ 𝓤 _) $ pick ! (λ ws₄.
-        split ! $ move ! (1 ∷ []) $ heard ! (r₄ ≡ refusedBefore s n (length ys-mem) (length ys-table) (length ys-message) (r .good) r₃) (λ e₄.
-        fsplit ! $ drop ! $ fsplit ! $ drop ! $ fsplit ! $ drop ! $ fsplit ! $ drop ! $ fsplit ! $ drop ! $ fsplit ! $ drop ! $ fsplit ! $ drop ! $ drop ! $ split ! $
+        assigns ! (of-opd ! (load ! (from ! (fld ! refl (stop !))) (look-in ! 40 (sub ! 1 refl (whole !))))) (from ! (stop !)) (init ! 16 refl (tt, record { fits = (g-mem .0) })) $
+        assigns ! (of-opd ! (load ! (from ! (fld ! refl (stop !))) (look-in ! 38 (sub ! 1 refl (whole !))))) (from ! (stop !)) (init ! 14 refl (tt, record { fits = (g-table .0) })) $
+        use0 W (raw (C-f-before 𝓤 H A mem run .pre (to-f-before 𝓤 H A mem run s (vint w32 s) n (vint w32 n) (length ys-mem) (vint w64 (length ys-mem)) (length ys-table) (vint w64 (length ys-table)) r (ParsedL.lowered r) r₃ (vint w64 r₃)))) (goes-f-before 𝓤 H A W mem run s (vint w32 s) n (vint w32 n) (length ys-mem) (vint w64 (length ys-mem)) (length ys-table) (vint w64 (length ys-table)) r (ParsedL.lowered r) r₃ (vint w64 r₃) (refl, g-s) (refl, g-n) (refl, (g-mem .0)) (refl, (g-table .0)) (subst (Is ParsedT.the-row r) (ParsedL.lowers .val-is r _ is) is) (refl, (is₃ .1))) $
+        calls-at ! fm (C-f-before 𝓤 H A mem run) known-f-before (to-f-before 𝓤 H A mem run s (vint w32 s) n (vint w32 n) (length ys-mem) (vint w64 (length ys-mem)) (length ys-table) (vint w64 (length ys-table)) r (ParsedL.lowered r) r₃ (vint w64 r₃)) (and-then ! (load ! (from ! (stop !)) (look ! 45 refl)) (and-then ! (load ! (from ! (stop !)) (look ! 43 refl)) (and-then ! (load ! (from ! (stop !)) (look ! 17 refl)) (and-then ! (load ! (from ! (stop !)) (look ! 15 refl)) (and-then ! (load ! (from ! (stop !)) (look ! 31 refl)) (and-then ! (load ! (from ! (stop !)) (look ! 27 refl)) (no-more !))))))) (λ w₄.
+        use1 W (later (some (λ (r₄ : ℕ). ((‵ ftrue) ⊛ ‵ (u8 .own r₄ (w₄ ∷ []))) ⊛ raw (ensured 𝓤 H A f-before.ended (f-before.clauses 𝓤 H A mem run) tt (s, (n, ((length ys-mem), ((length ys-table), (r, (r₃, tt)))))) tt r₄)))) (id⊢ 𝓤 _) $ await ! tt $ pick ! (λ r₄.
+        split ! $ move ! (1 ∷ []) $ use1 W (some (λ (ws₄ : Unit {0} × (Unit {0} × (Unit {0} × (Unit {0} × (Unit {0} × (Unit {0} × Unit {0})))))). ‵ (lasts f-before.ended tt (s, (n, ((length ys-mem), ((length ys-table), (r, (r₃, tt)))))) ws₄) ⊛ raw (fact 𝓤 (r₄ ≡ refusedBefore s n (length ys-mem) (length ys-table) (r .good) r₃)))) (id⊢ 𝓤 _) $ pick ! (λ ws₄.
+        split ! $ move ! (1 ∷ []) $ heard ! (r₄ ≡ refusedBefore s n (length ys-mem) (length ys-table) (r .good) r₃) (λ e₄.
+        fsplit ! $ drop ! $ fsplit ! $ drop ! $ fsplit ! $ drop ! $ fsplit ! $ drop ! $ fsplit ! $ drop ! $ fsplit ! $ drop ! $ drop ! $ split ! $
         move ! (1 ∷ []) $ peeks ! u8 (Is u8) (shows 𝓤 H A u8) r₄ (w₄ ∷ []) (λ is₄. drop ! $
-        land ! (from ! (stop !)) (init ! 29 refl (uint-lawful 𝓤 H A W w8 .typed r₄ _ is₄ .0)) $ rewrite ! 29 (λ (u : Val). ‵ (fat fullShare (tyInt w8) l₁₁ 0 u)) (ap only (is₄ .0)) refl $
+        land ! (from ! (stop !)) (init ! 25 refl (uint-lawful 𝓤 H A W w8 .typed r₄ _ is₄ .0)) $ rewrite ! 25 (λ (u : Val). ‵ (fat fullShare (tyInt w8) l₁₁ 0 u)) (ap only (is₄ .0)) refl $
         drop ! $
-        part-4 l₀ l₁ l₂ l₃ l₄ l₅ l₆ l₇ l₈ l₉ l₁₀ l₁₁ l₁₂ l₁₃ l₁₄ l₁₅ l₁₆ l₁₇ l₁₈ l₁₉ l₂₀ l₂₁ w r ws e is w₂ r₂ ws₂ e₂ is₂ w₃ r₃ ws₃ e₃ is₃ w₄ r₄ ws₄ e₄ is₄))))))))))))
+        part-4 l₀ l₁ l₂ l₃ l₄ l₅ l₆ l₇ l₈ l₉ l₁₀ l₁₁ l₁₂ l₁₃ l₁₄ l₁₅ l₁₆ l₁₇ l₁₈ l₁₉ w r ws e is w₂ r₂ ws₂ e₂ is₂ w₃ r₃ ws₃ e₃ is₃ w₄ r₄ ws₄ e₄ is₄))))))))))))
 
-    part-2 : (l₀ l₁ l₂ l₃ l₄ l₅ l₆ l₇ l₈ l₉ l₁₀ l₁₁ l₁₂ l₁₃ l₁₄ l₁₅ l₁₆ l₁₇ l₁₈ l₁₉ l₂₀ l₂₁ : ℕ) → Sq W (‵ (flft κ₃ q₃) ∷ ‵ (flft κ₂ q₂) ∷ ‵ (flft κ₁ q₁) ∷ ‵ (flft κ₀ q₀) ∷ ‵ Own-message ∷ ‵ Own-bytes ∷ ‵ Own-table ∷ ‵ Own-mem ∷ ‵ (froom (sliceTy (tyRef erased mut (tyInt w8))) l₂₁ 0) ∷ ‵ (fdies (sliceTy (tyRef erased mut (tyInt w8))) l₂₁) ∷ ‵ (froom (tyRef erased mut (tyInt w8)) l₂₀ 0) ∷ ‵ (fdies (tyRef erased mut (tyInt w8)) l₂₀) ∷ ‵ (froom (sliceTy (tyRef erased mut (pointee (RecordT.the-row .written)))) l₁₉ 0) ∷ ‵ (fdies (sliceTy (tyRef erased mut (pointee (RecordT.the-row .written)))) l₁₉) ∷ ‵ (froom (tyRef erased mut (pointee (RecordT.the-row .written))) l₁₈ 0) ∷ ‵ (fdies (tyRef erased mut (pointee (RecordT.the-row .written))) l₁₈) ∷ ‵ (froom (tyInt w64) l₁₇ 0) ∷ ‵ (fdies (tyInt w64) l₁₇) ∷ ‵ (froom (tyInt w64) l₁₆ 0) ∷ ‵ (fdies (tyInt w64) l₁₆) ∷ ‵ (froom (tyInt w64) l₁₅ 0) ∷ ‵ (fdies (tyInt w64) l₁₅) ∷ ‵ (froom (sliceTy (tyRef erased imm (pointee (RecordT.the-row .written)))) l₁₄ 0) ∷ ‵ (fdies (sliceTy (tyRef erased imm (pointee (RecordT.the-row .written)))) l₁₄) ∷ ‵ (froom (tyRef erased imm (pointee (RecordT.the-row .written))) l₁₃ 0) ∷ ‵ (fdies (tyRef erased imm (pointee (RecordT.the-row .written))) l₁₃) ∷ ‵ (froom MessageL.mir l₁₂ 0) ∷ ‵ (fdies MessageL.mir l₁₂) ∷ ‵ (froom (tyInt w8) l₁₁ 0) ∷ ‵ (fdies (tyInt w8) l₁₁) ∷ ‵ (froom (tyInt w64) l₁₀ 0) ∷ ‵ (fdies (tyInt w64) l₁₀) ∷ ‵ (froom (tyInt w32) l₉ 0) ∷ ‵ (fdies (tyInt w32) l₉) ∷ ‵ (froom ParsedL.mir l₈ 0) ∷ ‵ (fdies ParsedL.mir l₈) ∷ ‵ (fat fullShare (sliceTy (tyRef (named 3) mut (tyInt w8))) l₇ 0 (s-message)) ∷ ‵ (fdies (sliceTy (tyRef (named 3) mut (tyInt w8))) l₇) ∷ ‵ (fat fullShare (sliceTy (tyRef (named 2) imm (tyInt w8))) l₆ 0 (s-bytes)) ∷ ‵ (fdies (sliceTy (tyRef (named 2) imm (tyInt w8))) l₆) ∷ ‵ (fat fullShare LinkStatesL.mir l₅ 0 (v-links)) ∷ ‵ (fdies LinkStatesL.mir l₅) ∷ ‵ (fat fullShare (sliceTy (tyRef (named 1) mut (pointee (RecordT.the-row .written)))) l₄ 0 (s-table)) ∷ ‵ (fdies (sliceTy (tyRef (named 1) mut (pointee (RecordT.the-row .written)))) l₄) ∷ ‵ (fat fullShare (sliceTy (tyRef (named 0) imm (tyInt w8))) l₃ 0 (s-mem)) ∷ ‵ (fdies (sliceTy (tyRef (named 0) imm (tyInt w8))) l₃) ∷ ‵ (fat fullShare (tyInt w32) l₂ 0 (vint w32 n)) ∷ ‵ (fdies (tyInt w32) l₂) ∷ ‵ (fat fullShare (tyInt w32) l₁ 0 (vint w32 s)) ∷ ‵ (fdies (tyInt w32) l₁) ∷ ‵ (froom HearAnswerL.mir l₀ 0) ∷ ‵ (fdies HearAnswerL.mir l₀) ∷ []) (runs C Λ (locals l₀ l₁ l₂ l₃ l₄ l₅ l₆ l₇ l₈ l₉ l₁₀ l₁₁ l₁₂ l₁₃ l₁₄ l₁₅ l₁₆ l₁₇ l₁₈ l₁₉ l₂₀ l₂₁) (after 0 (code.function .body)) (atRet (locals l₀ l₁ l₂ l₃ l₄ l₅ l₆ l₇ l₈ l₉ l₁₀ l₁₁ l₁₂ l₁₃ l₁₄ l₁₅ l₁₆ l₁₇ l₁₈ l₁₉ l₂₀ l₂₁) Post))
-    part-2 l₀ l₁ l₂ l₃ l₄ l₅ l₆ l₇ l₈ l₉ l₁₀ l₁₁ l₁₂ l₁₃ l₁₄ l₁₅ l₁₆ l₁₇ l₁₈ l₁₉ l₂₀ l₂₁ =
+    part-2 : (l₀ l₁ l₂ l₃ l₄ l₅ l₆ l₇ l₈ l₉ l₁₀ l₁₁ l₁₂ l₁₃ l₁₄ l₁₅ l₁₆ l₁₇ l₁₈ l₁₉ : ℕ) → Sq W (‵ (flft κ₃ q₃) ∷ ‵ (flft κ₂ q₂) ∷ ‵ (flft κ₁ q₁) ∷ ‵ (flft κ₀ q₀) ∷ ‵ Own-message ∷ ‵ Own-bytes ∷ ‵ Own-table ∷ ‵ Own-mem ∷ ‵ (froom (tyRef erased mut (pointee ((Array u8 44) .written))) l₁₉ 0) ∷ ‵ (fdies (tyRef erased mut (pointee ((Array u8 44) .written))) l₁₉) ∷ ‵ (froom (sliceTy (tyRef erased mut (pointee (RecordT.the-row .written)))) l₁₈ 0) ∷ ‵ (fdies (sliceTy (tyRef erased mut (pointee (RecordT.the-row .written)))) l₁₈) ∷ ‵ (froom (tyRef erased mut (pointee (RecordT.the-row .written))) l₁₇ 0) ∷ ‵ (fdies (tyRef erased mut (pointee (RecordT.the-row .written))) l₁₇) ∷ ‵ (froom (tyInt w64) l₁₆ 0) ∷ ‵ (fdies (tyInt w64) l₁₆) ∷ ‵ (froom (tyInt w64) l₁₅ 0) ∷ ‵ (fdies (tyInt w64) l₁₅) ∷ ‵ (froom (sliceTy (tyRef erased imm (pointee (RecordT.the-row .written)))) l₁₄ 0) ∷ ‵ (fdies (sliceTy (tyRef erased imm (pointee (RecordT.the-row .written)))) l₁₄) ∷ ‵ (froom (tyRef erased imm (pointee (RecordT.the-row .written))) l₁₃ 0) ∷ ‵ (fdies (tyRef erased imm (pointee (RecordT.the-row .written))) l₁₃) ∷ ‵ (froom MessageL.mir l₁₂ 0) ∷ ‵ (fdies MessageL.mir l₁₂) ∷ ‵ (froom (tyInt w8) l₁₁ 0) ∷ ‵ (fdies (tyInt w8) l₁₁) ∷ ‵ (froom (tyInt w64) l₁₀ 0) ∷ ‵ (fdies (tyInt w64) l₁₀) ∷ ‵ (froom (tyInt w32) l₉ 0) ∷ ‵ (fdies (tyInt w32) l₉) ∷ ‵ (froom ParsedL.mir l₈ 0) ∷ ‵ (fdies ParsedL.mir l₈) ∷ ‵ (fat fullShare (tyRef (named 3) mut (pointee ((Array u8 44) .written))) l₇ 0 (s-message)) ∷ ‵ (fdies (tyRef (named 3) mut (pointee ((Array u8 44) .written))) l₇) ∷ ‵ (fat fullShare (sliceTy (tyRef (named 2) imm (tyInt w8))) l₆ 0 (s-bytes)) ∷ ‵ (fdies (sliceTy (tyRef (named 2) imm (tyInt w8))) l₆) ∷ ‵ (fat fullShare LinkStatesL.mir l₅ 0 (v-links)) ∷ ‵ (fdies LinkStatesL.mir l₅) ∷ ‵ (fat fullShare (sliceTy (tyRef (named 1) mut (pointee (RecordT.the-row .written)))) l₄ 0 (s-table)) ∷ ‵ (fdies (sliceTy (tyRef (named 1) mut (pointee (RecordT.the-row .written)))) l₄) ∷ ‵ (fat fullShare (sliceTy (tyRef (named 0) imm (tyInt w8))) l₃ 0 (s-mem)) ∷ ‵ (fdies (sliceTy (tyRef (named 0) imm (tyInt w8))) l₃) ∷ ‵ (fat fullShare (tyInt w32) l₂ 0 (vint w32 n)) ∷ ‵ (fdies (tyInt w32) l₂) ∷ ‵ (fat fullShare (tyInt w32) l₁ 0 (vint w32 s)) ∷ ‵ (fdies (tyInt w32) l₁) ∷ ‵ (froom HearAnswerL.mir l₀ 0) ∷ ‵ (fdies HearAnswerL.mir l₀) ∷ []) (runs C Λ (locals l₀ l₁ l₂ l₃ l₄ l₅ l₆ l₇ l₈ l₉ l₁₀ l₁₁ l₁₂ l₁₃ l₁₄ l₁₅ l₁₆ l₁₇ l₁₈ l₁₉) (after 0 (code.function .body)) (atRet (locals l₀ l₁ l₂ l₃ l₄ l₅ l₆ l₇ l₈ l₉ l₁₀ l₁₁ l₁₂ l₁₃ l₁₄ l₁₅ l₁₆ l₁₇ l₁₈ l₁₉) Post))
+    part-2 l₀ l₁ l₂ l₃ l₄ l₅ l₆ l₇ l₈ l₉ l₁₀ l₁₁ l₁₂ l₁₃ l₁₄ l₁₅ l₁₆ l₁₇ l₁₈ l₁₉ =
         move ! (5 ∷ []) $ use1 W (‵ Own-bytes ⊛ ‵ Own-bytes) (shr-slice-copy 𝓤 H A W (named 2) κ₂ u8 .twice x-bytes (s-bytes ∷ [])) $ split ! $ nothing ! $ move ! (2 ∷ 0 ∷ []) $ join ! $ move ! (3 ∷ 0 ∷ []) $ join ! $ use1 W (raw (C-f-parse 𝓤 H A mem run .pre (to-f-parse 𝓤 H A mem run κ₂ q₂ x-bytes s-bytes))) (goes-f-parse 𝓤 H A W mem run κ₂ q₂ x-bytes s-bytes) $
-        calls-at ! fm (C-f-parse 𝓤 H A mem run) known-f-parse (to-f-parse 𝓤 H A mem run κ₂ q₂ x-bytes s-bytes) (and-then ! (load ! (from ! (stop !)) (look ! 38 refl)) (no-more !)) (λ w.
+        calls-at ! fm (C-f-parse 𝓤 H A mem run) known-f-parse (to-f-parse 𝓤 H A mem run κ₂ q₂ x-bytes s-bytes) (and-then ! (load ! (from ! (stop !)) (look ! 34 refl)) (no-more !)) (λ w.
         use1 W (later (some (λ (r : Parsed). ((‵ (flft κ₂ q₂) ⊛ ‵ ftrue) ⊛ ‵ (ParsedT.the-row .own r (w ∷ []))) ⊛ raw (ensured 𝓤 H A f-parse.ended (f-parse.clauses 𝓤 H A mem run) (κ₂, tt) (x-bytes, tt) tt r)))) (id⊢ 𝓤 _) $ await ! tt $ pick ! (λ r.
         split ! $ move ! (1 ∷ []) $ use1 W (some (λ (ws : Unit {0} × Unit {0}). ‵ (lasts f-parse.ended (κ₂, tt) (x-bytes, tt) ws) ⊛ raw (fact 𝓤 (r ≡ parsedIn (ys-bytes))))) (id⊢ 𝓤 _) $ pick ! (λ ws.
         split ! $ move ! (1 ∷ []) $ heard ! (r ≡ parsedIn (ys-bytes)) (λ e.
         fsplit ! $ drop ! $ drop ! $ split ! $
         move ! (1 ∷ []) $ peeks ! ParsedT.the-row (Is ParsedT.the-row) (shows 𝓤 H A ParsedT.the-row) r (w ∷ []) (λ is. drop ! $
-        land ! (from ! (stop !)) (init ! 34 refl (LL.lawful ParsedT.the-type ParsedL.the-laws 𝓤 H A W .typed r _ is .0)) $ rewrite ! 34 (λ (u : Val). ‵ (fat fullShare ParsedL.mir l₈ 0 u)) (ap only (ParsedL.lowers .val-is r _ is)) refl $
+        land ! (from ! (stop !)) (init ! 30 refl (LL.lawful ParsedT.the-type ParsedL.the-laws 𝓤 H A W .typed r _ is .0)) $ rewrite ! 30 (λ (u : Val). ‵ (fat fullShare ParsedL.mir l₈ 0 u)) (ap only (ParsedL.lowers .val-is r _ is)) refl $
         split ! $ move ! (1 ∷ []) $ drop ! $
         use0 W (raw (C-f-token-of 𝓤 H A mem run .pre (to-f-token-of 𝓤 H A mem run r (ParsedL.lowered r)))) (goes-f-token-of 𝓤 H A W mem run r (ParsedL.lowered r) (subst (Is ParsedT.the-row r) (ParsedL.lowers .val-is r _ is) is)) $
-        calls-at ! fm (C-f-token-of 𝓤 H A mem run) known-f-token-of (to-f-token-of 𝓤 H A mem run r (ParsedL.lowered r)) (and-then ! (load ! (from ! (stop !)) (look ! 35 refl)) (no-more !)) (λ w₂.
+        calls-at ! fm (C-f-token-of 𝓤 H A mem run) known-f-token-of (to-f-token-of 𝓤 H A mem run r (ParsedL.lowered r)) (and-then ! (load ! (from ! (stop !)) (look ! 31 refl)) (no-more !)) (λ w₂.
         use1 W (later (some (λ (r₂ : ℕ). ((‵ ftrue) ⊛ ‵ (u32 .own r₂ (w₂ ∷ []))) ⊛ raw (ensured 𝓤 H A f-token-of.ended (f-token-of.clauses 𝓤 H A mem run) tt (r, tt) tt r₂)))) (id⊢ 𝓤 _) $ await ! tt $ pick ! (λ r₂.
         split ! $ move ! (1 ∷ []) $ use1 W (some (λ (ws₂ : Unit {0} × Unit {0}). ‵ (lasts f-token-of.ended tt (r, tt) ws₂) ⊛ raw (fact 𝓤 (r₂ ≡ r .message .token)))) (id⊢ 𝓤 _) $ pick ! (λ ws₂.
         split ! $ move ! (1 ∷ []) $ heard ! (r₂ ≡ r .message .token) (λ e₂.
         fsplit ! $ drop ! $ drop ! $ split ! $
         move ! (1 ∷ []) $ peeks ! u32 (Is u32) (shows 𝓤 H A u32) r₂ (w₂ ∷ []) (λ is₂. drop ! $
-        land ! (from ! (stop !)) (init ! 33 refl (uint-lawful 𝓤 H A W w32 .typed r₂ _ is₂ .0)) $ rewrite ! 33 (λ (u : Val). ‵ (fat fullShare (tyInt w32) l₉ 0 u)) (ap only (is₂ .0)) refl $
+        land ! (from ! (stop !)) (init ! 29 refl (uint-lawful 𝓤 H A W w32 .typed r₂ _ is₂ .0)) $ rewrite ! 29 (λ (u : Val). ‵ (fat fullShare (tyInt w32) l₉ 0 u)) (ap only (is₂ .0)) refl $
         drop ! $
-        part-3 l₀ l₁ l₂ l₃ l₄ l₅ l₆ l₇ l₈ l₉ l₁₀ l₁₁ l₁₂ l₁₃ l₁₄ l₁₅ l₁₆ l₁₇ l₁₈ l₁₉ l₂₀ l₂₁ w r ws e is w₂ r₂ ws₂ e₂ is₂))))))))))
+        part-3 l₀ l₁ l₂ l₃ l₄ l₅ l₆ l₇ l₈ l₉ l₁₀ l₁₁ l₁₂ l₁₃ l₁₄ l₁₅ l₁₆ l₁₇ l₁₈ l₁₉ w r ws e is w₂ r₂ ws₂ e₂ is₂))))))))))
 
     walk : ent 𝓤 (onEntry 𝓤 H A call.signature κs qs x at) (WpFn 𝓤 H C Λ code.function (vint w32 s ∷ vint w32 n ∷ s-mem ∷ s-table ∷ v-links ∷ s-bytes ∷ s-message ∷ []) Post)
     walk =
-        qed W ((‵ (flft κ₀ q₀) ⊛ ‵ (flft κ₁ q₁) ⊛ ‵ (flft κ₂ q₂) ⊛ ‵ (flft κ₃ q₃) ⊛ ‵ ftrue) ∷ ‵ (owns (u32 ∷ u32 ∷ ShrSlice (named 0) κ₀ u8 ∷ MutSlice (named 1) κ₁ RecordT.the-row ∷ LinkStatesT.the-row ∷ ShrSlice (named 2) κ₂ u8 ∷ MutSlice (named 3) κ₃ u8 ∷ []) x at) ∷ []) ∵ enter ! C Λ code.function (vint w32 s ∷ vint w32 n ∷ s-mem ∷ s-table ∷ v-links ∷ s-bytes ∷ s-message ∷ []) _ $
-        alloc1 ! (λ l₀. alloc1 ! (λ l₁. alloc1 ! (λ l₂. alloc1 ! (λ l₃. alloc1 ! (λ l₄. alloc1 ! (λ l₅. alloc1 ! (λ l₆. alloc1 ! (λ l₇. alloc1 ! (λ l₈. alloc1 ! (λ l₉. alloc1 ! (λ l₁₀. alloc1 ! (λ l₁₁. alloc1 ! (λ l₁₂. alloc1 ! (λ l₁₃. alloc1 ! (λ l₁₄. alloc1 ! (λ l₁₅. alloc1 ! (λ l₁₆. alloc1 ! (λ l₁₇. alloc1 ! (λ l₁₈. alloc1 ! (λ l₁₉. alloc1 ! (λ l₂₀. alloc1 ! (λ l₂₁. alloc0 ! $ params1 ! $
-        pass1 ! (init ! 40 refl (tt, record { fits = g-s })) $ pass1 ! (init ! 38 refl (tt, record { fits = g-n })) $ pass1 ! (init ! 36 refl (tt, (tt, (record { fits = g-mem .0 }, tt)))) $ pass1 ! (init ! 34 refl (tt, (tt, (record { fits = g-table .0 }, tt)))) $ pass1 ! (init ! 32 refl (LL.lawful LinkStatesT.the-type LinkStatesL.the-laws 𝓤 H A W .typed links _ g-links .0)) $ pass1 ! (init ! 30 refl (tt, (tt, (record { fits = g-bytes .0 }, tt)))) $ pass1 ! (init ! 28 refl (tt, (tt, (record { fits = g-message .0 }, tt)))) $ pass0 ! $
-        move ! (45 ∷ []) $ fsplit ! $ drop ! $ fsplit ! $ drop ! $ fsplit ! $ move ! (1 ∷ []) $ fsplit ! $ move ! (1 ∷ []) $ fsplit ! $ drop ! $ fsplit ! $ move ! (1 ∷ []) $ fsplit ! $ move ! (1 ∷ []) $ drop ! $ move ! (48 ∷ []) $ split ! $ move ! (1 ∷ []) $ split ! $ move ! (1 ∷ []) $ split ! $ move ! (1 ∷ []) $ split ! $ move ! (1 ∷ []) $ drop ! $
-        part-2 l₀ l₁ l₂ l₃ l₄ l₅ l₆ l₇ l₈ l₉ l₁₀ l₁₁ l₁₂ l₁₃ l₁₄ l₁₅ l₁₆ l₁₇ l₁₈ l₁₉ l₂₀ l₂₁))))))))))))))))))))))
+        qed W ((‵ (flft κ₀ q₀) ⊛ ‵ (flft κ₁ q₁) ⊛ ‵ (flft κ₂ q₂) ⊛ ‵ (flft κ₃ q₃) ⊛ ‵ ftrue) ∷ ‵ (owns (u32 ∷ u32 ∷ ShrSlice (named 0) κ₀ u8 ∷ MutSlice (named 1) κ₁ RecordT.the-row ∷ LinkStatesT.the-row ∷ ShrSlice (named 2) κ₂ u8 ∷ MutRef (named 3) κ₃ (Array u8 44) ∷ []) x at) ∷ []) ∵ enter ! C Λ code.function (vint w32 s ∷ vint w32 n ∷ s-mem ∷ s-table ∷ v-links ∷ s-bytes ∷ s-message ∷ []) _ $
+        alloc1 ! (λ l₀. alloc1 ! (λ l₁. alloc1 ! (λ l₂. alloc1 ! (λ l₃. alloc1 ! (λ l₄. alloc1 ! (λ l₅. alloc1 ! (λ l₆. alloc1 ! (λ l₇. alloc1 ! (λ l₈. alloc1 ! (λ l₉. alloc1 ! (λ l₁₀. alloc1 ! (λ l₁₁. alloc1 ! (λ l₁₂. alloc1 ! (λ l₁₃. alloc1 ! (λ l₁₄. alloc1 ! (λ l₁₅. alloc1 ! (λ l₁₆. alloc1 ! (λ l₁₇. alloc1 ! (λ l₁₈. alloc1 ! (λ l₁₉. alloc0 ! $ params1 ! $
+        pass1 ! (init ! 36 refl (tt, record { fits = g-s })) $ pass1 ! (init ! 34 refl (tt, record { fits = g-n })) $ pass1 ! (init ! 32 refl (tt, (tt, (record { fits = g-mem .0 }, tt)))) $ pass1 ! (init ! 30 refl (tt, (tt, (record { fits = g-table .0 }, tt)))) $ pass1 ! (init ! 28 refl (LL.lawful LinkStatesT.the-type LinkStatesL.the-laws 𝓤 H A W .typed links _ g-links .0)) $ pass1 ! (init ! 26 refl (tt, (tt, (record { fits = g-bytes .0 }, tt)))) $ pass1 ! (init ! 24 refl (tt, tt)) $ pass0 ! $
+        move ! (41 ∷ []) $ fsplit ! $ drop ! $ fsplit ! $ drop ! $ fsplit ! $ move ! (1 ∷ []) $ fsplit ! $ move ! (1 ∷ []) $ fsplit ! $ drop ! $ fsplit ! $ move ! (1 ∷ []) $ fsplit ! $ move ! (1 ∷ []) $ drop ! $ move ! (44 ∷ []) $ split ! $ move ! (1 ∷ []) $ split ! $ move ! (1 ∷ []) $ split ! $ move ! (1 ∷ []) $ split ! $ move ! (1 ∷ []) $ drop ! $
+        part-2 l₀ l₁ l₂ l₃ l₄ l₅ l₆ l₇ l₈ l₉ l₁₀ l₁₁ l₁₂ l₁₃ l₁₄ l₁₅ l₁₆ l₁₇ l₁₈ l₁₉))))))))))))))))))))
 
 module _ {M : Type 1} (𝓤 : URA M) (H : Heap 𝓤) (A : Atoms 𝓤) (W : Given 𝓤 H A) (mem : Memory → SProp 𝓤) (run : Routine → Fun 𝓤) where
   call-walks : (C : Calls 𝓤 H) (Λ : Loops 𝓤 H) → FmC 𝓤 H (W .laws) C → Triple 𝓤 (C #f-parse) (C-f-parse 𝓤 H A mem run) → Triple 𝓤 (C #f-token-of) (C-f-token-of 𝓤 H A mem run) → Triple 𝓤 (C #f-find) (C-f-find 𝓤 H A mem run) → Triple 𝓤 (C #f-before) (C-f-before 𝓤 H A mem run) → Triple 𝓤 (C #f-hear-unless) (C-f-hear-unless 𝓤 H A mem run) → Walks 𝓤 H A call.ended stayed (WpFn 𝓤 H C Λ code.function) (call.clauses 𝓤 H A mem run)
   call-walks C Λ fm known-f-parse known-f-token-of known-f-find known-f-before known-f-hear-unless = walked 𝓤 H A call.ended stayed (call.clauses 𝓤 H A mem run) (WpFn 𝓤 H C Λ code.function)
-      (λ κs. ((uint-vals w32), ((uint-vals w32), (slice-vals, (slice-vals, ((LL.vals LinkStatesT.the-type LinkStatesL.the-laws), (slice-vals, (slice-vals, tt)))))))) (λ κs. ((uint-tells w32), ((uint-tells w32), (shr-slice-tells (named 0) (κs .0) u8, (mut-slice-tells (named 1) (κs .1 .0) RecordT.the-row, ((LL.tells LinkStatesT.the-type LinkStatesL.the-laws), (shr-slice-tells (named 2) (κs .1 .1 .0) u8, (mut-slice-tells (named 3) (κs .1 .1 .1 .0) u8, tt))))))))
-      (λ κs qs bounds a g are. via 𝓤 _ (fst∗ 𝓤 _ (emp 𝓤)) (walk 𝓤 H A W mem run (κs .0) (κs .1 .0) (κs .1 .1 .0) (κs .1 .1 .1 .0) (qs .0) (qs .1 .0) (qs .1 .1 .0) (qs .1 .1 .1 .0) (a .0) (a .1 .0) (a .1 .1 .0 .ptr .0) (a .1 .1 .0 .ptr .1) (a .1 .1 .0 .name) (a .1 .1 .0 .now) (a .1 .1 .1 .0 .ptr .0) (a .1 .1 .1 .0 .ptr .1) (a .1 .1 .1 .0 .name) (a .1 .1 .1 .0 .now) (a .1 .1 .1 .1 .0) (LL.val LinkStatesT.the-type LinkStatesL.the-laws (a .1 .1 .1 .1 .0)) (a .1 .1 .1 .1 .1 .0 .ptr .0) (a .1 .1 .1 .1 .1 .0 .ptr .1) (a .1 .1 .1 .1 .1 .0 .name) (a .1 .1 .1 .1 .1 .0 .now) (a .1 .1 .1 .1 .1 .1 .0 .ptr .0) (a .1 .1 .1 .1 .1 .1 .0 .ptr .1) (a .1 .1 .1 .1 .1 .1 .0 .name) (a .1 .1 .1 .1 .1 .1 .0 .now) (are .0 .1) (are .1 .0 .1) (are .1 .1 .0 .0 .1) (are .1 .1 .1 .0 .0 .1) (are .1 .1 .1 .1 .0) (are .1 .1 .1 .1 .1 .0 .0 .1) (are .1 .1 .1 .1 .1 .1 .0 .0 .1) C Λ fm known-f-parse known-f-token-of known-f-find known-f-before known-f-hear-unless))
+      (λ κs. ((uint-vals w32), ((uint-vals w32), (slice-vals, (slice-vals, ((LL.vals LinkStatesT.the-type LinkStatesL.the-laws), (slice-vals, (ptr-vals, tt)))))))) (λ κs. ((uint-tells w32), ((uint-tells w32), (shr-slice-tells (named 0) (κs .0) u8, (mut-slice-tells (named 1) (κs .1 .0) RecordT.the-row, ((LL.tells LinkStatesT.the-type LinkStatesL.the-laws), (shr-slice-tells (named 2) (κs .1 .1 .0) u8, (mut-tells (named 3) (κs .1 .1 .1 .0) (Array u8 44), tt))))))))
+      (λ κs qs bounds a g are. via 𝓤 _ (fst∗ 𝓤 _ (emp 𝓤)) (walk 𝓤 H A W mem run (κs .0) (κs .1 .0) (κs .1 .1 .0) (κs .1 .1 .1 .0) (qs .0) (qs .1 .0) (qs .1 .1 .0) (qs .1 .1 .1 .0) (a .0) (a .1 .0) (a .1 .1 .0 .ptr .0) (a .1 .1 .0 .ptr .1) (a .1 .1 .0 .name) (a .1 .1 .0 .now) (a .1 .1 .1 .0 .ptr .0) (a .1 .1 .1 .0 .ptr .1) (a .1 .1 .1 .0 .name) (a .1 .1 .1 .0 .now) (a .1 .1 .1 .1 .0) (LL.val LinkStatesT.the-type LinkStatesL.the-laws (a .1 .1 .1 .1 .0)) (a .1 .1 .1 .1 .1 .0 .ptr .0) (a .1 .1 .1 .1 .1 .0 .ptr .1) (a .1 .1 .1 .1 .1 .0 .name) (a .1 .1 .1 .1 .1 .0 .now) (a .1 .1 .1 .1 .1 .1 .0 .ptr .0) (a .1 .1 .1 .1 .1 .1 .0 .ptr .1) (a .1 .1 .1 .1 .1 .1 .0 .name) (a .1 .1 .1 .1 .1 .1 .0 .now) (are .0 .1) (are .1 .0 .1) (are .1 .1 .0 .0 .1) (are .1 .1 .1 .0 .0 .1) (are .1 .1 .1 .1 .0) (are .1 .1 .1 .1 .1 .0 .0 .1) C Λ fm known-f-parse known-f-token-of known-f-find known-f-before known-f-hear-unless))
 
 call-meets : {M : Type 1} (𝓤 : URA M) (H : Heap 𝓤) (A : Atoms 𝓤) → Given 𝓤 H A → (mem : Memory → SProp 𝓤) (run : Routine → Fun 𝓤) (𝓣 : Tables 𝓤 H) → Triple 𝓤 (𝓣 .C #f-parse) (C-f-parse 𝓤 H A mem run) → Triple 𝓤 (𝓣 .C #f-token-of) (C-f-token-of 𝓤 H A mem run) → Triple 𝓤 (𝓣 .C #f-find) (C-f-find 𝓤 H A mem run) → Triple 𝓤 (𝓣 .C #f-before) (C-f-before 𝓤 H A mem run) → Triple 𝓤 (𝓣 .C #f-hear-unless) (C-f-hear-unless 𝓤 H A mem run)
     → Meets 𝓤 H A call.signature (WpFn 𝓤 H (𝓣 .C) (𝓣 .Λ) code.function) (call.spec 𝓤 H A mem run)
 call-meets 𝓤 H A W mem run 𝓣 known-f-parse known-f-token-of known-f-find known-f-before known-f-hear-unless =
     walk-meets 𝓤 H A call.ended stayed W
-    (goes-dropped 𝓤 H A W 4 (plain (λ _. u32)) yes (λ κs x f. refl), (goes-dropped 𝓤 H A W 4 (plain (λ _. u32)) yes (λ κs x f. refl), (goes-dropped 𝓤 H A W 4 (shrSliceOf (0 ∷ []) tt (plain (λ _. u8))) yes (λ κs x f. refl), (goes-gave-slice 𝓤 H A W 4 1 tt (plain (λ _. RecordT.the-row)), (goes-dropped 𝓤 H A W 4 (plain (λ _. LinkStatesT.the-row)) yes (λ κs x f. refl), (goes-dropped 𝓤 H A W 4 (shrSliceOf (2 ∷ []) tt (plain (λ _. u8))) yes (λ κs x f. refl), (goes-gave-slice 𝓤 H A W 4 3 tt (plain (λ _. u8)), tt)))))))
+    (goes-dropped 𝓤 H A W 4 (plain (λ _. u32)) yes (λ κs x f. refl), (goes-dropped 𝓤 H A W 4 (plain (λ _. u32)) yes (λ κs x f. refl), (goes-dropped 𝓤 H A W 4 (shrSliceOf (0 ∷ []) tt (plain (λ _. u8))) yes (λ κs x f. refl), (goes-gave-slice 𝓤 H A W 4 1 tt (plain (λ _. RecordT.the-row)), (goes-dropped 𝓤 H A W 4 (plain (λ _. LinkStatesT.the-row)) yes (λ κs x f. refl), (goes-dropped 𝓤 H A W 4 (shrSliceOf (2 ∷ []) tt (plain (λ _. u8))) yes (λ κs x f. refl), (goes-gave-ref 𝓤 H A W 4 3 tt (arrayOf (plain (λ _. u8)) 44), tt)))))))
     (call.clauses 𝓤 H A mem run) (WpFn 𝓤 H (𝓣 .C) (𝓣 .Λ) code.function) (WpFn-mono 𝓤 H (W .laws) 𝓣 code.function) (call-walks 𝓤 H A W mem run (𝓣 .C) (𝓣 .Λ) (fmOf 𝓤 H (W .laws) 𝓣) known-f-parse known-f-token-of known-f-find known-f-before known-f-hear-unless)
 
 pub fordlinnet-make-hear-spec : {M : Type 1} → stated.statement M

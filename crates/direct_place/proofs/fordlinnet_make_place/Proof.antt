@@ -71,9 +71,12 @@ use Rattle.direct_place.proofs.fordlinnet_make_place as call
 use Rattle.direct_place.proofs.fordlinnet_make_place.Statement as stated
 use Rattle.direct_place.proofs.fordlinnet_make_place.Code as code
 use Rattle.direct.specs.Direct.{refusalAt}
+use Rattle.direct_made.specs.DirectMade.{InEveryGroup}
 use Rattle.direct_place.specs.DirectPlace.{PlaceMade}
 use Rattle.direct_place.specs.Placing.{placingOf, storedBy}
+use Rattle.rules.specs.Rules.{groupOf}
 use Rattle.table.specs.Table.{recordAt}
+use Rattle.table.specs.declared.Links.{Links}
 use Rattle.direct_place.proofs.Laws.{fordlinnet-make-place-returns}
 
 -- what is left of a body after its first k statements
@@ -174,7 +177,7 @@ module _ {M : Type 1} (𝓤 : URA M) (H : Heap 𝓤) (A : Atoms 𝓤) (W : Given
   abbrev Post : Val → SProp 𝓤
   Post = walkOf 𝓤 H A call.ended stayed (call.clauses 𝓤 H A mem run) .post ((κs, qs, tt, x, at), tt)
 
-  exits : (res : ℕ) (v : Val) (w-mem : List ℕ) → length w-mem ≡ length ys-mem → PlaceMade s n (ys-mem) (ys-table) (links .active) slot offset (ys-bytes) res (w-mem) → Is u8 res (v ∷ [])
+  exits : (res : ℕ) (v : Val) (w-mem : List ℕ) → length w-mem ≡ length ys-mem → InEveryGroup (links .active) (λ (ls : Links). PlaceMade (groupOf s n (ys-table) ls (ys-mem)) slot offset (ys-bytes) res (groupOf s n (ys-table) ls (w-mem))) → Is u8 res (v ∷ [])
       → ent 𝓤 (⋆ 𝓤 H A (‵ (flft κ₀ q₀) ∷ ‵ (flft κ₁ q₁) ∷ ‵ (flft κ₂ q₂) ∷ ‵ (finally u8 γ-mem w-mem) ∷ [])) (Post v)
   exits res v w-mem l-mem e is =
       qed W (‵ (flft κ₀ q₀) ∷ ‵ (flft κ₁ q₁) ∷ ‵ (flft κ₂ q₂) ∷ ‵ (finally u8 γ-mem w-mem) ∷ []) ∵ suffices ! _ (ends-at 𝓤 H A call.ended stayed (call.clauses 𝓤 H A mem run) W ((κs, qs, tt, x, at), tt) v res (tt, (tt, (w-mem, (tt, (tt, (tt, (tt, (tt, tt)))))))) (tt, (tt, (l-mem, (tt, (tt, (tt, (tt, (tt, tt))))))))) $
