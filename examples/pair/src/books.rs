@@ -88,6 +88,8 @@ pub enum What {
     },
     /// `RefusedMayStand`: a call that had to be refused and to change nothing, or an open that had to be accepted.
     Stranger,
+    /// The right to open the slot again came where it should not, or did not come.
+    Right,
     /// The eye catcher is damaged.
     Torn,
     /// `CursorsArePlain`.
@@ -122,6 +124,7 @@ impl Wrong {
                 format!("{of} {what} is turned away at {at}: {refusal}")
             }
             What::Stranger => format!("{of} an open, an early or a repeated message at {at} was not answered as it should be"),
+            What::Right => format!("{of} the slot at {at} closed, and the right to open it again is not what it should be"),
             What::Torn => format!("{of} a read at {at} finds the eye catcher damaged"),
             What::Plain(what) => format!("{of} {what} at {at} is not the plain engine's"),
             What::Told => format!("{of} the message with F of {at} is not in its place"),

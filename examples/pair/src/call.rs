@@ -1,6 +1,6 @@
 //! The calls at an end, what they answer, and both in words.
 
-use fordlinnet::{Closed, Group, LinkFields, Message, Opening, Read, Refusal};
+use fordlinnet::{Closed, Freed, Group, LinkFields, Message, Opening, Quiet, Read, Refusal};
 use std::fmt::Write;
 
 pub const SIDES: [&str; 2] = ["near", "far"];
@@ -59,26 +59,84 @@ pub struct Answer {
     pub link_message: Option<[u8; 44]>,
 }
 
-/// Opens a slot. Whether it may be opened again is for the caller to know: `World::may_begin` has the rule.
-fn open(group: &mut Group, slot: u32, opening: &Opening) -> Result<(), Refusal> {
-    group.open(slot, opening)
+/// What is known of a slot's element.
+#[derive(Debug)]
+pub enum Right {
+    /// The right to open it.
+    Quiet(Quiet),
+    /// It was freed, and writes may be under way to it.
+    Freed(Freed),
+    InUse,
 }
 
-/// Frees a slot.
-fn free(group: &mut Group, slot: u32) -> Result<(), Refusal> {
-    group.free(slot)
+/// The rights to the slots of a group.
+#[derive(Debug)]
+pub struct Rights(Vec<Right>);
+
+impl Rights {
+    /// All of a fresh group.
+    pub fn of(group: &mut Group) -> Rights {
+        let slots = 1..=group.elements();
+        Rights(slots.map(|slot| group.never_opened(slot).map_or(Right::InUse, Right::Quiet)).collect())
+    }
+
+    pub fn get(&self, slot: u32) -> &Right {
+        self.0.get((slot as usize).wrapping_sub(1)).unwrap_or(&Right::InUse)
+    }
+
+    fn put(&mut self, slot: u32, right: Right) {
+        self.0[slot as usize - 1] = right;
+    }
+
+    fn take(&mut self, slot: u32) -> Right {
+        std::mem::replace(&mut self.0[slot as usize - 1], Right::InUse)
+    }
+
+    fn put_quiet(&mut self, quiet: Option<Quiet>) {
+        if let Some(quiet) = quiet {
+            self.put(quiet.slot(), Right::Quiet(quiet));
+        }
+    }
+
+    /// The caller's word that no write of the freed connection can arrive.
+    pub fn swear(&mut self, slot: u32) {
+        let right = match self.take(slot) {
+            Right::Freed(freed) => Right::Quiet(freed.no_write_can_arrive()),
+            right => right,
+        };
+        self.put(slot, right);
+    }
+}
+
+/// Opens a slot, which takes the right to it.
+fn open(group: &mut Group, rights: &mut Rights, slot: u32, opening: &Opening) -> Result<(), Refusal> {
+    let quiet = match rights.take(slot) {
+        Right::Quiet(quiet) => quiet,
+        right => {
+            rights.put(slot, right);
+            return Err(Refusal::AlreadyOpen); // no right, so no call
+        }
+    };
+    let opened = group.open(quiet, opening);
+    opened.map(|_| ()).map_err(|no| {
+        rights.put_quiet(Some(no.quiet));
+        no.refusal
+    })
 }
 
 /// Makes a call.
-pub fn make(group: &mut Group, call: &Call) -> Answer {
-    tried(group, call).unwrap_or_else(|refusal| Answer { refusal: Some(refusal), ..Answer::default() })
+pub fn make(group: &mut Group, rights: &mut Rights, call: &Call) -> Answer {
+    tried(group, rights, call).unwrap_or_else(|refusal| Answer { refusal: Some(refusal), ..Answer::default() })
 }
 
-fn tried(group: &mut Group, call: &Call) -> Result<Answer, Refusal> {
+fn tried(group: &mut Group, rights: &mut Rights, call: &Call) -> Result<Answer, Refusal> {
     let mut answer = Answer::default();
     match call {
-        Call::Open { slot, opening } => open(group, *slot, opening)?,
-        Call::Free { slot } => free(group, *slot)?,
+        Call::Open { slot, opening } => open(group, rights, *slot, opening)?,
+        Call::Free { slot } => {
+            let freed = group.free(*slot)?;
+            rights.put(*slot, Right::Freed(freed));
+        }
         Call::Send { slot, how: How::Parted(at), bytes } => {
             let (head, body) = bytes.split_at(*at as usize);
             let sent = group.gather(*slot, head, body)?;
@@ -107,12 +165,17 @@ fn tried(group: &mut Group, call: &Call) -> Result<Answer, Refusal> {
             out.truncate(read.count());
             answer.read = out;
         }
-        Call::Hear { bytes } => answer.message = group.hear(bytes)?.message,
+        Call::Hear { bytes } => {
+            let heard = group.hear(bytes)?;
+            answer.message = heard.message;
+            rights.put_quiet(heard.quiet);
+        }
         Call::Shutdown { slot } => answer.message = Some(group.shutdown(*slot)?),
         Call::Close { slot } => {
             let closed = group.close(*slot)?;
-            answer.reset = matches!(closed, Closed::Reset(_));
+            answer.reset = matches!(closed, Closed::Reset { .. });
             answer.message = Some(*closed.message());
+            rights.put_quiet(closed.quiet());
         }
         Call::Abort { slot } => answer.message = Some(group.abort(*slot)?),
         Call::Link { link, up } => answer.told = group.link_change(*link, *up)?.moved,

@@ -32,6 +32,15 @@ byte for byte at every call. With --break one premise is broken, alone, in many 
   --break NAME  the premise that is broken, or \"all\":
 ";
 
+/// Prints a line; where nobody reads any more there is nothing more to do.
+macro_rules! say {
+    ($($words:tt)*) => {
+        if writeln!(io::stdout(), $($words)*).is_err() {
+            exit(0);
+        }
+    };
+}
+
 enum What {
     Run { calls: u64, seed: u64 },
     Break { which: Vec<&'static Break>, seed: u64 },
@@ -45,7 +54,7 @@ fn options(words: &[String]) -> Result<What, String> {
         let mut value = |what: &str| words.next().ok_or(format!("{word} wants {what}"));
         match word.as_str() {
             "-h" | "--help" => return Ok(What::Help),
-            "--calls" => calls = Some(number(word, value("a number of calls")?)?),
+            "--calls" => calls = Some(number(word, value("a number of calls")?)?.max(1)),
             "--seed" => seed = Some(number(word, value("a number")?)?),
             "--break" => which = Some(named(value("the name of a premise, or \"all\"")?)?),
             _ => return Err(format!("what is {word:?}?")),
@@ -107,7 +116,7 @@ impl Bar {
 
 /// Random lists, until so many calls were made.
 fn run(calls: u64, seed: u64) -> i32 {
-    println!("seed {seed}");
+    say!("seed {seed}");
     let mut bar = Bar::new();
     let mut counts = Counts::default();
     let mut lists = 0;
@@ -127,30 +136,26 @@ fn run(calls: u64, seed: u64) -> i32 {
     }
     bar.clear();
     let seconds = bar.start.elapsed().as_secs_f64();
-    println!("What was read is what was sent: {} bytes, each the next of those taken at the other end, and each", grouped(counts.read));
-    println!("from the place where its own write had put it. No write or message of a connection was turned away,");
-    println!("none was lost, and no slot was used again while something was under way to it.");
-    println!();
+    say!("What was read is what was sent: {} bytes, each the next of those taken at the other end, and each", grouped(counts.read));
+    say!("from the place where its own write had put it. No write or message of a connection was turned away,");
+    say!("none was lost, and no slot was used again while something was under way to it.");
+    say!("");
     let speed = grouped((counts.calls() as f64 / seconds) as u64);
     let last = seed.wrapping_add(lists - 1);
-    println!(
-        "{} calls in {} lists (seeds {seed} to {last}), {seconds:.1} s, {speed} calls a second",
-        grouped(counts.calls()),
-        grouped(lists)
-    );
-    print!("{}", counts.text());
+    say!("{} calls in {} lists (seeds {seed} to {last}), {seconds:.1} s, {speed} calls a second", grouped(counts.calls()), grouped(lists));
+    say!("{}", counts.text().trim_end());
     let missing = counts.missing();
     if !missing.is_empty() {
-        println!("\nNot reached: {}", missing.join("; "));
+        say!("\nNot reached: {}", missing.join("; "));
     }
     0
 }
 
 fn print_failed(failed: &Failed) {
-    println!("WRONG, with seed {}: {}", failed.seed, failed.wrong);
-    println!("The smallest run found, from {} steps:", failed.steps);
+    say!("WRONG, with seed {}: {}", failed.seed, failed.wrong);
+    say!("The smallest run found, from {} steps:", failed.steps);
     for (place, line) in failed.lines.iter().enumerate() {
-        println!("{:5}  {}", place + 1, line.words());
+        say!("{:5}  {}", place + 1, line.words());
     }
 }
 
@@ -168,7 +173,7 @@ fn break_all(which: &[&'static Break], seed: u64) -> i32 {
                 status = status.max(i32::from(shown.mended.is_err()));
             }
             None => {
-                println!("--break {}: {}\n  no run found in which {}\n", broken.name, broken.story, broken.harm.words());
+                say!("--break {}: {}\n  no run found in which {}\n", broken.name, broken.story, broken.harm.words());
                 status = 1;
             }
         }
@@ -177,34 +182,37 @@ fn break_all(which: &[&'static Break], seed: u64) -> i32 {
 }
 
 fn print_shown(broken: &Break, shown: &Shown) {
-    println!("--break {}: {}", broken.name, broken.story);
+    say!("--break {}: {}", broken.name, broken.story);
     let premises: Vec<String> = shown.broken.iter().map(|premise| format!("{premise:?}")).collect();
-    println!("  Broken, and nothing else: {}. What comes of it: {}.", premises.join(", "), broken.harm.words());
+    say!("  Broken, and nothing else: {}. What comes of it: {}.", premises.join(", "), broken.harm.words());
     let calls = shown.lines.iter().filter(|line| !line.said.is_empty()).count();
-    println!(
+    say!(
         "  The smallest run found: {calls} calls, of seed {} (from {} steps; it came out in {} of {} lists).",
-        shown.seed, shown.steps, shown.found, shown.lists
+        shown.seed,
+        shown.steps,
+        shown.found,
+        shown.lists
     );
     for (place, line) in shown.lines.iter().enumerate() {
-        println!("  {:4}  {}", place + 1, line.words());
+        say!("  {:4}  {}", place + 1, line.words());
     }
-    println!("  WRONG: {}", shown.wrong.words());
+    say!("  WRONG: {}", shown.wrong.words());
     match &shown.mended {
-        Ok(0) => println!("  With the premise kept the same run reads nothing."),
-        Ok(1) => println!("  With the premise kept the same run reads 1 byte, the right one."),
-        Ok(read) => println!("  With the premise kept the same run reads {read} bytes, all of them right."),
-        Err(wrong) => println!("  And with the premise kept, which should not be: {wrong}"),
+        Ok(0) => say!("  With the premise kept the same run reads nothing."),
+        Ok(1) => say!("  With the premise kept the same run reads 1 byte, the right one."),
+        Ok(read) => say!("  With the premise kept the same run reads {read} bytes, all of them right."),
+        Err(wrong) => say!("  And with the premise kept, which should not be: {wrong}"),
     }
-    println!();
+    say!("");
 }
 
 fn main() {
     let words: Vec<String> = std::env::args().skip(1).collect();
     exit(match options(&words) {
         Ok(What::Help) => {
-            print!("{USAGE}");
+            say!("{}", USAGE.trim_end());
             for broken in &BREAKS {
-                println!("      {:18} {}", broken.name, broken.story);
+                say!("      {:18} {}", broken.name, broken.story);
             }
             0
         }

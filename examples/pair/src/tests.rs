@@ -95,7 +95,7 @@ fn a_move_that_does_not_tell() {
     let before = world.groups[0].table().to_vec();
     let links = world.groups[0].links().active;
     let call = Call::Link { link: 1, up: false };
-    let mut answer = make(&mut world.groups[0], &call);
+    let mut answer = make(&mut world.groups[0], &mut world.rights[0], &call);
     assert_eq!(answer.told.len(), 1);
     answer.told.clear();
     let seen = Seen { side: 0, call: &call, answer: &answer, before: &before, links, group: &world.groups[0] };

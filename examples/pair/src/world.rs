@@ -3,7 +3,7 @@
 
 use crate::books::{Books, Closed, Findings, Owed, Premise, Seen, What, Wrong};
 use crate::breaks::Fault;
-use crate::call::{self, other, Answer, Call, How, SIDES};
+use crate::call::{self, other, Answer, Call, How, Right, Rights, SIDES};
 use crate::counts::Counts;
 use crate::plain::WRAPS;
 use crate::random::mixed;
@@ -112,6 +112,7 @@ pub struct Line {
 pub struct World {
     pub setup: Setup,
     pub groups: [Group; 2],
+    pub rights: [Rights; 2],
     pub lives: Vec<Books>,
     past: [Vec<Past>; 2],
     /// Bytes that were never written to slots that closed since, and how these closed.
@@ -127,7 +128,7 @@ pub struct World {
 
 impl World {
     pub fn new(setup: Setup) -> World {
-        let groups = [0, 1].map(|side: usize| {
+        let mut groups = [0, 1].map(|side: usize| {
             let (s, n) = (setup.slots[side], setup.sizes[side]);
             let group = if side == setup.server { Group::fresh_server(s, n) } else { Group::fresh(s, n) };
             group.expect("sizes are in range")
@@ -135,6 +136,7 @@ impl World {
         World {
             past: setup.slots.map(|slots| vec![Past::Fresh; slots as usize]),
             before: [groups[0].table().to_vec(), groups[1].table().to_vec()],
+            rights: groups.each_mut().map(Rights::of),
             setup,
             groups,
             lives: Vec::new(),
@@ -172,8 +174,12 @@ impl World {
     /// The rule of reuse: a slot that closed by both C, or by A heard, may be used again; a slot that was freed, once nothing can arrive.
     pub fn may_begin(&self, side: usize, slot: u32) -> bool {
         let held = self.lives.iter().any(|books| books.ends[side].slot == slot && books.ends[side].closed.is_none());
-        let Some(past) = self.past[side].get((slot as usize).wrapping_sub(1)) else { return false };
-        !held && (*past != Past::Freed || self.setup.fault == Some(Fault::ReuseAfterFree))
+        !held
+            && match self.rights[side].get(slot) {
+                Right::Quiet(_) => true,
+                Right::Freed(_) => self.setup.fault == Some(Fault::ReuseAfterFree),
+                Right::InUse => false,
+            }
     }
 
     /// Slots that were freed, of which nothing more is known.
@@ -197,7 +203,7 @@ impl World {
         before.clear();
         before.extend_from_slice(self.groups[side].table());
         let links = self.groups[side].links().active;
-        let answer = call::make(&mut self.groups[side], &call);
+        let answer = call::make(&mut self.groups[side], &mut self.rights[side], &call);
         self.count(side, &call, &answer);
         self.note(side, &call, &answer);
         let group = &self.groups[side];
@@ -228,6 +234,10 @@ impl World {
                 }
             };
             self.past[side][end.slot as usize - 1] = past;
+            let right = matches!((past, self.rights[side].get(end.slot)), (Past::Freed, Right::Freed(_)) | (Past::Safe, Right::Quiet(_)));
+            if !right {
+                self.found.wrong.push(Wrong { id: books.id, side, what: What::Right });
+            }
         }
         self.retire();
         answer
@@ -282,7 +292,7 @@ impl World {
             Call::Read { .. } => counts.reads += 1,
             Call::Hear { bytes } => {
                 counts.hears += 1;
-                counts.failovers += u64::from(bytes[24] & 0x08 != 0);
+                counts.failovers += u64::from(bytes[24] & 0x08 != 0 && answer.refusal.is_none());
             }
             Call::Shutdown { .. } | Call::Close { .. } | Call::Abort { .. } => counts.endings += 1,
             Call::Link { .. } | Call::LinkMessage { .. } | Call::LinkSend { .. } => {
@@ -314,7 +324,7 @@ impl World {
     /// A stranger's call: it is refused and changes nothing, or that is wrong. The books are not shown it (`RefusedMayStand`).
     fn stranger(&mut self, id: usize, side: usize, call: Call, refusal: Refusal) {
         let before = self.groups[side].clone();
-        let answer = call::make(&mut self.groups[side], &call);
+        let answer = call::make(&mut self.groups[side], &mut self.rights[side], &call);
         self.count(side, &call, &answer);
         self.note(side, &call, &answer);
         if answer.refusal != Some(refusal) || self.groups[side] != before {
@@ -332,6 +342,7 @@ impl World {
                 let unknown = self.setup.fault == Some(Fault::ReuseAfterFree);
                 let Some(past) = past.filter(|past| **past == Past::Freed && !unknown) else { return false };
                 *past = Past::Gone;
+                self.rights[side].swear(slot);
                 self.note_wire(side, format!("nothing can arrive in slot {slot} any more: its queue pair is down"));
                 return true;
             }
@@ -430,7 +441,9 @@ impl World {
         true
     }
 
+    /// Counts that a slot is used again. One that was freed, and of which nothing more is known, is sworn for falsely: a fault.
     pub fn count_reuse(&mut self, side: usize, slot: u32) {
+        self.rights[side].swear(slot);
         let past = std::mem::replace(&mut self.past[side][slot as usize - 1], Past::Fresh);
         if past == Past::Fresh {
             return;
