@@ -944,8 +944,8 @@ static inline struct fordlinnet_link_states fordlinnet_states_of(const struct fo
     return states;
 }
 
-/* The four calls below with a small answer are the faster form of a place, a send, a read and a hear. A traced group makes the plain call
- * in their place, which answers the same. */
+/* The calls below with a small answer are the faster form of a place, a send, a read and a hear. A traced group makes the plain call in
+ * their place, which answers the same. */
 static FORDLINNET_COLD uint8_t fordlinnet_place_traced(struct fordlinnet_group *g, uint32_t slot, uint32_t offset, const uint8_t *bytes,
                                                        size_t length) {
     return (uint8_t)fordlinnet_place(g, slot, offset, bytes, length).refusal;
@@ -1042,20 +1042,35 @@ static inline struct fordlinnet_hear_answer fordlinnet_hear_direct(struct fordli
                                 length ? bytes : none, length, answer);
 }
 
+/* A traced shutdown, close or abort is made by its number, which answers the same. */
+static FORDLINNET_COLD struct fordlinnet_finish_answer fordlinnet_finish_traced(struct fordlinnet_group *g, uint32_t number, uint32_t slot,
+                                                                                uint8_t *message) {
+    struct fordlinnet_answer a = fordlinnet_call(g, fordlinnet_command_of(number, slot), 0, 0, 0, 0);
+    struct fordlinnet_finish_answer r;
+    r.refusal = (uint8_t)a.refusal;
+    r.made = a.made;
+    r.reset = a.said == FORDLINNET_RESET;
+    fordlinnet_message_to(message, &a);
+    return r;
+}
+
 /* Sends D, done writing. The message is written to `message`, which has 44 bytes. Refused with 1, 2, 3, 6, 7. */
 static inline struct fordlinnet_finish_answer fordlinnet_shutdown(struct fordlinnet_group *g, uint32_t slot, uint8_t *message) {
+    if (g->tracer) return fordlinnet_finish_traced(g, FORDLINNET_SHUTDOWN, slot, message);
     return fordlinnet_make_shutdown(g->s, g->n, g->memory, g->memory_length, g->table, g->table_length, fordlinnet_states_of(g), slot,
                                     message);
 }
 
 /* Sends C, and closes the slot if C was heard; with unread bytes it resets the connection instead. Message and refusals as shutdown's. */
 static inline struct fordlinnet_finish_answer fordlinnet_close(struct fordlinnet_group *g, uint32_t slot, uint8_t *message) {
+    if (g->tracer) return fordlinnet_finish_traced(g, FORDLINNET_CLOSE, slot, message);
     return fordlinnet_make_close(g->s, g->n, g->memory, g->memory_length, g->table, g->table_length, fordlinnet_states_of(g), slot,
                                  message);
 }
 
 /* Sends A. Message and refusals as shutdown's. */
 static inline struct fordlinnet_finish_answer fordlinnet_abort(struct fordlinnet_group *g, uint32_t slot, uint8_t *message) {
+    if (g->tracer) return fordlinnet_finish_traced(g, FORDLINNET_ABORT, slot, message);
     return fordlinnet_make_abort(g->s, g->n, g->memory, g->memory_length, g->table, g->table_length, fordlinnet_states_of(g), slot,
                                  message);
 }

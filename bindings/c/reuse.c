@@ -90,7 +90,7 @@ static void run(enum rule rule, const char *title) {
     struct card card = {.key = KEY, .up = {true, true}};
     struct write late, now;
     struct fordlinnet_answer a, sent;
-    uint8_t out[32];
+    uint8_t out[32], abort[FORDLINNET_MESSAGE_LENGTH];
 
     printf("%s\n", title);
     begin(&host, true);
@@ -102,11 +102,10 @@ static void run(enum rule rule, const char *title) {
     printf("  the draft's send names %u bytes for address %u by key %u\n", (unsigned)late.length, (unsigned)late.address,
            (unsigned)late.key);
 
-    a = fordlinnet_abort(&host.group, SLOT);
-    accepted(a.said, "abort");
+    accepted(fordlinnet_abort(&host.group, SLOT, abort).refusal ? FORDLINNET_REFUSED : FORDLINNET_ACCEPTED, "abort");
     if (rule == ABORT_HEARD) {
         /* the composer's card performs its writes before the messages that follow them, and its A is one */
-        struct fordlinnet_answer h = fordlinnet_hear(&composer.group, a.message, sizeof a.message);
+        struct fordlinnet_answer h = fordlinnet_hear(&composer.group, abort, sizeof abort);
         accepted(h.said, "hear");
         arrive(&card, &host, &late);
         accepted(fordlinnet_hear(&host.group, sent.message, sizeof sent.message).said, "hear");

@@ -109,13 +109,11 @@ static void course(void) {
     l = fordlinnet_link_change(&a->group, 1, false, a->moved, sizeof a->moved);
     fordlinnet_link_change(&a->group, 1, true, a->moved, 7);
     if (l.count == 1) fordlinnet_hear(&b->group, a->moved, FORDLINNET_MESSAGE_LENGTH);
-    x = fordlinnet_shutdown(&a->group, 2);
-    carry(a, b, out, &x);
-    x = fordlinnet_close(&b->group, 2);
-    carry(b, a, out, &x);
-    x = fordlinnet_abort(&a->group, 2);
+    if (fordlinnet_shutdown(&a->group, 2, message).made) fordlinnet_hear(&b->group, message, sizeof message);
+    if (fordlinnet_close(&b->group, 2, message).made) fordlinnet_hear(&a->group, message, sizeof message);
+    fordlinnet_abort(&a->group, 2, message);
     fordlinnet_free(&a->group, 2);
-    fordlinnet_hear(&a->group, x.message, sizeof x.message);
+    fordlinnet_hear(&a->group, message, sizeof message);
 }
 
 /* Any call at any time. */
@@ -155,17 +153,16 @@ static void any(struct end *e, struct end *peer) {
         case 12: fordlinnet_read_direct(g, slot, out, length, message); break;
         case 13: fordlinnet_hear(g, bytes, below(2) ? FORDLINNET_MESSAGE_LENGTH : length); break;
         case 14:
-            a = fordlinnet_shutdown(g, slot);
-            if (a.made) fordlinnet_hear_direct(&peer->group, a.message, sizeof a.message, message);
+            if (fordlinnet_shutdown(g, slot, out).made) {
+                fordlinnet_hear_direct(&peer->group, out, FORDLINNET_MESSAGE_LENGTH, message);
+            }
             break;
         case 15:
-            a = fordlinnet_close(g, slot);
-            if (a.made) fordlinnet_hear(&peer->group, a.message, sizeof a.message);
+            if (fordlinnet_close(g, slot, message).made) fordlinnet_hear(&peer->group, message, sizeof message);
             break;
         case 16:
             if (below(8)) break;
-            a = fordlinnet_abort(g, slot);
-            if (a.made && below(2)) fordlinnet_hear(&peer->group, a.message, sizeof a.message);
+            if (fordlinnet_abort(g, slot, message).made && below(2)) fordlinnet_hear(&peer->group, message, sizeof message);
             break;
         case 17:
             for (i = 0; i < 12; i++) f.values[i] = below(5);
