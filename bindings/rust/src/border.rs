@@ -459,7 +459,7 @@ extern "C" {
         table_length: usize,
         links: LinkStates,
         slot: u32,
-        message: *mut u8,
+        message: *mut [u8; Message::SIZE],
     ) -> FinishAnswer;
 
     fn fordlinnet_make_close(
@@ -471,7 +471,7 @@ extern "C" {
         table_length: usize,
         links: LinkStates,
         slot: u32,
-        message: *mut u8,
+        message: *mut [u8; Message::SIZE],
     ) -> FinishAnswer;
 
     fn fordlinnet_make_abort(
@@ -483,7 +483,7 @@ extern "C" {
         table_length: usize,
         links: LinkStates,
         slot: u32,
-        message: *mut u8,
+        message: *mut [u8; Message::SIZE],
     ) -> FinishAnswer;
 
     fn fordlinnet_make_gather(
@@ -713,7 +713,7 @@ pub(crate) fn hear<M: Memory + ?Sized>(lent: Lent<'_, M>, active: [bool; 4], byt
     Ok(Heard { moved, state, message: None, quiet: None })
 }
 
-type Finish = unsafe extern "C" fn(u32, u32, *const u8, usize, *mut Record, usize, LinkStates, u32, *mut u8) -> FinishAnswer;
+type Finish = unsafe extern "C" fn(u32, u32, *const u8, usize, *mut Record, usize, LinkStates, u32, *mut [u8; Message::SIZE]) -> FinishAnswer;
 
 /// Shutdown, close or abort, on the table itself.
 #[inline(always)]
