@@ -26,8 +26,8 @@ fn read(r: Read) -> plain::Read {
 
 fn closed(c: Closed) -> plain::Closed {
     match c {
-        Closed::InOrder(message) => plain::Closed::InOrder(message.into()),
-        Closed::Reset(message) => plain::Closed::Reset(message.into()),
+        Closed::InOrder { message, .. } => plain::Closed::InOrder(message.into()),
+        Closed::Reset { message } => plain::Closed::Reset(message.into()),
     }
 }
 

@@ -139,8 +139,8 @@ impl Bench {
             What::Hear => group.hear(&case.message).map_or((u64::MAX, None), |h| (h.moved, h.message.map(Into::into))),
             What::Shutdown => group.shutdown(case.slot).map_or((u64::MAX, None), |m| (0, Some(m.into()))),
             What::Close => match group.close(case.slot) {
-                Ok(Closed::InOrder(message)) => (0, Some(message.into())),
-                Ok(Closed::Reset(message)) => (1, Some(message.into())),
+                Ok(Closed::InOrder { message, .. }) => (0, Some(message.into())),
+                Ok(Closed::Reset { message }) => (1, Some(message.into())),
                 Err(_) => (u64::MAX, None),
             },
             What::Abort => group.abort(case.slot).map_or((u64::MAX, None), |m| (0, Some(m.into()))),
