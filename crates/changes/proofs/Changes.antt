@@ -17,10 +17,10 @@ use Rattle.failover.proofs.Keeps.{moved-keeps}
 use Rattle.failover.proofs.Still.{same-moved}
 use Rattle.rules.specs.Rules.{linksOf, Group, Call, Turn, Done, does, answer, refuses, putTurn, recordOf, sizesOk, on, requestTurn, next, elementIn, linkOf, close, hearTurn, turnOf, saysOf, refusal, heard, Answer, holderOf, sent, gathered, Request, hear, linkChange, linkMessage, linkSend, openSlot, freeSlot, sample, manage}
 use Rattle.order.proofs.Slots.{slot-in, record-other, table-long, memory-long, open-in, open-is, open-there, record-same}
-use Rattle.changes.specs.Changes.{asideOf, OneTurned, OneRecord, Touches, LinksByLinkCalls, HeardFor, Closes, ClosedBy, Forward, NeverBack, by-close, by-hear, by-abort, by-free, AbortAnswer, AbortHeard, slotOf, Closing}
+use Rattle.changes.specs.Changes.{asideOf, OneTurned, OneRecord, Touches, LinksByLinkCalls, HeardFor, Closes, ClosedBy, Forward, NeverBack, Kept, MarksStay, by-close, by-hear, by-abort, by-free, AbortAnswer, AbortHeard, slotOf, Closing}
 use Rattle.safety.proofs.Effects.{Acts, Effect, refuses-it, links-it, samples-it, puts-turn, effect, opens, open-facts, free-facts, asks, hears, frees}
 use Rattle.changes.proofs.Acted.{acts-slot, acts-in, is-sizes, acts-high, acts-long}
-use Rattle.changes.proofs.Course.{Course, goes, ends, ahead, stays, EndsSlot, request-course, hear-course, ClosesSlot}
+use Rattle.changes.proofs.Course.{Course, goes, ends, ahead, stays, kept-by, EndsSlot, request-course, hear-course, ClosesSlot}
 use Rattle.safety.specs.Statement.{OpenAt}
 use Rattle.connection.specs.declared.Record.{Record}
 use Rattle.connection.specs.Connection.{zeroRecord, refusalOf, marksTo}
@@ -151,7 +151,7 @@ module _ (g : Group) (c : Call) (i : ℕ) (o : OpenAt g (suc i)) where
   as-it-was w d e =
       goes w
       (stays (g .N) was d (ap (λ (x : Record). x .id) e) (ap (λ (x : Record). x .inbound .producer) e)
-      (ap (λ (x : Record). x .outbound .consumer) e))
+      (ap (λ (x : Record). x .outbound .consumer) e) (kept-by (was .marks) (d .marks) (ap (λ (x : Record). x .marks) e)))
 
   -- a connection that moved, or stays
   moved : (Closes g c (suc i) → ⊥) → (p : Plan) (d : Record) → d ≡ movedOf (g .N) p was → After d
@@ -160,7 +160,8 @@ module _ (g : Group) (c : Call) (i : ℕ) (o : OpenAt g (suc i)) where
       goes w
       (ahead (g .N) was d (ap (λ (x : Record). x .id .opened) e ∙ k .opened)
       (ap (λ (x : Record). x .inbound .producer) e ∙ ap (λ x. x .producer) (k .inbound))
-      (ap (λ (x : Record). x .outbound .consumer) e ∙ ap (λ x. x .consumer) (k .outbound)))
+      (ap (λ (x : Record). x .outbound .consumer) e ∙ ap (λ x. x .consumer) (k .outbound))
+      (kept-by (was .marks) (d .marks) (ap (λ (x : Record). x .marks) e ∙ k .marks)))
 
   -- a refusal closes nothing, and what closes a slot acts on it
   not-refused : (n : ℕ) → answer g c .says ≡ refusal n → Closes g c (suc i) → ⊥
@@ -292,7 +293,19 @@ never-back g c (suc i) o h = go (slot-course g c i o)
     go (ends w z) =
         absurd (false≢true (sym (ap (λ (x : Record). x .id .opened) z) ∙ open-in (next g c .S) (next g c .table) (suc i) h .is-open))
 
--- 6. A heard
+-- 6. Marks
+pub marks-stay : MarksStay
+unfolding zeroRecord
+marks-stay g c zero o h = absurd (slot-0 g o)
+marks-stay g c (suc i) o h = go (slot-course g c i o)
+  where
+    go : Course (g .N) (recordOf g (suc i)) (Closes g c (suc i)) (recordOf (next g c) (suc i))
+        → Kept (recordOf g (suc i) .marks) (recordOf (next g c) (suc i) .marks)
+    go (goes w a) = a .kept
+    go (ends w z) =
+        absurd (false≢true (sym (ap (λ (x : Record). x .id .opened) z) ∙ open-in (next g c .S) (next g c .table) (suc i) h .is-open))
+
+-- 7. A heard
 abbrev aborted : Record → Record
 aborted c = marksTo c (abortSent (c .marks))
 

@@ -12,7 +12,8 @@ use Rattle.cursor.specs.declared.Cursor.{Cursor}
 use Rattle.cursor.specs.Cursor.{sameB, goodB}
 use Rattle.cursor.proofs.Laws.{gap-self, gap-rest, gap-front}
 use Rattle.cdc.specs.declared.Message.{Message}
-use Rattle.closing.specs.Closing.{marked, closedSent, marksHeard}
+use Rattle.closing.specs.declared.Marks.{Marks}
+use Rattle.closing.specs.Closing.{marked, doneSent, closedSent, abortSent, marksHeard}
 use Rattle.connection.specs.declared.Record.{Record}
 use Rattle.outcome.specs.declared.Reply.{Reply}
 use Rattle.outcome.specs.declared.Reply.the-variants.{Accepted, Heard, Refused}
@@ -31,6 +32,68 @@ use Rattle.finish.specs.Finish.{resetOf, closingOf, shutdownOf, closeForbids, c
 use Rattle.rules.specs.Rules.{Request, send, gather, urgent, place, read, shutdown, close, abort, Says, accepted, saysOf, turnOf, requestTurn, hearTurn, refusal, heard}
 use Rattle.refusals.proofs.Answers.{clash}
 use Rattle.closing.specs.declared.State.{State}
+use Rattle.changes.specs.Changes.{Kept}
+
+-- the marks that stay, of the same marks, and of those that a call or a message sets
+kept-same : (m : Marks) → Kept m m
+kept-same m =
+    record { D-sent = λ e. e; C-sent = λ e. e; D-heard = λ e. e; C-heard = λ e. e; first = λ e. e; A-sent = λ e. e }
+
+pub kept-by : (m n : Marks) → n ≡ m → Kept m n
+kept-by m n e =
+    record {
+      D-sent = λ d. ap (λ (x : Marks). x .sent .done) e ∙ d;
+      C-sent = λ d. ap (λ (x : Marks). x .sent .closed) e ∙ d;
+      D-heard = λ d. ap (λ (x : Marks). x .heard .done) e ∙ d;
+      C-heard = λ d. ap (λ (x : Marks). x .heard .closed) e ∙ d;
+      first = λ d. ap (λ (x : Marks). x .first) e ∙ d;
+      A-sent = λ d. ap (λ (x : Marks). x .abort) e ∙ d;
+    }
+
+or-left : (a b : Bool) → a ≡ true → a || b ≡ true
+or-left true b e = refl
+or-left false b e = absurd (false≢true e)
+
+kept-done : (m : Marks) → Kept m (doneSent m)
+unfolding doneSent
+kept-done m =
+    record {
+      D-sent = λ e. refl;
+      C-sent = λ e. e;
+      D-heard = λ e. e;
+      C-heard = λ e. e;
+      first = or-left (m .first) _;
+      A-sent = λ e. e;
+    }
+
+kept-closed : (m : Marks) → Kept m (closedSent m)
+unfolding closedSent
+kept-closed m =
+    record {
+      D-sent = λ e. e;
+      C-sent = λ e. refl;
+      D-heard = λ e. e;
+      C-heard = λ e. e;
+      first = or-left (m .first) _;
+      A-sent = λ e. e;
+    }
+
+kept-abort : (m : Marks) → Kept m (abortSent m)
+unfolding abortSent
+kept-abort m =
+    record { D-sent = λ e. e; C-sent = λ e. e; D-heard = λ e. e; C-heard = λ e. e; first = λ e. e; A-sent = λ e. refl }
+
+kept-heard : (m : Marks) (d c : Bool) → Kept m (marksHeard m d c)
+unfolding marksHeard
+kept-heard m d c =
+    record {
+      D-sent = λ e. e;
+      C-sent = λ e. e;
+      D-heard = or-left (m .heard .done) d;
+      C-heard = or-left (m .heard .closed) c;
+      first = λ e. e;
+      A-sent = λ e. e;
+    }
 
 -- the record d is still that of the connection of c, and P and R did not go back
 pub record Ahead (n : ℕ) (c d : Record) : Type 0 where
@@ -38,6 +101,7 @@ pub record Ahead (n : ℕ) (c d : Record) : Type 0 where
   pub P-ahead : goodB (n - 4) (c .inbound .producer) (d .inbound .producer) ≡ true
   pub R-ahead : goodB (c .remote .size - 4) (c .outbound .consumer) (d .outbound .consumer) ≡ true
   pub P-still : marked (c .marks .heard) ≡ true → d .inbound .producer ≡ c .inbound .producer
+  pub kept : Kept (c .marks) (d .marks)
 
 -- it ends where there is a reason, and only there
 pub data Course (n : ℕ) (c : Record) (Why : Type 0) (d : Record) : Type 0 where
@@ -49,8 +113,8 @@ record Leaves (n : ℕ) (c : Record) (Why : Reply → Type 0) (o : Outcome) : Ty
   course : Course n c (Why (o .reply)) (o .after)
 
 pub ahead : (n : ℕ) (c d : Record) → d .id .opened ≡ c .id .opened → d .inbound .producer ≡ c .inbound .producer
-    → d .outbound .consumer ≡ c .outbound .consumer → Ahead n c d
-ahead n c d i p r =
+    → d .outbound .consumer ≡ c .outbound .consumer → Kept (c .marks) (d .marks) → Ahead n c d
+ahead n c d i p r k =
     record {
       same-opened = i;
       P-ahead = ap (λ (x : Cursor). goodB (n - 4) (c .inbound .producer) x) p ∙ gap-self (n - 4) (c .inbound .producer) .0;
@@ -58,11 +122,12 @@ ahead n c d i p r =
           ap (λ (x : Cursor). goodB (c .remote .size - 4) (c .outbound .consumer) x) r
           ∙ gap-self (c .remote .size - 4) (c .outbound .consumer) .0;
       P-still = λ m. p;
+      kept = k;
     }
 
 pub stays : (n : ℕ) (c d : Record) → d .id ≡ c .id → d .inbound .producer ≡ c .inbound .producer → d .outbound .consumer ≡ c .outbound .consumer
-    → Ahead n c d
-stays n c d i p r =
+    → Kept (c .marks) (d .marks) → Ahead n c d
+stays n c d i p r k =
     record {
       same-opened = ap (λ x. x .opened) i;
       P-ahead = ap (λ (x : Cursor). goodB (n - 4) (c .inbound .producer) x) p ∙ gap-self (n - 4) (c .inbound .producer) .0;
@@ -70,6 +135,7 @@ stays n c d i p r =
           ap (λ (x : Cursor). goodB (c .remote .size - 4) (c .outbound .consumer) x) r
           ∙ gap-self (c .remote .size - 4) (c .outbound .consumer) .0;
       P-still = λ m. p;
+      kept = k;
     }
 
 -- a refusal is no reason
@@ -80,23 +146,27 @@ module _ (n : ℕ) (c : Record) (Why : Reply → Type 0) (not-refused : (k : ℕ
 
   refused : (k : ℕ) → Leaves n c Why (refusedOf k c)
   unfolding refusedOf
-  refused k = record { course = goes (not-refused k) (stays n c c refl refl refl) }
+  refused k = record { course = goes (not-refused k) (stays n c c refl refl refl (kept-same (c .marks))) }
 
   told : (r : Reply) (t : Bool) (d : Record) → (Why r → ⊥) → Ahead n c d → Leaves n c Why (outcomeOf r t d)
   unfolding outcomeOf toldOf toldIn usedIn
   told r true d w h =
-      record { course = goes w (record { same-opened = h .same-opened; P-ahead = h .P-ahead; R-ahead = h .R-ahead; P-still = h .P-still }) }
+      record {
+        course =
+            goes w
+            (record { same-opened = h .same-opened; P-ahead = h .P-ahead; R-ahead = h .R-ahead; P-still = h .P-still; kept = h .kept });
+      }
   told r false d w h = record { course = goes w h }
 
   short : (r : Reply) (m : Message) (d : Record) → (Why r → ⊥) → d .id ≡ c .id → d .inbound .producer ≡ c .inbound .producer
-      → d .outbound .consumer ≡ c .outbound .consumer → Leaves n c Why (urgentOutcome r m d)
+      → d .outbound .consumer ≡ c .outbound .consumer → Kept (c .marks) (d .marks) → Leaves n c Why (urgentOutcome r m d)
   unfolding urgentOutcome toldOf toldIn usedIn
-  short r m d w i p q = record { course = goes w (stays n c (toldOf d) i p q) }
+  short r m d w i p q k = record { course = goes w (stays n c (toldOf d) i p q k) }
 
   -- a record in which neither P nor R moved, with or without a message made
   outcome : (r : Reply) (t : Bool) (d : Record) → (Why r → ⊥) → d .id ≡ c .id → d .inbound .producer ≡ c .inbound .producer
-      → d .outbound .consumer ≡ c .outbound .consumer → Leaves n c Why (outcomeOf r t d)
-  outcome r t d w i p q = told r t d w (stays n c d i p q)
+      → d .outbound .consumer ≡ c .outbound .consumer → Kept (c .marks) (d .marks) → Leaves n c Why (outcomeOf r t d)
+  outcome r t d w i p q k = told r t d w (stays n c d i p q k)
 
   shut : (t : Bool) (o : Outcome) → (t ≡ true → Why (o .reply)) → (t ≡ false → Leaves n c Why o) → Leaves n c Why (closedIf t o)
   unfolding closedIf
@@ -122,27 +192,27 @@ module _ (n : ℕ) (a : Bool) (c : Record) where
   module _ (q : Request) (other : (r : Reply) → Why q r → ⊥) where
     send-leaves : (k : ℕ) → Leaves n c (Why q) (sendOf n a c k)
     unfolding sendOf sentOf producedOf producedOut
-    send-leaves k = search (by-test, refused, outcome, never q, other) depth 9
+    send-leaves k = search (by-test, refused, outcome, never q, other, kept-same, kept-done, kept-abort) depth 9
 
     urgent-leaves : (k : ℕ) → Leaves n c (Why q) (urgentSendOf n a c k)
     unfolding urgentSendOf urgentOf urgedOf urgedOut producedOf producedOut
-    urgent-leaves k = search (by-test, refused, outcome, short, never q, other) depth 9
+    urgent-leaves k = search (by-test, refused, outcome, short, never q, other, kept-same) depth 9
 
     place-leaves : (at k : ℕ) → Leaves n c (Why q) (placeOf n a c at k)
     unfolding placeOf
-    place-leaves at k = search (by-test, refused, outcome, never q, other) depth 9
+    place-leaves at k = search (by-test, refused, outcome, never q, other, kept-same, kept-done, kept-abort) depth 9
 
     read-leaves : (t : Bool) (k : ℕ) → Leaves n c (Why q) (readOf n a c t k)
     unfolding readOf takeOf tornOf consumedOf consumedIn clearedIn marksTo
-    read-leaves t k = search (by-test, refused, outcome, never q, other) depth 9
+    read-leaves t k = search (by-test, refused, outcome, never q, other, kept-same, kept-done, kept-abort) depth 9
 
     shutdown-leaves : Leaves n c (Why q) (shutdownOf n a c)
     unfolding shutdownOf marksTo
-    shutdown-leaves = search (by-test, refused, outcome, never q, other) depth 9
+    shutdown-leaves = search (by-test, refused, outcome, never q, other, kept-same, kept-done, kept-abort) depth 9
 
     abort-leaves : Leaves n c (Why q) (abortOf n a c)
     unfolding abortOf marksTo
-    abort-leaves = search (by-test, refused, outcome, never q, other) depth 9
+    abort-leaves = search (by-test, refused, outcome, never q, other, kept-same, kept-done, kept-abort) depth 9
 
   close-leaves : Leaves n c (Why close) (closeOf n a c)
   unfolding closeOf resetOf closingOf marksTo
@@ -150,11 +220,11 @@ module _ (n : ℕ) (a : Bool) (c : Record) where
       by-test n c _ (never close) (eqb (refusalOf n a c (closeForbids (c .marks))) 0) _ _
       (λ e.
       by-test n c _ (never close) (ltb 0 (unreadOf n (c .inbound))) _ _
-      (λ u. outcome n c _ (never close) _ _ _ (λ w. let z = w .1 in clash (cc)) refl refl refl)
+      (λ u. outcome n c _ (never close) _ _ _ (λ w. let z = w .1 in clash (cc)) refl refl refl (kept-abort (c .marks)))
       (λ u.
       shut n c _ (never close) (c .marks .heard .closed) _
       (λ h. (refl, ap saysOf (outcome-reply Accepted true (marksTo c (closedSent (c .marks)))), h))
-      (λ h. outcome n c _ (never close) _ _ _ (λ w. false≢true (sym h ∙ w .2)) refl refl refl)))
+      (λ h. outcome n c _ (never close) _ _ _ (λ w. false≢true (sym h ∙ w .2)) refl refl refl (kept-closed (c .marks)))))
       (λ e. refused n c _ (never close) _)
 
   pub request-course : (e : List ℕ) (q : Request)
@@ -198,6 +268,7 @@ module _ (n : ℕ) (a : Bool) (c : Record) (m : Message) where
             gap-front (c .remote .size) (c .outbound .consumer) (m .consumer) (c .outbound .producer) (f .r-range) (r .range)
             (r .rq-good) (f .rq-good) (r .no-more) .0;
         P-still = λ h. same-cursor (c .inbound .producer) (m .producer) (still h);
+        kept = kept-heard (c .marks) (m .flags .done) (m .flags .closed);
       }
     where
       still : marked (c .marks .heard) ≡ true → sameB (c .inbound .producer) (m .producer) ≡ true
@@ -237,13 +308,13 @@ module _ (n : ℕ) (a : Bool) (c : Record) (m : Message) where
       (λ h. shut n c Ends unheard true _ (λ t. (was-heard _ _ _ (outcome-reply _ _ _), inl h)) (λ t. absurd (false≢true (sym t))))
       (λ h.
       by-test n c Ends unheard (c .marks .abort) _ _
-      (λ s. outcome n c Ends unheard _ _ _ (neither _ h (λ x y f. false≢true (sym y ∙ s))) refl refl refl)
+      (λ s. outcome n c Ends unheard _ _ _ (neither _ h (λ x y f. false≢true (sym y ∙ s))) refl refl refl (kept-same (c .marks)))
       (λ s.
       by-test n c Ends unheard (m .flags .failover) _ _
       (λ v.
       by-test n c Ends unheard (eqb (m .sequence) (c .inbound .last)) _ _
-      (λ z. outcome n c Ends unheard _ _ _ (neither _ h (λ x y f. false≢true (sym f ∙ v))) refl refl refl)
-      (λ z. outcome n c Ends unheard _ _ _ (neither _ h (λ x y f. false≢true (sym f ∙ v))) refl refl refl))
+      (λ z. outcome n c Ends unheard _ _ _ (neither _ h (λ x y f. false≢true (sym f ∙ v))) refl refl refl (kept-same (c .marks)))
+      (λ z. outcome n c Ends unheard _ _ _ (neither _ h (λ x y f. false≢true (sym f ∙ v))) refl refl refl (kept-abort (c .marks))))
       (λ v.
       by-test n c Ends unheard (nextB c m) _ _
       (λ z.

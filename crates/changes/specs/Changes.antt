@@ -1,4 +1,4 @@
--- Who may change what: six claims about the rules that every contract cites (`answer`, `next`), of any group, however it came about, and
+-- Who may change what: seven claims about the rules that every contract cites (`answer`, `next`), of any group, however it came about, and
 -- any call. proofs/Changes proves each. Assumes nothing.
 use Prim.Native.Nat.{ℕ, _+_, _*_, _≤_, _<_}
 use mathlib.Core.Path.{_≡_}
@@ -134,7 +134,19 @@ pub record Forward (g h : Group) (k : ℕ) : Type 0 where
 abbrev pub NeverBack : Type 0
 NeverBack = (g : Group) (c : Call) (k : ℕ) → OpenAt g k → OpenAt (next g c) k → Forward g (next g c) k
 
--- 6. A HEARD is answered by exactly one message, which has A, unless A was sent
+-- 6. MARKS. A mark once sent or heard stays while the slot is open: D and C sent, D and C heard, ours first, A sent
+pub record Kept (m n : Marks) : Type 0 where
+  pub D-sent : m .sent .done ≡ true → n .sent .done ≡ true
+  pub C-sent : m .sent .closed ≡ true → n .sent .closed ≡ true
+  pub D-heard : m .heard .done ≡ true → n .heard .done ≡ true
+  pub C-heard : m .heard .closed ≡ true → n .heard .closed ≡ true
+  pub first : m .first ≡ true → n .first ≡ true
+  pub A-sent : m .abort ≡ true → n .abort ≡ true
+
+abbrev pub MarksStay : Type 0
+MarksStay = (g : Group) (c : Call) (k : ℕ) → OpenAt g k → OpenAt (next g c) k → Kept (marksOf g k) (marksOf (next g c) k)
+
+-- 7. A HEARD is answered by exactly one message, which has A, unless A was sent
 pub record AbortAnswer (g : Group) (c : Call) (k : ℕ) : Type 0 where
   pub says-closed : answer g c .says ≡ heard 0 Closed
   pub made-once : answer g c .made ≡ not (marksOf g k .abort)

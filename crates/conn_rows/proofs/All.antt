@@ -70,4 +70,5 @@ rows-right =
       ends = refl;
       opens = refl;
       moves = refl;
+      zeros = refl;
     }

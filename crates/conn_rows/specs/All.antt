@@ -1,4 +1,7 @@
--- THE CLAIM: every row comes out as it says. Assumes nothing.
+-- THE CLAIM: every row comes out as it says; and what closing writes, all zeros, field by field. Assumes nothing.
+use mathlib.Core.Path.{_≡_}
+use Rattle.connection.specs.Connection.{zeroRecord}
+use Rattle.conn_rows.specs.Rows.{closedSlot}
 use Rattle.conn_rows.specs.Coherent as Coherent
 use Rattle.conn_rows.specs.Refused as Refused
 use Rattle.conn_rows.specs.States as States
@@ -21,3 +24,4 @@ pub record RowsRight : Type 0 where
   pub ends : Ends.RowsRight
   pub opens : Opens.RowsRight
   pub moves : Moves.RowsRight
+  pub zeros : zeroRecord ≡ closedSlot
