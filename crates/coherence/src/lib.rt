@@ -1,0 +1,1 @@
+// Definitions and theorems only: when an open record is coherent, in numbers.
