@@ -27,7 +27,7 @@ use Rattle.group.specs.Group.{callOf, outLeft, OutKept}
 use Rattle.pieces.specs.Pieces.{Piece, piecesOf}
 use Rattle.table.specs.Table.{recordAt}
 use Rattle.gathering.specs.declared.Gathered.{Gathered}
-use Rattle.gathering.specs.Gathering.{gatherAnswer}
+use Rattle.gathering.specs.Gathering.{gatherAnswer, DidGather}
 use Rattle.gathering.specs.Gathering as Gathering
 use Rattle.flat_gather.specs.declared.FlatGathered.{FlatGathered}
 use Rattle.flat_gather.specs.FlatGather.{gatherFlat, GatherMade}
@@ -190,8 +190,7 @@ gather-flat found head body a =
 
 pub fordlinnet-make-gather-returns : (s n : ℕ) (m : List ℕ) (t : List Record) (links : FlatLinks) (slot : ℕ) (head body : List ℕ)
     → (own : Links) → own ≡ linksIn links → (g : Gathered) (z : List Record)
-    → Did (groupOf s n t own m) (Gathering.callOf slot head body) (gatherAnswer (g .found) head body (g .answer))
-    (groupOf s n z (g .answer .links) m) × (g .found ≡ recordAt t slot)
+    → DidGather (groupOf s n t own m) slot head body g (groupOf s n z (g .answer .links) m)
     → (r : FlatGathered) → (r .answer ≡ gatherFlat (g .answer)) × (r .found ≡ g .found)
     → GatherMade (groupOf s n t (linksIn links) m) slot head body r (groupOf s n z (linksIn (r .answer .links)) m)
 fordlinnet-make-gather-returns s n m t links slot head body own ho g z e r f =
@@ -200,7 +199,7 @@ fordlinnet-make-gather-returns s n m t links slot head body own ho g z e r f =
       left =
           ap (λ (w : FlatAnswer). groupOf s n z (linksIn (w .links)) m) flat
           ∙ ap (λ (w : Links). groupOf s n z w m) (left-in says (g .answer .made) (g .answer .message) (g .answer .links)) ∙ did .left;
-      as-found = f .1 ∙ e .1;
+      as-found = f .1 ∙ e .as-found;
     }
   where
     flat : r .answer ≡ flatOf (gatherAnswer (g .found) head body (g .answer)) (g .answer .links)
@@ -209,10 +208,10 @@ fordlinnet-make-gather-returns s n m t links slot head body own ho g z e r f =
     says : Says
     says = gatherAnswer (g .found) head body (g .answer) .says
 
-    Gathers : Links → Type 0
-    Gathers w =
+    DidIt : Links → Type 0
+    DidIt w =
         Did (groupOf s n t w m) (Gathering.callOf slot head body) (gatherAnswer (g .found) head body (g .answer))
         (groupOf s n z (g .answer .links) m)
 
-    did : Gathers (linksIn links)
-    did = subst Gathers ho (e .0)
+    did : DidIt (linksIn links)
+    did = subst DidIt ho (e .did)

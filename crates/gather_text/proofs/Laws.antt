@@ -8,25 +8,23 @@ use Rattle.cursor.specs.declared.Cursor.{Cursor}
 use Rattle.pieces.specs.Pieces.{restOf, allowedOf, bytesOf}
 use Rattle.connection.specs.declared.Record.{Record}
 use Rattle.table.specs.declared.Links.{Links}
-use Rattle.table.specs.Table.{recordAt}
-use Rattle.rules.specs.Rules.{Did, groupOf}
+use Rattle.rules.specs.Rules.{groupOf}
 use Rattle.gathering.specs.declared.Gathered.{Gathered}
-use Rattle.gathering.specs.Gathering.{callOf, gatherAnswer}
+use Rattle.gathering.specs.Gathering.{DidGather}
 use Rattle.gather_text.specs.declared.GatherMade.{GatherMade}
 use Rattle.gather_text.specs.GatherText.{OnRows}
 
 module _ (t : List Record) (count s n : ℕ) (m : List ℕ) (ls : Links) (slot : ℕ) (h b : List ℕ) where
   abbrev Gave : ℕ → Gathered → List Record → Type 0
-  Gave k a z =
-      Did (groupOf s n (take k t) ls m) (callOf slot h b) (gatherAnswer (a .found) h b (a .answer)) (groupOf s n z (a .answer .links) m)
+  Gave k a z = DidGather (groupOf s n (take k t) ls m) slot h b a (groupOf s n z (a .answer .links) m)
 
   pub on-rows-returns : (k : ℕ) → (k ≡ min count 300) × (k ≤ 300) → (a : Gathered) (z : List Record)
-      → Gave k a z × (a .found ≡ recordAt (take k t) slot) → (r : GatherMade) → (r .table ≡ z ++ drop k t) × (r .gathered ≡ a)
+      → Gave k a z → (r : GatherMade) → (r .table ≡ z ++ drop k t) × (r .gathered ≡ a)
       → OnRows t count s n m ls slot h b r
   on-rows-returns k ek a z e r er =
       record {
         rows = z;
-        did = subst (λ (x : Gathered). Gave (min count 300) x z) (sym (er .1)) (subst (λ (j : ℕ). Gave j a z) (ek .0) (e .0));
+        did = subst (λ (x : Gathered). Gave (min count 300) x z) (sym (er .1)) (subst (λ (j : ℕ). Gave j a z) (ek .0) e);
         table = er .0 ∙ ap (λ (j : ℕ). z ++ drop j t) (ek .0);
       }
 

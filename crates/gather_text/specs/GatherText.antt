@@ -5,14 +5,13 @@ use mathlib.Core.List.{List, _++_}
 use lib.ListN.{take, drop}
 use Rattle.connection.specs.declared.Record.{Record}
 use Rattle.table.specs.declared.Links.{Links}
-use Rattle.rules.specs.Rules.{Did, groupOf}
-use Rattle.gathering.specs.Gathering.{callOf, gatherAnswer}
+use Rattle.rules.specs.Rules.{groupOf}
+use Rattle.gathering.specs.Gathering.{DidGather}
 use Rattle.gather_text.specs.declared.GatherMade.{GatherMade}
 
 -- the first `count` rows are the group's table, and the call left them as `rows`; the others stay as they were
 pub record OnRows (t : List Record) (count s n : ℕ) (m : List ℕ) (ls : Links) (slot : ℕ) (h b : List ℕ) (r : GatherMade) : Type 0 where
   pub rows : List Record
   pub did :
-      Did (groupOf s n (take (min count 300) t) ls m) (callOf slot h b)
-      (gatherAnswer (r .gathered .found) h b (r .gathered .answer)) (groupOf s n rows (r .gathered .answer .links) m)
+      DidGather (groupOf s n (take (min count 300) t) ls m) slot h b (r .gathered) (groupOf s n rows (r .gathered .answer .links) m)
   pub table : r .table ≡ rows ++ drop (min count 300) t

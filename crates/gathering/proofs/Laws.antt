@@ -12,11 +12,12 @@ use Rattle.table.specs.declared.Links.{Links}
 use Rattle.table.specs.declared.Answered.{Answered}
 use Rattle.table.specs.declared.Turned.{Turned}
 use Rattle.table.specs.Table.{recordAt, withRecord}
-use Rattle.rules.specs.Rules.{Answer, on, send, gather, Did, groupOf, answer, answerInPieces, turnOf, requestTurn}
-use Rattle.rules.specs.Promises.{Promise}
+use Rattle.rules.specs.Rules.{on, send, gather, Did, groupOf, answer, answerOf, answerInPieces, turnOf, requestTurn}
+use Rattle.rules.specs.Promises.{shownBy, onRecord, Promise}
+use Rattle.rules.proofs.Settled.{on-promised}
 use Rattle.rules.proofs.Joined.{joined-left, joined-says}
 use Rattle.gathering.specs.declared.Gathered.{Gathered}
-use Rattle.gathering.specs.Gathering.{callOf, gatherAnswer, DidGather}
+use Rattle.gathering.specs.Gathering.{gatherAnswer, DidGather}
 
 -- the turn of a send of the joined bytes, whose length the code adds up
 pub joined-turn : (n : ℕ) (active : Bool) (c : Record) (e h b : List ℕ) (o : Outcome) → o ≡ sendOf n active c (length h + length b)
@@ -42,16 +43,18 @@ did-joined s n m t ls k c h b a hc p =
 
 -- THE LENT FORM: what the record that was found, its step and the store give together
 pub gather-returns : (s n : ℕ) (m : List ℕ) (t : List Record) (ls : Links) (slot : ℕ) (h b : List ℕ) → (rec : Record)
-    → rec ≡ recordAt t slot → (d : Turned) → DidGather s n m (length t) ls slot rec h b d → (after : Record) → after ≡ d .after
-    → (u : Unit {0}) → (z : List Record) → z ≡ withRecord t slot after → (r : Gathered) → (r .answer ≡ d .answer) × (r .found ≡ rec)
-    → Did (groupOf s n t ls m) (callOf slot h b) (gatherAnswer (r .found) h b (r .answer))
-    (groupOf s n z (r .answer .links) m)
-    × (r .found ≡ recordAt t slot)
+    → rec ≡ recordAt t slot → (d : Turned) → shownBy d [] m ≡ onRecord s n m (length t) ls slot rec (send (h ++ b)) → (after : Record)
+    → after ≡ d .after → (u : Unit {0}) → (z : List Record) → z ≡ withRecord t slot after → (r : Gathered)
+    → (r .answer ≡ d .answer) × (r .found ≡ rec)
+    → DidGather (groupOf s n t ls m) slot h b r (groupOf s n z (r .answer .links) m)
 gather-returns s n m t ls slot h b rec er d e after ea u z ez r es =
-    let p = e t refl er in (
-      record {
-        answered = (λ i. gatherAnswer (es .1 i) h b (es .0 i)) ∙ p .answered;
-        left = (λ i. groupOf s n ((ez ∙ ap (withRecord t slot) ea) i) (es .0 i .links) m) ∙ p .left;
-      },
-      es .1 ∙ er,
-    )
+    let g = groupOf s n t ls m in
+    let q = on-promised s n t ls m slot (send (h ++ b)) rec er d [] m e in
+    let p = did-joined s n m t ls slot rec h b d er q in
+    let left : groupOf s n z (r .answer .links) m ≡ groupOf s n (withRecord t slot (d .after)) (d .answer .links) m =
+    (λ i. groupOf s n ((ez ∙ ap (withRecord t slot) ea) i) (es .0 i .links) m) in
+    record {
+      as-sent = record { answered = ap (λ (w : Answered). answerOf w []) (es .0) ∙ q .answered; left = left ∙ q .left };
+      as-found = es .1 ∙ er;
+      did = record { answered = (λ i. gatherAnswer (es .1 i) h b (es .0 i)) ∙ p .answered; left = left ∙ p .left };
+    }

@@ -1,15 +1,12 @@
 -- Document 02, 2026-08: what the code answers to a send of a head and a body. Assumes nothing.
 use Prim.Native.Nat.{ℕ}
 use mathlib.Core.Path.{_≡_}
-use mathlib.Core.List.{List, []}
-use lib.ListN.{length}
+use mathlib.Core.List.{List, [], _++_}
 use Rattle.connection.specs.declared.Record.{Record}
 use Rattle.pieces.specs.Pieces.{piecesOf}
-use Rattle.table.specs.declared.Links.{Links}
 use Rattle.table.specs.declared.Answered.{Answered}
-use Rattle.table.specs.declared.Turned.{Turned}
-use Rattle.table.specs.Table.{recordAt, withRecord}
-use Rattle.rules.specs.Rules.{Answer, Call, on, gather, Did, groupOf, answerOf, answerInPieces}
+use Rattle.rules.specs.Rules.{Group, Answer, Call, on, send, gather, Did, recordOf, answerOf, answerInPieces}
+use Rattle.gathering.specs.declared.Gathered.{Gathered}
 
 abbrev pub callOf : ℕ → List ℕ → List ℕ → Call
 callOf slot head body = on slot (gather head body)
@@ -18,9 +15,10 @@ callOf slot head body = on slot (gather head body)
 abbrev pub gatherAnswer : Record → List ℕ → List ℕ → Answered → Answer
 gatherAnswer found head body a = answerInPieces (piecesOf found head body) (answerOf a [])
 
--- the step of the record c, in every table of `count` records that has it in the slot
-abbrev pub DidGather : ℕ → ℕ → List ℕ → ℕ → Links → ℕ → Record → List ℕ → List ℕ → Turned → Type 0
-DidGather s n m count links slot c head body r =
-    (t : List Record) → length t ≡ count → c ≡ recordAt t slot
-    → Did (groupOf s n t links m) (callOf slot head body) (gatherAnswer c head body (r .answer))
-    (groupOf s n (withRecord t slot (r .after)) (r .answer .links) m)
+-- On the group g a gather of head and body is answered by r and leaves h: for all inputs, refused or not, its answer, placings too, is that
+-- of a send of the joined bytes; `found` is the slot's record before the call, all zeros beyond the table; and cut by it, the answer is
+-- the rules' to a gather
+pub record DidGather (g : Group) (slot : ℕ) (head body : List ℕ) (r : Gathered) (h : Group) : Type 0 where
+  pub as-sent : Did g (on slot (send (head ++ body))) (answerOf (r .answer) []) h
+  pub as-found : r .found ≡ recordOf g slot
+  pub did : Did g (callOf slot head body) (gatherAnswer (r .found) head body (r .answer)) h

@@ -2,9 +2,10 @@
 // and the links, whatever they hold. Its pieces are handed out one at a time afterwards, by `pieces::piece` and `pieces::placing`, from the
 // record that it found.
 ghost use mathlib.Core.Path.{_≡_};
-ghost use Rattle.table.specs.Table.{recordAt};
-ghost use Rattle.rules.specs.Rules.{Did, groupOf};
-ghost use Rattle.gathering.specs.Gathering.{callOf, gatherAnswer, DidGather};
+ghost use mathlib.Core.List.{[], _++_};
+ghost use Rattle.rules.specs.Rules.{Request, groupOf};
+ghost use Rattle.rules.specs.Promises.{shownBy, onRecord};
+ghost use Rattle.gathering.specs.Gathering.{DidGather};
 use connection::Record;
 use table::Answered;
 use table::Links;
@@ -17,7 +18,7 @@ pub struct Gathered {
     pub found: Record,
 }
 
-// The step of one record.
+// The step of one record: that of a send of the joined bytes.
 fn turn(
     s: u32,
     n: u32,
@@ -29,7 +30,9 @@ fn turn(
     head: &[u8],
     body: &[u8],
 ) -> Turned
-    ensures { λ r. ⌜ DidGather s n (now (mem .entry)) count links slot rec (now (head .entry)) (now (body .entry)) r ⌝ }
+    ensures { λ r.
+        ⌜ shownBy r [] (now (mem .entry))
+        ≡ onRecord s n (now (mem .entry)) count links slot rec (Request.send (now (head .entry) ++ now (body .entry))) ⌝ }
 {
     let no = table::found(s, n, mem.len(), count, slot, rec);
     let active = table::link_active(links, rec.id.link);
@@ -68,11 +71,8 @@ pub fn gather(
     body: &[u8],
 ) -> Gathered
     ensures { λ r.
-        ⌜ Did (groupOf s n (now (table .entry)) links (now (mem .entry)))
-        (callOf slot (now (head .entry)) (now (body .entry)))
-        (gatherAnswer (r .found) (now (head .entry)) (now (body .entry)) (r .answer))
-        (groupOf s n (now (table .exit)) (r .answer .links) (now (mem .entry)))
-        × (r .found ≡ recordAt (now (table .entry)) slot) ⌝ }
+        ⌜ DidGather (groupOf s n (now (table .entry)) links (now (mem .entry))) slot (now (head .entry)) (now (body .entry)) r
+        (groupOf s n (now (table .exit)) (r .answer .links) (now (mem .entry))) ⌝ }
 {
     let k = slot as usize;
     let rec = slots::record_at(table, k);

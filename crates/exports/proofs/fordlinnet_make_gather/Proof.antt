@@ -81,9 +81,8 @@ use Rattle.exports.proofs.fordlinnet_make_gather.Statement as stated
 use Rattle.exports.proofs.fordlinnet_make_gather.Code as code
 use Rattle.flat.specs.Flat.{linksIn}
 use Rattle.flat_gather.specs.FlatGather.{GatherMade, gatherFlat}
-use Rattle.gathering.specs.Gathering.{callOf, gatherAnswer}
-use Rattle.rules.specs.Rules.{Did, groupOf}
-use Rattle.table.specs.Table.{recordAt}
+use Rattle.gathering.specs.Gathering.{DidGather}
+use Rattle.rules.specs.Rules.{groupOf}
 use Rattle.exports.proofs.Laws.{fordlinnet-make-gather-returns}
 
 -- what is left of a body after its first k statements
@@ -203,7 +202,7 @@ module _ {M : Type 1} (𝓤 : URA M) (H : Heap 𝓤) (A : Atoms 𝓤) (W : Given
     abbrev locals : ℕ → ℕ → ℕ → ℕ → ℕ → ℕ → ℕ → ℕ → ℕ → ℕ → ℕ → ℕ → ℕ → Env 𝓤 H
     locals l₀ l₁ l₂ l₃ l₄ l₅ l₆ l₇ l₈ l₉ l₁₀ l₁₁ l₁₂ = (FlatGatheredL.mir, l₀) ∷ ((tyInt w32), l₁) ∷ ((tyInt w32), l₂) ∷ ((sliceTy (tyRef (named 0) imm (tyInt w8))), l₃) ∷ ((sliceTy (tyRef (named 1) mut (pointee (RecordT.the-row .written)))), l₄) ∷ (FlatLinksL.mir, l₅) ∷ ((tyInt w32), l₆) ∷ ((sliceTy (tyRef (named 2) imm (tyInt w8))), l₇) ∷ ((sliceTy (tyRef (named 3) imm (tyInt w8))), l₈) ∷ (LinksL.mir, l₉) ∷ (GatheredL.mir, l₁₀) ∷ ((tyRef erased mut (pointee (RecordT.the-row .written))), l₁₁) ∷ ((sliceTy (tyRef erased mut (pointee (RecordT.the-row .written)))), l₁₂) ∷ []
 
-    part-3 : (l₀ l₁ l₂ l₃ l₄ l₅ l₆ l₇ l₈ l₉ l₁₀ l₁₁ l₁₂ : ℕ) (w : Val) (r : Links) (ws : Unit {0} × Unit {0}) (e : r ≡ linksIn links) (is : Is LinksT.the-row r (w ∷ [])) (w₂ : Val) (r₂ : Gathered) (ws₂ : Unit {0} × (Unit {0} × (Unit {0} × (List Record × (Unit {0} × (Unit {0} × (Unit {0} × (Unit {0} × Unit {0})))))))) (e₂ : Did (groupOf s n (ys-table) r (ys-mem)) (callOf slot (ys-head) (ys-body)) (gatherAnswer (r₂ .found) (ys-head) (ys-body) (r₂ .answer)) (groupOf s n (ws₂ .1 .1 .1 .0) (r₂ .answer .links) (ys-mem)) × (r₂ .found ≡ recordAt (ys-table) slot)) (len : length (ws₂ .1 .1 .1 .0) ≡ length ys-table) (is₂ : Is GatheredT.the-row r₂ (w₂ ∷ [])) → Sq W (‵ (flft κ₃ q₃) ∷ ‵ (flft κ₂ q₂) ∷ ‵ (flft κ₁ q₁) ∷ ‵ (flft κ₀ q₀) ∷ ‵ (finally RecordT.the-row γ-table (ws₂ .1 .1 .1 .0)) ∷ ‵ Own-body ∷ ‵ Own-head ∷ ‵ Own-mem ∷ ‵ (fat fullShare (sliceTy (tyRef erased mut (pointee (RecordT.the-row .written)))) l₁₂ 0 (s-table)) ∷ ‵ (fdies (sliceTy (tyRef erased mut (pointee (RecordT.the-row .written)))) l₁₂) ∷ ‵ (fat fullShare (tyRef erased mut (pointee (RecordT.the-row .written))) l₁₁ 0 (vptr b-table o-table)) ∷ ‵ (fdies (tyRef erased mut (pointee (RecordT.the-row .written))) l₁₁) ∷ ‵ (fat fullShare GatheredL.mir l₁₀ 0 (w₂)) ∷ ‵ (fdies GatheredL.mir l₁₀) ∷ ‵ (fat fullShare LinksL.mir l₉ 0 (w)) ∷ ‵ (fdies LinksL.mir l₉) ∷ ‵ (fat fullShare (sliceTy (tyRef (named 3) imm (tyInt w8))) l₈ 0 (s-body)) ∷ ‵ (fdies (sliceTy (tyRef (named 3) imm (tyInt w8))) l₈) ∷ ‵ (fat fullShare (sliceTy (tyRef (named 2) imm (tyInt w8))) l₇ 0 (s-head)) ∷ ‵ (fdies (sliceTy (tyRef (named 2) imm (tyInt w8))) l₇) ∷ ‵ (fat fullShare (tyInt w32) l₆ 0 (vint w32 slot)) ∷ ‵ (fdies (tyInt w32) l₆) ∷ ‵ (fat fullShare FlatLinksL.mir l₅ 0 (v-links)) ∷ ‵ (fdies FlatLinksL.mir l₅) ∷ ‵ (fat fullShare (sliceTy (tyRef (named 1) mut (pointee (RecordT.the-row .written)))) l₄ 0 (s-table)) ∷ ‵ (fdies (sliceTy (tyRef (named 1) mut (pointee (RecordT.the-row .written)))) l₄) ∷ ‵ (fat fullShare (sliceTy (tyRef (named 0) imm (tyInt w8))) l₃ 0 (s-mem)) ∷ ‵ (fdies (sliceTy (tyRef (named 0) imm (tyInt w8))) l₃) ∷ ‵ (fat fullShare (tyInt w32) l₂ 0 (vint w32 n)) ∷ ‵ (fdies (tyInt w32) l₂) ∷ ‵ (fat fullShare (tyInt w32) l₁ 0 (vint w32 s)) ∷ ‵ (fdies (tyInt w32) l₁) ∷ ‵ (froom FlatGatheredL.mir l₀ 0) ∷ ‵ (fdies FlatGatheredL.mir l₀) ∷ []) (runs C Λ (locals l₀ l₁ l₂ l₃ l₄ l₅ l₆ l₇ l₈ l₉ l₁₀ l₁₁ l₁₂) (after 4 (code.function .body)) (atRet (locals l₀ l₁ l₂ l₃ l₄ l₅ l₆ l₇ l₈ l₉ l₁₀ l₁₁ l₁₂) Post))
+    part-3 : (l₀ l₁ l₂ l₃ l₄ l₅ l₆ l₇ l₈ l₉ l₁₀ l₁₁ l₁₂ : ℕ) (w : Val) (r : Links) (ws : Unit {0} × Unit {0}) (e : r ≡ linksIn links) (is : Is LinksT.the-row r (w ∷ [])) (w₂ : Val) (r₂ : Gathered) (ws₂ : Unit {0} × (Unit {0} × (Unit {0} × (List Record × (Unit {0} × (Unit {0} × (Unit {0} × (Unit {0} × Unit {0})))))))) (e₂ : DidGather (groupOf s n (ys-table) r (ys-mem)) slot (ys-head) (ys-body) r₂ (groupOf s n (ws₂ .1 .1 .1 .0) (r₂ .answer .links) (ys-mem))) (len : length (ws₂ .1 .1 .1 .0) ≡ length ys-table) (is₂ : Is GatheredT.the-row r₂ (w₂ ∷ [])) → Sq W (‵ (flft κ₃ q₃) ∷ ‵ (flft κ₂ q₂) ∷ ‵ (flft κ₁ q₁) ∷ ‵ (flft κ₀ q₀) ∷ ‵ (finally RecordT.the-row γ-table (ws₂ .1 .1 .1 .0)) ∷ ‵ Own-body ∷ ‵ Own-head ∷ ‵ Own-mem ∷ ‵ (fat fullShare (sliceTy (tyRef erased mut (pointee (RecordT.the-row .written)))) l₁₂ 0 (s-table)) ∷ ‵ (fdies (sliceTy (tyRef erased mut (pointee (RecordT.the-row .written)))) l₁₂) ∷ ‵ (fat fullShare (tyRef erased mut (pointee (RecordT.the-row .written))) l₁₁ 0 (vptr b-table o-table)) ∷ ‵ (fdies (tyRef erased mut (pointee (RecordT.the-row .written))) l₁₁) ∷ ‵ (fat fullShare GatheredL.mir l₁₀ 0 (w₂)) ∷ ‵ (fdies GatheredL.mir l₁₀) ∷ ‵ (fat fullShare LinksL.mir l₉ 0 (w)) ∷ ‵ (fdies LinksL.mir l₉) ∷ ‵ (fat fullShare (sliceTy (tyRef (named 3) imm (tyInt w8))) l₈ 0 (s-body)) ∷ ‵ (fdies (sliceTy (tyRef (named 3) imm (tyInt w8))) l₈) ∷ ‵ (fat fullShare (sliceTy (tyRef (named 2) imm (tyInt w8))) l₇ 0 (s-head)) ∷ ‵ (fdies (sliceTy (tyRef (named 2) imm (tyInt w8))) l₇) ∷ ‵ (fat fullShare (tyInt w32) l₆ 0 (vint w32 slot)) ∷ ‵ (fdies (tyInt w32) l₆) ∷ ‵ (fat fullShare FlatLinksL.mir l₅ 0 (v-links)) ∷ ‵ (fdies FlatLinksL.mir l₅) ∷ ‵ (fat fullShare (sliceTy (tyRef (named 1) mut (pointee (RecordT.the-row .written)))) l₄ 0 (s-table)) ∷ ‵ (fdies (sliceTy (tyRef (named 1) mut (pointee (RecordT.the-row .written)))) l₄) ∷ ‵ (fat fullShare (sliceTy (tyRef (named 0) imm (tyInt w8))) l₃ 0 (s-mem)) ∷ ‵ (fdies (sliceTy (tyRef (named 0) imm (tyInt w8))) l₃) ∷ ‵ (fat fullShare (tyInt w32) l₂ 0 (vint w32 n)) ∷ ‵ (fdies (tyInt w32) l₂) ∷ ‵ (fat fullShare (tyInt w32) l₁ 0 (vint w32 s)) ∷ ‵ (fdies (tyInt w32) l₁) ∷ ‵ (froom FlatGatheredL.mir l₀ 0) ∷ ‵ (fdies FlatGatheredL.mir l₀) ∷ []) (runs C Λ (locals l₀ l₁ l₂ l₃ l₄ l₅ l₆ l₇ l₈ l₉ l₁₀ l₁₁ l₁₂) (after 4 (code.function .body)) (atRet (locals l₀ l₁ l₂ l₃ l₄ l₅ l₆ l₇ l₈ l₉ l₁₀ l₁₁ l₁₂) Post))
     part-3 l₀ l₁ l₂ l₃ l₄ l₅ l₆ l₇ l₈ l₉ l₁₀ l₁₁ l₁₂ w r ws e is w₂ r₂ ws₂ e₂ len is₂ =
         use0 W (raw (C-f-gathered 𝓤 H A mem run .pre (to-f-gathered 𝓤 H A mem run r₂ (w₂)))) (goes-f-gathered 𝓤 H A W mem run r₂ (w₂) is₂) $
         calls-at ! fm (C-f-gathered 𝓤 H A mem run) known-f-gathered (to-f-gathered 𝓤 H A mem run r₂ (w₂)) (and-then ! (load ! (from ! (stop !)) (look ! 13 refl)) (no-more !)) (λ w₃.
@@ -234,8 +233,8 @@ module _ {M : Type 1} (𝓤 : URA M) (H : Heap 𝓤) (A : Atoms 𝓤) (W : Given
         move ! (7 ∷ []) $ use1 W (‵ Own-mem ⊛ ‵ Own-mem) (shr-slice-copy 𝓤 H A W (named 0) κ₀ u8 .twice x-mem (s-mem ∷ [])) $ split ! $ move ! (7 ∷ []) $ use1 W (‵ Own-head ⊛ ‵ Own-head) (shr-slice-copy 𝓤 H A W (named 2) κ₂ u8 .twice x-head (s-head ∷ [])) $ split ! $ move ! (8 ∷ []) $ use1 W (‵ Own-body ⊛ ‵ Own-body) (shr-slice-copy 𝓤 H A W (named 3) κ₃ u8 .twice x-body (s-body ∷ [])) $ split ! $ nothing ! $ move ! (2 ∷ 0 ∷ []) $ join ! $ move ! (3 ∷ 0 ∷ []) $ join ! $ move ! (9 ∷ 0 ∷ []) $ join ! $ move ! (4 ∷ 0 ∷ []) $ join ! $ move ! (4 ∷ 0 ∷ []) $ join ! $ move ! (4 ∷ 0 ∷ []) $ join ! $ move ! (4 ∷ 0 ∷ []) $ join ! $ move ! (4 ∷ 0 ∷ []) $ join ! $ use1 W (raw (C-f-gather 𝓤 H A mem run .pre (to-f-gather 𝓤 H A mem run κ₀ q₀ κ₁ q₁ κ₂ q₂ κ₃ q₃ s (vint w32 s) n (vint w32 n) x-mem s-mem x-table s-table r (w) slot (vint w32 slot) x-head s-head x-body s-body))) (goes-f-gather 𝓤 H A W mem run κ₀ q₀ κ₁ q₁ κ₂ q₂ κ₃ q₃ s (vint w32 s) n (vint w32 n) x-mem s-mem x-table s-table r (w) slot (vint w32 slot) x-head s-head x-body s-body (refl, g-s) (refl, g-n) is (refl, g-slot)) $
         calls-at ! fm (C-f-gather 𝓤 H A mem run) known-f-gather (to-f-gather 𝓤 H A mem run κ₀ q₀ κ₁ q₁ κ₂ q₂ κ₃ q₃ s (vint w32 s) n (vint w32 n) x-mem s-mem x-table s-table r (w) slot (vint w32 slot) x-head s-head x-body s-body) (and-then ! (load ! (from ! (stop !)) (look ! 26 refl)) (and-then ! (load ! (from ! (stop !)) (look ! 24 refl)) (and-then ! (load ! (from ! (stop !)) (look ! 22 refl)) (and-then ! (load ! (from ! (stop !)) (look ! 4 refl)) (and-then ! (load ! (from ! (stop !)) (look ! 10 refl)) (and-then ! (load ! (from ! (stop !)) (look ! 16 refl)) (and-then ! (load ! (from ! (stop !)) (look ! 14 refl)) (and-then ! (load ! (from ! (stop !)) (look ! 12 refl)) (no-more !))))))))) (λ w₂.
         use1 W (later (some (λ (r₂ : Gathered). ((‵ (flft κ₀ q₀) ⊛ ‵ (flft κ₁ q₁) ⊛ ‵ (flft κ₂ q₂) ⊛ ‵ (flft κ₃ q₃) ⊛ ‵ ftrue) ⊛ ‵ (GatheredT.the-row .own r₂ (w₂ ∷ []))) ⊛ raw (ensured 𝓤 H A f-gather.ended (f-gather.clauses 𝓤 H A mem run) (κ₀, (κ₁, (κ₂, (κ₃, tt)))) (s, (n, (x-mem, (x-table, (r, (slot, (x-head, (x-body, tt)))))))) tt r₂)))) (id⊢ 𝓤 _) $ await ! tt $ pick ! (λ r₂.
-        split ! $ move ! (1 ∷ []) $ use1 W (some (λ (ws₂ : Unit {0} × (Unit {0} × (Unit {0} × (List Record × (Unit {0} × (Unit {0} × (Unit {0} × (Unit {0} × Unit {0})))))))). ‵ (lasts f-gather.ended (κ₀, (κ₁, (κ₂, (κ₃, tt)))) (s, (n, (x-mem, (x-table, (r, (slot, (x-head, (x-body, tt)))))))) ws₂) ⊛ raw (fact 𝓤 (Did (groupOf s n (ys-table) r (ys-mem)) (callOf slot (ys-head) (ys-body)) (gatherAnswer (r₂ .found) (ys-head) (ys-body) (r₂ .answer)) (groupOf s n (ws₂ .1 .1 .1 .0) (r₂ .answer .links) (ys-mem)) × (r₂ .found ≡ recordAt (ys-table) slot))))) (id⊢ 𝓤 _) $ pick ! (λ ws₂.
-        split ! $ move ! (1 ∷ []) $ heard ! (Did (groupOf s n (ys-table) r (ys-mem)) (callOf slot (ys-head) (ys-body)) (gatherAnswer (r₂ .found) (ys-head) (ys-body) (r₂ .answer)) (groupOf s n (ws₂ .1 .1 .1 .0) (r₂ .answer .links) (ys-mem)) × (r₂ .found ≡ recordAt (ys-table) slot)) (λ e₂.
+        split ! $ move ! (1 ∷ []) $ use1 W (some (λ (ws₂ : Unit {0} × (Unit {0} × (Unit {0} × (List Record × (Unit {0} × (Unit {0} × (Unit {0} × (Unit {0} × Unit {0})))))))). ‵ (lasts f-gather.ended (κ₀, (κ₁, (κ₂, (κ₃, tt)))) (s, (n, (x-mem, (x-table, (r, (slot, (x-head, (x-body, tt)))))))) ws₂) ⊛ raw (fact 𝓤 (DidGather (groupOf s n (ys-table) r (ys-mem)) slot (ys-head) (ys-body) r₂ (groupOf s n (ws₂ .1 .1 .1 .0) (r₂ .answer .links) (ys-mem)))))) (id⊢ 𝓤 _) $ pick ! (λ ws₂.
+        split ! $ move ! (1 ∷ []) $ heard ! (DidGather (groupOf s n (ys-table) r (ys-mem)) slot (ys-head) (ys-body) r₂ (groupOf s n (ws₂ .1 .1 .1 .0) (r₂ .answer .links) (ys-mem))) (λ e₂.
         fsplit ! $ drop ! $ fsplit ! $ drop ! $ fsplit ! $ drop ! $ fsplit ! $ fsplit ! $ move ! (1 ∷ []) $ feqL ! (λ len. move ! (1 ∷ []) $ fsplit ! $ drop ! $ fsplit ! $ drop ! $ fsplit ! $ drop ! $ fsplit ! $ drop ! $ drop ! $ move ! (1 ∷ []) $ split ! $
         move ! (1 ∷ []) $ peeks ! GatheredT.the-row (Is GatheredT.the-row) (shows 𝓤 H A GatheredT.the-row) r₂ (w₂ ∷ []) (λ is₂. drop ! $
         land ! (from ! (stop !)) (init ! 9 refl (LL.lawful GatheredT.the-type GatheredL.the-laws 𝓤 H A W .typed r₂ _ is₂ .0)) $

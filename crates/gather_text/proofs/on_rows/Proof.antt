@@ -77,9 +77,9 @@ use Rattle.gather_text.proofs.on_rows.Statement as stated
 use Rattle.gather_text.proofs.on_rows.Code as code
 use Prim.Native.Nat.{_≤_, min}
 use Rattle.gather_text.specs.GatherText.{OnRows}
-use Rattle.gathering.specs.Gathering.{callOf, gatherAnswer}
-use Rattle.rules.specs.Rules.{Did, groupOf}
-use Rattle.table.specs.Table.{recordAt}
+use Rattle.gathering.specs.Gathering.{DidGather}
+use Rattle.rules.specs.Rules.{groupOf}
+use mathlib.Core.List.{_++_}
 use Rattle.gather_text.proofs.Laws.{on-rows-returns}
 use mathlib.Core.List.{_++_}
 use Prim.Native.Nat.{_≤_}
@@ -204,7 +204,7 @@ module _ {M : Type 1} (𝓤 : URA M) (H : Heap 𝓤) (A : Atoms 𝓤) (W : Given
     abbrev locals : ℕ → ℕ → ℕ → ℕ → ℕ → ℕ → ℕ → ℕ → ℕ → ℕ → ℕ → ℕ → ℕ → ℕ → ℕ → ℕ → Env 𝓤 H
     locals l₀ l₁ l₂ l₃ l₄ l₅ l₆ l₇ l₈ l₉ l₁₀ l₁₁ l₁₂ l₁₃ l₁₄ l₁₅ = (GatherMadeL.mir, l₀) ∷ ((tyArray RecordL.mir 300), l₁) ∷ ((tyInt w64), l₂) ∷ ((tyInt w32), l₃) ∷ ((tyInt w32), l₄) ∷ ((sliceTy (tyRef (named 0) imm (tyInt w8))), l₅) ∷ (LinksL.mir, l₆) ∷ ((tyInt w32), l₇) ∷ ((sliceTy (tyRef (named 1) imm (tyInt w8))), l₈) ∷ ((sliceTy (tyRef (named 2) imm (tyInt w8))), l₉) ∷ ((tyInt w64), l₁₀) ∷ ((tyArray RecordL.mir 300), l₁₁) ∷ (GatheredL.mir, l₁₂) ∷ ((tyRef erased mut (pointee ((Array RecordT.the-row 300) .written))), l₁₃) ∷ ((sliceTy (tyRef erased mut (pointee (RecordT.the-row .written)))), l₁₄) ∷ ((tyArray RecordL.mir 300), l₁₅) ∷ []
 
-    part-3 : (l₀ l₁ l₂ l₃ l₄ l₅ l₆ l₇ l₈ l₉ l₁₀ l₁₁ l₁₂ l₁₃ l₁₄ l₁₅ : ℕ) (w : Val) (r : ℕ) (ws : Unit {0} × Unit {0}) (e : (r ≡ min count 300) × (r ≤ 300)) (is : Is usize r (w ∷ [])) (long : length table ≡ 300) (w₂ : Val) (r₂ : Gathered) (ws₂ : Unit {0} × (Unit {0} × (Unit {0} × (List Record × (Unit {0} × (Unit {0} × (Unit {0} × (Unit {0} × Unit {0})))))))) (e₂ : Did (groupOf s n ((take r table)) links (ys-mem)) (callOf slot (ys-head) (ys-body)) (gatherAnswer (r₂ .found) (ys-head) (ys-body) (r₂ .answer)) (groupOf s n (ws₂ .1 .1 .1 .0) (r₂ .answer .links) (ys-mem)) × (r₂ .found ≡ recordAt ((take r table)) slot)) (len : length (ws₂ .1 .1 .1 .0) ≡ length (take r table)) (is₂ : Is GatheredT.the-row r₂ (w₂ ∷ [])) (vs : List Val) (isz : Is (Array RecordT.the-row 300) ((ws₂ .1 .1 .1 .0) ++ drop-list r table) vs) → Sq W (‵ (fat fullShare (tyArray RecordL.mir 300) l₁₁ 0 ((only ((array-vals (LL.vals RecordT.the-type RecordL.the-laws)) ((ws₂ .1 .1 .1 .0) ++ drop-list r table))))) ∷ ‵ (flft κ₂ q₂) ∷ ‵ (flft κ₁ q₁) ∷ ‵ (flft κ₀ q₀) ∷ ‵ Own-body ∷ ‵ Own-head ∷ ‵ Own-mem ∷ ‵ (froom (tyArray RecordL.mir 300) l₁₅ 0) ∷ ‵ (fdies (tyArray RecordL.mir 300) l₁₅) ∷ ‵ (fat fullShare (sliceTy (tyRef erased mut (pointee (RecordT.the-row .written)))) l₁₄ 0 (sliceVal (l₁₁, 0) (length (take r table)))) ∷ ‵ (fdies (sliceTy (tyRef erased mut (pointee (RecordT.the-row .written)))) l₁₄) ∷ ‵ (fat fullShare (tyRef erased mut (pointee ((Array RecordT.the-row 300) .written))) l₁₃ 0 (vptr l₁₁ 0)) ∷ ‵ (fdies (tyRef erased mut (pointee ((Array RecordT.the-row 300) .written))) l₁₃) ∷ ‵ (fat fullShare GatheredL.mir l₁₂ 0 (w₂)) ∷ ‵ (fdies GatheredL.mir l₁₂) ∷ ‵ (fdies (tyArray RecordL.mir 300) l₁₁) ∷ ‵ (fat fullShare (tyInt w64) l₁₀ 0 (vint w64 r)) ∷ ‵ (fdies (tyInt w64) l₁₀) ∷ ‵ (fat fullShare (sliceTy (tyRef (named 2) imm (tyInt w8))) l₉ 0 (s-body)) ∷ ‵ (fdies (sliceTy (tyRef (named 2) imm (tyInt w8))) l₉) ∷ ‵ (fat fullShare (sliceTy (tyRef (named 1) imm (tyInt w8))) l₈ 0 (s-head)) ∷ ‵ (fdies (sliceTy (tyRef (named 1) imm (tyInt w8))) l₈) ∷ ‵ (fat fullShare (tyInt w32) l₇ 0 (vint w32 slot)) ∷ ‵ (fdies (tyInt w32) l₇) ∷ ‵ (fat fullShare LinksL.mir l₆ 0 (v-links)) ∷ ‵ (fdies LinksL.mir l₆) ∷ ‵ (fat fullShare (sliceTy (tyRef (named 0) imm (tyInt w8))) l₅ 0 (s-mem)) ∷ ‵ (fdies (sliceTy (tyRef (named 0) imm (tyInt w8))) l₅) ∷ ‵ (fat fullShare (tyInt w32) l₄ 0 (vint w32 n)) ∷ ‵ (fdies (tyInt w32) l₄) ∷ ‵ (fat fullShare (tyInt w32) l₃ 0 (vint w32 s)) ∷ ‵ (fdies (tyInt w32) l₃) ∷ ‵ (fat fullShare (tyInt w64) l₂ 0 (vint w64 count)) ∷ ‵ (fdies (tyInt w64) l₂) ∷ ‵ (fat fullShare (tyArray RecordL.mir 300) l₁ 0 (v-table)) ∷ ‵ (fdies (tyArray RecordL.mir 300) l₁) ∷ ‵ (froom GatherMadeL.mir l₀ 0) ∷ ‵ (fdies GatherMadeL.mir l₀) ∷ []) (runs C Λ (locals l₀ l₁ l₂ l₃ l₄ l₅ l₆ l₇ l₈ l₉ l₁₀ l₁₁ l₁₂ l₁₃ l₁₄ l₁₅) (after 5 (code.function .body)) (atRet (locals l₀ l₁ l₂ l₃ l₄ l₅ l₆ l₇ l₈ l₉ l₁₀ l₁₁ l₁₂ l₁₃ l₁₄ l₁₅) Post))
+    part-3 : (l₀ l₁ l₂ l₃ l₄ l₅ l₆ l₇ l₈ l₉ l₁₀ l₁₁ l₁₂ l₁₃ l₁₄ l₁₅ : ℕ) (w : Val) (r : ℕ) (ws : Unit {0} × Unit {0}) (e : (r ≡ min count 300) × (r ≤ 300)) (is : Is usize r (w ∷ [])) (long : length table ≡ 300) (w₂ : Val) (r₂ : Gathered) (ws₂ : Unit {0} × (Unit {0} × (Unit {0} × (List Record × (Unit {0} × (Unit {0} × (Unit {0} × (Unit {0} × Unit {0})))))))) (e₂ : DidGather (groupOf s n ((take r table)) links (ys-mem)) slot (ys-head) (ys-body) r₂ (groupOf s n (ws₂ .1 .1 .1 .0) (r₂ .answer .links) (ys-mem))) (len : length (ws₂ .1 .1 .1 .0) ≡ length (take r table)) (is₂ : Is GatheredT.the-row r₂ (w₂ ∷ [])) (vs : List Val) (isz : Is (Array RecordT.the-row 300) ((ws₂ .1 .1 .1 .0) ++ drop-list r table) vs) → Sq W (‵ (fat fullShare (tyArray RecordL.mir 300) l₁₁ 0 ((only ((array-vals (LL.vals RecordT.the-type RecordL.the-laws)) ((ws₂ .1 .1 .1 .0) ++ drop-list r table))))) ∷ ‵ (flft κ₂ q₂) ∷ ‵ (flft κ₁ q₁) ∷ ‵ (flft κ₀ q₀) ∷ ‵ Own-body ∷ ‵ Own-head ∷ ‵ Own-mem ∷ ‵ (froom (tyArray RecordL.mir 300) l₁₅ 0) ∷ ‵ (fdies (tyArray RecordL.mir 300) l₁₅) ∷ ‵ (fat fullShare (sliceTy (tyRef erased mut (pointee (RecordT.the-row .written)))) l₁₄ 0 (sliceVal (l₁₁, 0) (length (take r table)))) ∷ ‵ (fdies (sliceTy (tyRef erased mut (pointee (RecordT.the-row .written)))) l₁₄) ∷ ‵ (fat fullShare (tyRef erased mut (pointee ((Array RecordT.the-row 300) .written))) l₁₃ 0 (vptr l₁₁ 0)) ∷ ‵ (fdies (tyRef erased mut (pointee ((Array RecordT.the-row 300) .written))) l₁₃) ∷ ‵ (fat fullShare GatheredL.mir l₁₂ 0 (w₂)) ∷ ‵ (fdies GatheredL.mir l₁₂) ∷ ‵ (fdies (tyArray RecordL.mir 300) l₁₁) ∷ ‵ (fat fullShare (tyInt w64) l₁₀ 0 (vint w64 r)) ∷ ‵ (fdies (tyInt w64) l₁₀) ∷ ‵ (fat fullShare (sliceTy (tyRef (named 2) imm (tyInt w8))) l₉ 0 (s-body)) ∷ ‵ (fdies (sliceTy (tyRef (named 2) imm (tyInt w8))) l₉) ∷ ‵ (fat fullShare (sliceTy (tyRef (named 1) imm (tyInt w8))) l₈ 0 (s-head)) ∷ ‵ (fdies (sliceTy (tyRef (named 1) imm (tyInt w8))) l₈) ∷ ‵ (fat fullShare (tyInt w32) l₇ 0 (vint w32 slot)) ∷ ‵ (fdies (tyInt w32) l₇) ∷ ‵ (fat fullShare LinksL.mir l₆ 0 (v-links)) ∷ ‵ (fdies LinksL.mir l₆) ∷ ‵ (fat fullShare (sliceTy (tyRef (named 0) imm (tyInt w8))) l₅ 0 (s-mem)) ∷ ‵ (fdies (sliceTy (tyRef (named 0) imm (tyInt w8))) l₅) ∷ ‵ (fat fullShare (tyInt w32) l₄ 0 (vint w32 n)) ∷ ‵ (fdies (tyInt w32) l₄) ∷ ‵ (fat fullShare (tyInt w32) l₃ 0 (vint w32 s)) ∷ ‵ (fdies (tyInt w32) l₃) ∷ ‵ (fat fullShare (tyInt w64) l₂ 0 (vint w64 count)) ∷ ‵ (fdies (tyInt w64) l₂) ∷ ‵ (fat fullShare (tyArray RecordL.mir 300) l₁ 0 (v-table)) ∷ ‵ (fdies (tyArray RecordL.mir 300) l₁) ∷ ‵ (froom GatherMadeL.mir l₀ 0) ∷ ‵ (fdies GatherMadeL.mir l₀) ∷ []) (runs C Λ (locals l₀ l₁ l₂ l₃ l₄ l₅ l₆ l₇ l₈ l₉ l₁₀ l₁₁ l₁₂ l₁₃ l₁₄ l₁₅) (after 5 (code.function .body)) (atRet (locals l₀ l₁ l₂ l₃ l₄ l₅ l₆ l₇ l₈ l₉ l₁₀ l₁₁ l₁₂ l₁₃ l₁₄ l₁₅) Post))
     unfolding partOf
     part-3 l₀ l₁ l₂ l₃ l₄ l₅ l₆ l₇ l₈ l₉ l₁₀ l₁₁ l₁₂ l₁₃ l₁₄ l₁₅ w r ws e is long w₂ r₂ ws₂ e₂ len is₂ vs isz =
         assigns ! (of-opd ! (load ! (from ! (stop !)) (look ! 0 refl))) (from ! (stop !)) (init ! 7 refl (array-typed RecordT.the-row (LL.lawful RecordT.the-type RecordL.the-laws 𝓤 H A W .typed) 300 ((ws₂ .1 .1 .1 .0) ++ drop-list r table) _ (subst (Is (Array RecordT.the-row 300) ((ws₂ .1 .1 .1 .0) ++ drop-list r table)) ((array-tells RecordT.the-row (LL.vals RecordT.the-type RecordL.the-laws) (LL.tells RecordT.the-type RecordL.the-laws) 300) ((ws₂ .1 .1 .1 .0) ++ drop-list r table) vs isz) isz) .0)) $
@@ -242,8 +242,8 @@ module _ {M : Type 1} (𝓤 : URA M) (H : Heap 𝓤) (A : Atoms 𝓤) (W : Given
         rewrite ! 13 (λ (m : ℕ). ‵ (fat fullShare (sliceTy (tyRef erased mut (pointee (RecordT.the-row .written)))) l₁₄ 0 (sliceVal (l₁₁, 0) m))) (sym (length-take-le r table (subst (λ (m : ℕ). r ≤ m) (sym long) (e .1)))) refl $ move ! (10 ∷ []) $ use1 W (‵ Own-head ⊛ ‵ Own-head) (shr-slice-copy 𝓤 H A W (named 1) κ₁ u8 .twice x-head (s-head ∷ [])) $ split ! $ move ! (11 ∷ []) $ use1 W (‵ Own-body ⊛ ‵ Own-body) (shr-slice-copy 𝓤 H A W (named 2) κ₂ u8 .twice x-body (s-body ∷ [])) $ split ! $ nothing ! $ move ! (2 ∷ 0 ∷ []) $ join ! $ move ! (3 ∷ 0 ∷ []) $ join ! $ move ! (3 ∷ 0 ∷ []) $ join ! $ move ! (7 ∷ 0 ∷ []) $ join ! $ move ! (7 ∷ 0 ∷ []) $ join ! $ move ! (7 ∷ 0 ∷ []) $ join ! $ move ! (4 ∷ 0 ∷ []) $ join ! $ move ! (6 ∷ 0 ∷ []) $ join ! $ use1 W (raw (C-f-gather 𝓤 H A mem run .pre (to-f-gather 𝓤 H A mem run κ₀ q₀ (ν ∷ []) fullShare κ₁ q₁ κ₂ q₂ s (vint w32 s) n (vint w32 n) x-mem s-mem (record { ptr = (l₁₁, 0); name = δ; now = (take r table) }) (sliceVal (l₁₁, 0) (length (take r table))) links (v-links) slot (vint w32 slot) x-head s-head x-body s-body))) (goes-f-gather 𝓤 H A W mem run κ₀ q₀ (ν ∷ []) fullShare κ₁ q₁ κ₂ q₂ s (vint w32 s) n (vint w32 n) x-mem s-mem (record { ptr = (l₁₁, 0); name = δ; now = (take r table) }) (sliceVal (l₁₁, 0) (length (take r table))) links (v-links) slot (vint w32 slot) x-head s-head x-body s-body (refl, g-s) (refl, g-n) g-links (refl, g-slot)) $
         calls-at ! fm (C-f-gather 𝓤 H A mem run) known-f-gather (to-f-gather 𝓤 H A mem run κ₀ q₀ (ν ∷ []) fullShare κ₁ q₁ κ₂ q₂ s (vint w32 s) n (vint w32 n) x-mem s-mem (record { ptr = (l₁₁, 0); name = δ; now = (take r table) }) (sliceVal (l₁₁, 0) (length (take r table))) links (v-links) slot (vint w32 slot) x-head s-head x-body s-body) (and-then ! (load ! (from ! (stop !)) (look ! 29 refl)) (and-then ! (load ! (from ! (stop !)) (look ! 27 refl)) (and-then ! (load ! (from ! (stop !)) (look ! 25 refl)) (and-then ! (load ! (from ! (stop !)) (look ! 8 refl)) (and-then ! (load ! (from ! (stop !)) (look ! 23 refl)) (and-then ! (load ! (from ! (stop !)) (look ! 21 refl)) (and-then ! (load ! (from ! (stop !)) (look ! 19 refl)) (and-then ! (load ! (from ! (stop !)) (look ! 17 refl)) (no-more !))))))))) (λ w₂.
         use1 W (later (some (λ (r₂ : Gathered). ((‵ (flft κ₀ q₀) ⊛ ‵ (flft (ν ∷ []) fullShare) ⊛ ‵ (flft κ₁ q₁) ⊛ ‵ (flft κ₂ q₂) ⊛ ‵ ftrue) ⊛ ‵ (GatheredT.the-row .own r₂ (w₂ ∷ []))) ⊛ raw (ensured 𝓤 H A f-gather.ended (f-gather.clauses 𝓤 H A mem run) (κ₀, ((ν ∷ []), (κ₁, (κ₂, tt)))) (s, (n, (x-mem, ((record { ptr = (l₁₁, 0); name = δ; now = (take r table) }), (links, (slot, (x-head, (x-body, tt)))))))) tt r₂)))) (id⊢ 𝓤 _) $ await ! tt $ pick ! (λ r₂.
-        split ! $ move ! (1 ∷ []) $ use1 W (some (λ (ws₂ : Unit {0} × (Unit {0} × (Unit {0} × (List Record × (Unit {0} × (Unit {0} × (Unit {0} × (Unit {0} × Unit {0})))))))). ‵ (lasts f-gather.ended (κ₀, ((ν ∷ []), (κ₁, (κ₂, tt)))) (s, (n, (x-mem, ((record { ptr = (l₁₁, 0); name = δ; now = (take r table) }), (links, (slot, (x-head, (x-body, tt)))))))) ws₂) ⊛ raw (fact 𝓤 (Did (groupOf s n ((take r table)) links (ys-mem)) (callOf slot (ys-head) (ys-body)) (gatherAnswer (r₂ .found) (ys-head) (ys-body) (r₂ .answer)) (groupOf s n (ws₂ .1 .1 .1 .0) (r₂ .answer .links) (ys-mem)) × (r₂ .found ≡ recordAt ((take r table)) slot))))) (id⊢ 𝓤 _) $ pick ! (λ ws₂.
-        split ! $ move ! (1 ∷ []) $ heard ! (Did (groupOf s n ((take r table)) links (ys-mem)) (callOf slot (ys-head) (ys-body)) (gatherAnswer (r₂ .found) (ys-head) (ys-body) (r₂ .answer)) (groupOf s n (ws₂ .1 .1 .1 .0) (r₂ .answer .links) (ys-mem)) × (r₂ .found ≡ recordAt ((take r table)) slot)) (λ e₂.
+        split ! $ move ! (1 ∷ []) $ use1 W (some (λ (ws₂ : Unit {0} × (Unit {0} × (Unit {0} × (List Record × (Unit {0} × (Unit {0} × (Unit {0} × (Unit {0} × Unit {0})))))))). ‵ (lasts f-gather.ended (κ₀, ((ν ∷ []), (κ₁, (κ₂, tt)))) (s, (n, (x-mem, ((record { ptr = (l₁₁, 0); name = δ; now = (take r table) }), (links, (slot, (x-head, (x-body, tt)))))))) ws₂) ⊛ raw (fact 𝓤 (DidGather (groupOf s n ((take r table)) links (ys-mem)) slot (ys-head) (ys-body) r₂ (groupOf s n (ws₂ .1 .1 .1 .0) (r₂ .answer .links) (ys-mem)))))) (id⊢ 𝓤 _) $ pick ! (λ ws₂.
+        split ! $ move ! (1 ∷ []) $ heard ! (DidGather (groupOf s n ((take r table)) links (ys-mem)) slot (ys-head) (ys-body) r₂ (groupOf s n (ws₂ .1 .1 .1 .0) (r₂ .answer .links) (ys-mem))) (λ e₂.
         fsplit ! $ drop ! $ fsplit ! $ drop ! $ fsplit ! $ drop ! $ fsplit ! $ fsplit ! $ move ! (1 ∷ []) $ feqL ! (λ len. move ! (1 ∷ []) $ fsplit ! $ drop ! $ fsplit ! $ drop ! $ fsplit ! $ drop ! $ fsplit ! $ drop ! $ drop ! $ move ! (1 ∷ []) $ split ! $
         move ! (1 ∷ []) $ peeks ! GatheredT.the-row (Is GatheredT.the-row) (shows 𝓤 H A GatheredT.the-row) r₂ (w₂ ∷ []) (λ is₂. drop ! $
         land ! (from ! (stop !)) (init ! 13 refl (LL.lawful GatheredT.the-type GatheredL.the-laws 𝓤 H A W .typed r₂ _ is₂ .0)) $

@@ -84,9 +84,11 @@ use Rattle.gathering.proofs.gather.Key.{name as #call}
 use Rattle.gathering.proofs.gather as call
 use Rattle.gathering.proofs.gather.Statement as stated
 use Rattle.gathering.proofs.gather.Code as code
-use Rattle.gathering.specs.Gathering.{DidGather, callOf, gatherAnswer}
-use Rattle.rules.specs.Rules.{Did, groupOf}
+use Rattle.gathering.specs.Gathering.{DidGather}
+use Rattle.rules.specs.Promises.{onRecord, shownBy}
+use Rattle.rules.specs.Rules.{Request, groupOf}
 use Rattle.table.specs.Table.{recordAt, withRecord}
+use mathlib.Core.List.{_++_}
 use Rattle.gathering.proofs.Laws.{gather-returns}
 
 -- what is left of a body after its first k statements
@@ -216,7 +218,7 @@ module _ {M : Type 1} (𝓤 : URA M) (H : Heap 𝓤) (A : Atoms 𝓤) (W : Given
   abbrev Post : Val → SProp 𝓤
   Post = walkOf 𝓤 H A call.ended stayed (call.clauses 𝓤 H A mem run) .post ((κs, qs, tt, x, at), tt)
 
-  exits : (res : Gathered) (v : Val) (w-table : List Record) → length w-table ≡ length ys-table → Did (groupOf s n (ys-table) links (ys-mem)) (callOf slot (ys-head) (ys-body)) (gatherAnswer (res .found) (ys-head) (ys-body) (res .answer)) (groupOf s n (w-table) (res .answer .links) (ys-mem)) × (res .found ≡ recordAt (ys-table) slot) → Is GatheredT.the-row res (v ∷ [])
+  exits : (res : Gathered) (v : Val) (w-table : List Record) → length w-table ≡ length ys-table → DidGather (groupOf s n (ys-table) links (ys-mem)) slot (ys-head) (ys-body) res (groupOf s n (w-table) (res .answer .links) (ys-mem)) → Is GatheredT.the-row res (v ∷ [])
       → ent 𝓤 (⋆ 𝓤 H A (‵ (flft κ₀ q₀) ∷ ‵ (flft κ₁ q₁) ∷ ‵ (flft κ₂ q₂) ∷ ‵ (flft κ₃ q₃) ∷ ‵ (finally RecordT.the-row γ-table w-table) ∷ [])) (Post v)
   exits res v w-table l-table e is =
       qed W (‵ (flft κ₀ q₀) ∷ ‵ (flft κ₁ q₁) ∷ ‵ (flft κ₂ q₂) ∷ ‵ (flft κ₃ q₃) ∷ ‵ (finally RecordT.the-row γ-table w-table) ∷ []) ∵ suffices ! _ (ends-at 𝓤 H A call.ended stayed (call.clauses 𝓤 H A mem run) W ((κs, qs, tt, x, at), tt) v res (tt, (tt, (tt, (w-table, (tt, (tt, (tt, (tt, tt)))))))) (tt, (tt, (tt, (l-table, (tt, (tt, (tt, (tt, tt))))))))) $
@@ -232,7 +234,7 @@ module _ {M : Type 1} (𝓤 : URA M) (H : Heap 𝓤) (A : Atoms 𝓤) (W : Given
     abbrev locals : ℕ → ℕ → ℕ → ℕ → ℕ → ℕ → ℕ → ℕ → ℕ → ℕ → ℕ → ℕ → ℕ → ℕ → ℕ → ℕ → ℕ → ℕ → ℕ → Env 𝓤 H
     locals l₀ l₁ l₂ l₃ l₄ l₅ l₆ l₇ l₈ l₉ l₁₀ l₁₁ l₁₂ l₁₃ l₁₄ l₁₅ l₁₆ l₁₇ l₁₈ = (GatheredL.mir, l₀) ∷ ((tyInt w32), l₁) ∷ ((tyInt w32), l₂) ∷ ((sliceTy (tyRef (named 0) imm (tyInt w8))), l₃) ∷ ((sliceTy (tyRef (named 1) mut (pointee (RecordT.the-row .written)))), l₄) ∷ (LinksL.mir, l₅) ∷ ((tyInt w32), l₆) ∷ ((sliceTy (tyRef (named 2) imm (tyInt w8))), l₇) ∷ ((sliceTy (tyRef (named 3) imm (tyInt w8))), l₈) ∷ ((tyInt w64), l₉) ∷ (RecordL.mir, l₁₀) ∷ (TurnedL.mir, l₁₁) ∷ (RecordL.mir, l₁₂) ∷ ((tyRef erased imm (pointee (RecordT.the-row .written))), l₁₃) ∷ ((sliceTy (tyRef erased imm (pointee (RecordT.the-row .written)))), l₁₄) ∷ ((tyInt w64), l₁₅) ∷ (tyUnit, l₁₆) ∷ ((tyRef erased mut (pointee (RecordT.the-row .written))), l₁₇) ∷ ((sliceTy (tyRef erased mut (pointee (RecordT.the-row .written)))), l₁₈) ∷ []
 
-    part-4 : (l₀ l₁ l₂ l₃ l₄ l₅ l₆ l₇ l₈ l₉ l₁₀ l₁₁ l₁₂ l₁₃ l₁₄ l₁₅ l₁₆ l₁₇ l₁₈ : ℕ) (w : Val) (r : Record) (ws : Unit {0} × (Unit {0} × Unit {0})) (e : r ≡ recordAt (ys-table) slot) (is : Is RecordT.the-row r (w ∷ [])) (w₂ : Val) (r₂ : Turned) (ws₂ : Unit {0} × (Unit {0} × (Unit {0} × (Unit {0} × (Unit {0} × (Unit {0} × (Unit {0} × (Unit {0} × (Unit {0} × Unit {0}))))))))) (e₂ : DidGather s n (ys-mem) (length ys-table) links slot r (ys-head) (ys-body) r₂) (is₂ : Is TurnedT.the-row r₂ (w₂ ∷ [])) (w₃ : Val) (r₃ : Record) (ws₃ : Unit {0} × Unit {0}) (e₃ : r₃ ≡ r₂ .after) (is₃ : Is RecordT.the-row r₃ (w₃ ∷ [])) (w₄ : Val) (r₄ : Unit {0}) (ws₄ : List Record × (Unit {0} × (Unit {0} × Unit {0}))) (e₄ : ws₄ .0 ≡ withRecord (ys-table) slot r₃) (len : length (ws₄ .0) ≡ length ys-table) (is₄ : (w₄ ∷ []) ≡ (vunit ∷ [])) → Sq W (‵ (flft κ₁ q₁) ∷ ‵ (finally RecordT.the-row γ-table (ws₄ .0)) ∷ ‵ (flft κ₃ q₃) ∷ ‵ (flft κ₂ q₂) ∷ ‵ (flft κ₀ q₀) ∷ ‵ Own-body ∷ ‵ Own-head ∷ ‵ Own-mem ∷ ‵ (fat fullShare (sliceTy (tyRef erased mut (pointee (RecordT.the-row .written)))) l₁₈ 0 (s-table)) ∷ ‵ (fdies (sliceTy (tyRef erased mut (pointee (RecordT.the-row .written)))) l₁₈) ∷ ‵ (fat fullShare (tyRef erased mut (pointee (RecordT.the-row .written))) l₁₇ 0 (vptr b-table o-table)) ∷ ‵ (fdies (tyRef erased mut (pointee (RecordT.the-row .written))) l₁₇) ∷ ‵ (fat fullShare tyUnit l₁₆ 0 (w₄)) ∷ ‵ (fdies tyUnit l₁₆) ∷ ‵ (fat fullShare (tyInt w64) l₁₅ 0 (vint w64 (length ys-table))) ∷ ‵ (fdies (tyInt w64) l₁₅) ∷ ‵ (fat fullShare (sliceTy (tyRef erased imm (pointee (RecordT.the-row .written)))) l₁₄ 0 (s-table)) ∷ ‵ (fdies (sliceTy (tyRef erased imm (pointee (RecordT.the-row .written)))) l₁₄) ∷ ‵ (fat fullShare (tyRef erased imm (pointee (RecordT.the-row .written))) l₁₃ 0 (vptr b-table o-table)) ∷ ‵ (fdies (tyRef erased imm (pointee (RecordT.the-row .written))) l₁₃) ∷ ‵ (fat fullShare RecordL.mir l₁₂ 0 (w₃)) ∷ ‵ (fdies RecordL.mir l₁₂) ∷ ‵ (fat fullShare TurnedL.mir l₁₁ 0 (w₂)) ∷ ‵ (fdies TurnedL.mir l₁₁) ∷ ‵ (fat fullShare RecordL.mir l₁₀ 0 (w)) ∷ ‵ (fdies RecordL.mir l₁₀) ∷ ‵ (fat fullShare (tyInt w64) l₉ 0 (vint w64 slot)) ∷ ‵ (fdies (tyInt w64) l₉) ∷ ‵ (fat fullShare (sliceTy (tyRef (named 3) imm (tyInt w8))) l₈ 0 (s-body)) ∷ ‵ (fdies (sliceTy (tyRef (named 3) imm (tyInt w8))) l₈) ∷ ‵ (fat fullShare (sliceTy (tyRef (named 2) imm (tyInt w8))) l₇ 0 (s-head)) ∷ ‵ (fdies (sliceTy (tyRef (named 2) imm (tyInt w8))) l₇) ∷ ‵ (fat fullShare (tyInt w32) l₆ 0 (vint w32 slot)) ∷ ‵ (fdies (tyInt w32) l₆) ∷ ‵ (fat fullShare LinksL.mir l₅ 0 (v-links)) ∷ ‵ (fdies LinksL.mir l₅) ∷ ‵ (fat fullShare (sliceTy (tyRef (named 1) mut (pointee (RecordT.the-row .written)))) l₄ 0 (s-table)) ∷ ‵ (fdies (sliceTy (tyRef (named 1) mut (pointee (RecordT.the-row .written)))) l₄) ∷ ‵ (fat fullShare (sliceTy (tyRef (named 0) imm (tyInt w8))) l₃ 0 (s-mem)) ∷ ‵ (fdies (sliceTy (tyRef (named 0) imm (tyInt w8))) l₃) ∷ ‵ (fat fullShare (tyInt w32) l₂ 0 (vint w32 n)) ∷ ‵ (fdies (tyInt w32) l₂) ∷ ‵ (fat fullShare (tyInt w32) l₁ 0 (vint w32 s)) ∷ ‵ (fdies (tyInt w32) l₁) ∷ ‵ (froom GatheredL.mir l₀ 0) ∷ ‵ (fdies GatheredL.mir l₀) ∷ []) (runs C Λ (locals l₀ l₁ l₂ l₃ l₄ l₅ l₆ l₇ l₈ l₉ l₁₀ l₁₁ l₁₂ l₁₃ l₁₄ l₁₅ l₁₆ l₁₇ l₁₈) (after 10 (code.function .body)) (atRet (locals l₀ l₁ l₂ l₃ l₄ l₅ l₆ l₇ l₈ l₉ l₁₀ l₁₁ l₁₂ l₁₃ l₁₄ l₁₅ l₁₆ l₁₇ l₁₈) Post))
+    part-4 : (l₀ l₁ l₂ l₃ l₄ l₅ l₆ l₇ l₈ l₉ l₁₀ l₁₁ l₁₂ l₁₃ l₁₄ l₁₅ l₁₆ l₁₇ l₁₈ : ℕ) (w : Val) (r : Record) (ws : Unit {0} × (Unit {0} × Unit {0})) (e : r ≡ recordAt (ys-table) slot) (is : Is RecordT.the-row r (w ∷ [])) (w₂ : Val) (r₂ : Turned) (ws₂ : Unit {0} × (Unit {0} × (Unit {0} × (Unit {0} × (Unit {0} × (Unit {0} × (Unit {0} × (Unit {0} × (Unit {0} × Unit {0}))))))))) (e₂ : shownBy r₂ [] (ys-mem) ≡ onRecord s n (ys-mem) (length ys-table) links slot r (Request.send (ys-head ++ ys-body))) (is₂ : Is TurnedT.the-row r₂ (w₂ ∷ [])) (w₃ : Val) (r₃ : Record) (ws₃ : Unit {0} × Unit {0}) (e₃ : r₃ ≡ r₂ .after) (is₃ : Is RecordT.the-row r₃ (w₃ ∷ [])) (w₄ : Val) (r₄ : Unit {0}) (ws₄ : List Record × (Unit {0} × (Unit {0} × Unit {0}))) (e₄ : ws₄ .0 ≡ withRecord (ys-table) slot r₃) (len : length (ws₄ .0) ≡ length ys-table) (is₄ : (w₄ ∷ []) ≡ (vunit ∷ [])) → Sq W (‵ (flft κ₁ q₁) ∷ ‵ (finally RecordT.the-row γ-table (ws₄ .0)) ∷ ‵ (flft κ₃ q₃) ∷ ‵ (flft κ₂ q₂) ∷ ‵ (flft κ₀ q₀) ∷ ‵ Own-body ∷ ‵ Own-head ∷ ‵ Own-mem ∷ ‵ (fat fullShare (sliceTy (tyRef erased mut (pointee (RecordT.the-row .written)))) l₁₈ 0 (s-table)) ∷ ‵ (fdies (sliceTy (tyRef erased mut (pointee (RecordT.the-row .written)))) l₁₈) ∷ ‵ (fat fullShare (tyRef erased mut (pointee (RecordT.the-row .written))) l₁₇ 0 (vptr b-table o-table)) ∷ ‵ (fdies (tyRef erased mut (pointee (RecordT.the-row .written))) l₁₇) ∷ ‵ (fat fullShare tyUnit l₁₆ 0 (w₄)) ∷ ‵ (fdies tyUnit l₁₆) ∷ ‵ (fat fullShare (tyInt w64) l₁₅ 0 (vint w64 (length ys-table))) ∷ ‵ (fdies (tyInt w64) l₁₅) ∷ ‵ (fat fullShare (sliceTy (tyRef erased imm (pointee (RecordT.the-row .written)))) l₁₄ 0 (s-table)) ∷ ‵ (fdies (sliceTy (tyRef erased imm (pointee (RecordT.the-row .written)))) l₁₄) ∷ ‵ (fat fullShare (tyRef erased imm (pointee (RecordT.the-row .written))) l₁₃ 0 (vptr b-table o-table)) ∷ ‵ (fdies (tyRef erased imm (pointee (RecordT.the-row .written))) l₁₃) ∷ ‵ (fat fullShare RecordL.mir l₁₂ 0 (w₃)) ∷ ‵ (fdies RecordL.mir l₁₂) ∷ ‵ (fat fullShare TurnedL.mir l₁₁ 0 (w₂)) ∷ ‵ (fdies TurnedL.mir l₁₁) ∷ ‵ (fat fullShare RecordL.mir l₁₀ 0 (w)) ∷ ‵ (fdies RecordL.mir l₁₀) ∷ ‵ (fat fullShare (tyInt w64) l₉ 0 (vint w64 slot)) ∷ ‵ (fdies (tyInt w64) l₉) ∷ ‵ (fat fullShare (sliceTy (tyRef (named 3) imm (tyInt w8))) l₈ 0 (s-body)) ∷ ‵ (fdies (sliceTy (tyRef (named 3) imm (tyInt w8))) l₈) ∷ ‵ (fat fullShare (sliceTy (tyRef (named 2) imm (tyInt w8))) l₇ 0 (s-head)) ∷ ‵ (fdies (sliceTy (tyRef (named 2) imm (tyInt w8))) l₇) ∷ ‵ (fat fullShare (tyInt w32) l₆ 0 (vint w32 slot)) ∷ ‵ (fdies (tyInt w32) l₆) ∷ ‵ (fat fullShare LinksL.mir l₅ 0 (v-links)) ∷ ‵ (fdies LinksL.mir l₅) ∷ ‵ (fat fullShare (sliceTy (tyRef (named 1) mut (pointee (RecordT.the-row .written)))) l₄ 0 (s-table)) ∷ ‵ (fdies (sliceTy (tyRef (named 1) mut (pointee (RecordT.the-row .written)))) l₄) ∷ ‵ (fat fullShare (sliceTy (tyRef (named 0) imm (tyInt w8))) l₃ 0 (s-mem)) ∷ ‵ (fdies (sliceTy (tyRef (named 0) imm (tyInt w8))) l₃) ∷ ‵ (fat fullShare (tyInt w32) l₂ 0 (vint w32 n)) ∷ ‵ (fdies (tyInt w32) l₂) ∷ ‵ (fat fullShare (tyInt w32) l₁ 0 (vint w32 s)) ∷ ‵ (fdies (tyInt w32) l₁) ∷ ‵ (froom GatheredL.mir l₀ 0) ∷ ‵ (fdies GatheredL.mir l₀) ∷ []) (runs C Λ (locals l₀ l₁ l₂ l₃ l₄ l₅ l₆ l₇ l₈ l₉ l₁₀ l₁₁ l₁₂ l₁₃ l₁₄ l₁₅ l₁₆ l₁₇ l₁₈) (after 10 (code.function .body)) (atRet (locals l₀ l₁ l₂ l₃ l₄ l₅ l₆ l₇ l₈ l₉ l₁₀ l₁₁ l₁₂ l₁₃ l₁₄ l₁₅ l₁₆ l₁₇ l₁₈) Post))
     part-4 l₀ l₁ l₂ l₃ l₄ l₅ l₆ l₇ l₈ l₉ l₁₀ l₁₁ l₁₂ l₁₃ l₁₄ l₁₅ l₁₆ l₁₇ l₁₈ w r ws e is w₂ r₂ ws₂ e₂ is₂ w₃ r₃ ws₃ e₃ is₃ w₄ r₄ ws₄ e₄ len is₄ =
         use0 W (raw (C-f-answer-of 𝓤 H A mem run .pre (to-f-answer-of 𝓤 H A mem run r₂ (w₂) r (w)))) (goes-f-answer-of 𝓤 H A W mem run r₂ (w₂) r (w) is₂ is) $
         calls-at ! fm (C-f-answer-of 𝓤 H A mem run) known-f-answer-of (to-f-answer-of 𝓤 H A mem run r₂ (w₂) r (w)) (and-then ! (load ! (from ! (stop !)) (look ! 23 refl)) (and-then ! (load ! (from ! (stop !)) (look ! 25 refl)) (no-more !))) (λ w₅.
@@ -247,7 +249,7 @@ module _ {M : Type 1} (𝓤 : URA M) (H : Heap 𝓤) (A : Atoms 𝓤) (W : Given
         move ! (44 ∷ 45 ∷ []) $ free1 ! $ move ! (42 ∷ 43 ∷ []) $ free1 ! $ move ! (40 ∷ 41 ∷ []) $ free1 ! $ move ! (38 ∷ 39 ∷ []) $ free1 ! $ move ! (36 ∷ 37 ∷ []) $ free1 ! $ move ! (34 ∷ 35 ∷ []) $ free1 ! $ move ! (32 ∷ 33 ∷ []) $ free1 ! $ move ! (30 ∷ 31 ∷ []) $ free1 ! $ move ! (28 ∷ 29 ∷ []) $ free1 ! $ move ! (26 ∷ 27 ∷ []) $ free1 ! $ move ! (24 ∷ 25 ∷ []) $ free1 ! $ move ! (22 ∷ 23 ∷ []) $ free1 ! $ move ! (20 ∷ 21 ∷ []) $ free1 ! $ move ! (18 ∷ 19 ∷ []) $ free1 ! $ move ! (16 ∷ 17 ∷ []) $ free1 ! $ move ! (14 ∷ 15 ∷ []) $ free1 ! $ move ! (12 ∷ 13 ∷ []) $ free1 ! $ move ! (10 ∷ 11 ∷ []) $ free1 ! $ move ! (8 ∷ 9 ∷ []) $ free1 ! $ free0 ! $
         keep ! (4 ∷ 0 ∷ 3 ∷ 2 ∷ 1 ∷ []) $ by ! (exits r₅ (w₅) (ws₄ .0) len (gather-returns s n ys-mem ys-table links slot ys-head ys-body r e r₂ e₂ r₃ e₃ r₄ (ws₄ .0) e₄ r₅ e₅) is₅))))))
 
-    part-3 : (l₀ l₁ l₂ l₃ l₄ l₅ l₆ l₇ l₈ l₉ l₁₀ l₁₁ l₁₂ l₁₃ l₁₄ l₁₅ l₁₆ l₁₇ l₁₈ : ℕ) (w : Val) (r : Record) (ws : Unit {0} × (Unit {0} × Unit {0})) (e : r ≡ recordAt (ys-table) slot) (is : Is RecordT.the-row r (w ∷ [])) (w₂ : Val) (r₂ : Turned) (ws₂ : Unit {0} × (Unit {0} × (Unit {0} × (Unit {0} × (Unit {0} × (Unit {0} × (Unit {0} × (Unit {0} × (Unit {0} × Unit {0}))))))))) (e₂ : DidGather s n (ys-mem) (length ys-table) links slot r (ys-head) (ys-body) r₂) (is₂ : Is TurnedT.the-row r₂ (w₂ ∷ [])) → Sq W (‵ (flft κ₃ q₃) ∷ ‵ (flft κ₂ q₂) ∷ ‵ (flft κ₀ q₀) ∷ ‵ Own-body ∷ ‵ Own-head ∷ ‵ Own-mem ∷ ‵ Own-table ∷ ‵ (flft κ₁ q₁) ∷ ‵ (froom (sliceTy (tyRef erased mut (pointee (RecordT.the-row .written)))) l₁₈ 0) ∷ ‵ (fdies (sliceTy (tyRef erased mut (pointee (RecordT.the-row .written)))) l₁₈) ∷ ‵ (froom (tyRef erased mut (pointee (RecordT.the-row .written))) l₁₇ 0) ∷ ‵ (fdies (tyRef erased mut (pointee (RecordT.the-row .written))) l₁₇) ∷ ‵ (froom tyUnit l₁₆ 0) ∷ ‵ (fdies tyUnit l₁₆) ∷ ‵ (fat fullShare (tyInt w64) l₁₅ 0 (vint w64 (length ys-table))) ∷ ‵ (fdies (tyInt w64) l₁₅) ∷ ‵ (fat fullShare (sliceTy (tyRef erased imm (pointee (RecordT.the-row .written)))) l₁₄ 0 (s-table)) ∷ ‵ (fdies (sliceTy (tyRef erased imm (pointee (RecordT.the-row .written)))) l₁₄) ∷ ‵ (fat fullShare (tyRef erased imm (pointee (RecordT.the-row .written))) l₁₃ 0 (vptr b-table o-table)) ∷ ‵ (fdies (tyRef erased imm (pointee (RecordT.the-row .written))) l₁₃) ∷ ‵ (froom RecordL.mir l₁₂ 0) ∷ ‵ (fdies RecordL.mir l₁₂) ∷ ‵ (fat fullShare TurnedL.mir l₁₁ 0 (w₂)) ∷ ‵ (fdies TurnedL.mir l₁₁) ∷ ‵ (fat fullShare RecordL.mir l₁₀ 0 (w)) ∷ ‵ (fdies RecordL.mir l₁₀) ∷ ‵ (fat fullShare (tyInt w64) l₉ 0 (vint w64 slot)) ∷ ‵ (fdies (tyInt w64) l₉) ∷ ‵ (fat fullShare (sliceTy (tyRef (named 3) imm (tyInt w8))) l₈ 0 (s-body)) ∷ ‵ (fdies (sliceTy (tyRef (named 3) imm (tyInt w8))) l₈) ∷ ‵ (fat fullShare (sliceTy (tyRef (named 2) imm (tyInt w8))) l₇ 0 (s-head)) ∷ ‵ (fdies (sliceTy (tyRef (named 2) imm (tyInt w8))) l₇) ∷ ‵ (fat fullShare (tyInt w32) l₆ 0 (vint w32 slot)) ∷ ‵ (fdies (tyInt w32) l₆) ∷ ‵ (fat fullShare LinksL.mir l₅ 0 (v-links)) ∷ ‵ (fdies LinksL.mir l₅) ∷ ‵ (fat fullShare (sliceTy (tyRef (named 1) mut (pointee (RecordT.the-row .written)))) l₄ 0 (s-table)) ∷ ‵ (fdies (sliceTy (tyRef (named 1) mut (pointee (RecordT.the-row .written)))) l₄) ∷ ‵ (fat fullShare (sliceTy (tyRef (named 0) imm (tyInt w8))) l₃ 0 (s-mem)) ∷ ‵ (fdies (sliceTy (tyRef (named 0) imm (tyInt w8))) l₃) ∷ ‵ (fat fullShare (tyInt w32) l₂ 0 (vint w32 n)) ∷ ‵ (fdies (tyInt w32) l₂) ∷ ‵ (fat fullShare (tyInt w32) l₁ 0 (vint w32 s)) ∷ ‵ (fdies (tyInt w32) l₁) ∷ ‵ (froom GatheredL.mir l₀ 0) ∷ ‵ (fdies GatheredL.mir l₀) ∷ []) (runs C Λ (locals l₀ l₁ l₂ l₃ l₄ l₅ l₆ l₇ l₈ l₉ l₁₀ l₁₁ l₁₂ l₁₃ l₁₄ l₁₅ l₁₆ l₁₇ l₁₈) (after 6 (code.function .body)) (atRet (locals l₀ l₁ l₂ l₃ l₄ l₅ l₆ l₇ l₈ l₉ l₁₀ l₁₁ l₁₂ l₁₃ l₁₄ l₁₅ l₁₆ l₁₇ l₁₈) Post))
+    part-3 : (l₀ l₁ l₂ l₃ l₄ l₅ l₆ l₇ l₈ l₉ l₁₀ l₁₁ l₁₂ l₁₃ l₁₄ l₁₅ l₁₆ l₁₇ l₁₈ : ℕ) (w : Val) (r : Record) (ws : Unit {0} × (Unit {0} × Unit {0})) (e : r ≡ recordAt (ys-table) slot) (is : Is RecordT.the-row r (w ∷ [])) (w₂ : Val) (r₂ : Turned) (ws₂ : Unit {0} × (Unit {0} × (Unit {0} × (Unit {0} × (Unit {0} × (Unit {0} × (Unit {0} × (Unit {0} × (Unit {0} × Unit {0}))))))))) (e₂ : shownBy r₂ [] (ys-mem) ≡ onRecord s n (ys-mem) (length ys-table) links slot r (Request.send (ys-head ++ ys-body))) (is₂ : Is TurnedT.the-row r₂ (w₂ ∷ [])) → Sq W (‵ (flft κ₃ q₃) ∷ ‵ (flft κ₂ q₂) ∷ ‵ (flft κ₀ q₀) ∷ ‵ Own-body ∷ ‵ Own-head ∷ ‵ Own-mem ∷ ‵ Own-table ∷ ‵ (flft κ₁ q₁) ∷ ‵ (froom (sliceTy (tyRef erased mut (pointee (RecordT.the-row .written)))) l₁₈ 0) ∷ ‵ (fdies (sliceTy (tyRef erased mut (pointee (RecordT.the-row .written)))) l₁₈) ∷ ‵ (froom (tyRef erased mut (pointee (RecordT.the-row .written))) l₁₇ 0) ∷ ‵ (fdies (tyRef erased mut (pointee (RecordT.the-row .written))) l₁₇) ∷ ‵ (froom tyUnit l₁₆ 0) ∷ ‵ (fdies tyUnit l₁₆) ∷ ‵ (fat fullShare (tyInt w64) l₁₅ 0 (vint w64 (length ys-table))) ∷ ‵ (fdies (tyInt w64) l₁₅) ∷ ‵ (fat fullShare (sliceTy (tyRef erased imm (pointee (RecordT.the-row .written)))) l₁₄ 0 (s-table)) ∷ ‵ (fdies (sliceTy (tyRef erased imm (pointee (RecordT.the-row .written)))) l₁₄) ∷ ‵ (fat fullShare (tyRef erased imm (pointee (RecordT.the-row .written))) l₁₃ 0 (vptr b-table o-table)) ∷ ‵ (fdies (tyRef erased imm (pointee (RecordT.the-row .written))) l₁₃) ∷ ‵ (froom RecordL.mir l₁₂ 0) ∷ ‵ (fdies RecordL.mir l₁₂) ∷ ‵ (fat fullShare TurnedL.mir l₁₁ 0 (w₂)) ∷ ‵ (fdies TurnedL.mir l₁₁) ∷ ‵ (fat fullShare RecordL.mir l₁₀ 0 (w)) ∷ ‵ (fdies RecordL.mir l₁₀) ∷ ‵ (fat fullShare (tyInt w64) l₉ 0 (vint w64 slot)) ∷ ‵ (fdies (tyInt w64) l₉) ∷ ‵ (fat fullShare (sliceTy (tyRef (named 3) imm (tyInt w8))) l₈ 0 (s-body)) ∷ ‵ (fdies (sliceTy (tyRef (named 3) imm (tyInt w8))) l₈) ∷ ‵ (fat fullShare (sliceTy (tyRef (named 2) imm (tyInt w8))) l₇ 0 (s-head)) ∷ ‵ (fdies (sliceTy (tyRef (named 2) imm (tyInt w8))) l₇) ∷ ‵ (fat fullShare (tyInt w32) l₆ 0 (vint w32 slot)) ∷ ‵ (fdies (tyInt w32) l₆) ∷ ‵ (fat fullShare LinksL.mir l₅ 0 (v-links)) ∷ ‵ (fdies LinksL.mir l₅) ∷ ‵ (fat fullShare (sliceTy (tyRef (named 1) mut (pointee (RecordT.the-row .written)))) l₄ 0 (s-table)) ∷ ‵ (fdies (sliceTy (tyRef (named 1) mut (pointee (RecordT.the-row .written)))) l₄) ∷ ‵ (fat fullShare (sliceTy (tyRef (named 0) imm (tyInt w8))) l₃ 0 (s-mem)) ∷ ‵ (fdies (sliceTy (tyRef (named 0) imm (tyInt w8))) l₃) ∷ ‵ (fat fullShare (tyInt w32) l₂ 0 (vint w32 n)) ∷ ‵ (fdies (tyInt w32) l₂) ∷ ‵ (fat fullShare (tyInt w32) l₁ 0 (vint w32 s)) ∷ ‵ (fdies (tyInt w32) l₁) ∷ ‵ (froom GatheredL.mir l₀ 0) ∷ ‵ (fdies GatheredL.mir l₀) ∷ []) (runs C Λ (locals l₀ l₁ l₂ l₃ l₄ l₅ l₆ l₇ l₈ l₉ l₁₀ l₁₁ l₁₂ l₁₃ l₁₄ l₁₅ l₁₆ l₁₇ l₁₈) (after 6 (code.function .body)) (atRet (locals l₀ l₁ l₂ l₃ l₄ l₅ l₆ l₇ l₈ l₉ l₁₀ l₁₁ l₁₂ l₁₃ l₁₄ l₁₅ l₁₆ l₁₇ l₁₈) Post))
     part-3 l₀ l₁ l₂ l₃ l₄ l₅ l₆ l₇ l₈ l₉ l₁₀ l₁₁ l₁₂ l₁₃ l₁₄ l₁₅ l₁₆ l₁₇ l₁₈ w r ws e is w₂ r₂ ws₂ e₂ is₂ =
         use0 W (raw (C-f-after-of 𝓤 H A mem run .pre (to-f-after-of 𝓤 H A mem run r₂ (w₂)))) (goes-f-after-of 𝓤 H A W mem run r₂ (w₂) is₂) $
         calls-at ! fm (C-f-after-of 𝓤 H A mem run) known-f-after-of (to-f-after-of 𝓤 H A mem run r₂ (w₂)) (and-then ! (load ! (from ! (stop !)) (look ! 23 refl)) (no-more !)) (λ w₃.
@@ -289,8 +291,8 @@ module _ {M : Type 1} (𝓤 : URA M) (H : Heap 𝓤) (A : Atoms 𝓤) (W : Given
         move ! (7 ∷ []) $ use1 W (‵ Own-mem ⊛ ‵ Own-mem) (shr-slice-copy 𝓤 H A W (named 0) κ₀ u8 .twice x-mem (s-mem ∷ [])) $ split ! $ move ! (8 ∷ []) $ use1 W (‵ Own-head ⊛ ‵ Own-head) (shr-slice-copy 𝓤 H A W (named 2) κ₂ u8 .twice x-head (s-head ∷ [])) $ split ! $ move ! (9 ∷ []) $ use1 W (‵ Own-body ⊛ ‵ Own-body) (shr-slice-copy 𝓤 H A W (named 3) κ₃ u8 .twice x-body (s-body ∷ [])) $ split ! $ nothing ! $ move ! (2 ∷ 0 ∷ []) $ join ! $ move ! (3 ∷ 0 ∷ []) $ join ! $ move ! (4 ∷ 0 ∷ []) $ join ! $ move ! (6 ∷ 0 ∷ []) $ join ! $ move ! (6 ∷ 0 ∷ []) $ join ! $ move ! (6 ∷ 0 ∷ []) $ join ! $ use1 W (raw (C-f-turn 𝓤 H A mem run .pre (to-f-turn 𝓤 H A mem run κ₀ q₀ κ₂ q₂ κ₃ q₃ s (vint w32 s) n (vint w32 n) x-mem s-mem (length ys-table) (vint w64 (length ys-table)) links (v-links) slot (vint w32 slot) r (w) x-head s-head x-body s-body))) (goes-f-turn 𝓤 H A W mem run κ₀ q₀ κ₂ q₂ κ₃ q₃ s (vint w32 s) n (vint w32 n) x-mem s-mem (length ys-table) (vint w64 (length ys-table)) links (v-links) slot (vint w32 slot) r (w) x-head s-head x-body s-body (refl, g-s) (refl, g-n) (refl, (g-table .0)) g-links (refl, g-slot) is) $
         calls-at ! fm (C-f-turn 𝓤 H A mem run) known-f-turn (to-f-turn 𝓤 H A mem run κ₀ q₀ κ₂ q₂ κ₃ q₃ s (vint w32 s) n (vint w32 n) x-mem s-mem (length ys-table) (vint w64 (length ys-table)) links (v-links) slot (vint w32 slot) r (w) x-head s-head x-body s-body) (and-then ! (load ! (from ! (stop !)) (look ! 40 refl)) (and-then ! (load ! (from ! (stop !)) (look ! 38 refl)) (and-then ! (load ! (from ! (stop !)) (look ! 36 refl)) (and-then ! (load ! (from ! (stop !)) (look ! 12 refl)) (and-then ! (load ! (from ! (stop !)) (look ! 32 refl)) (and-then ! (load ! (from ! (stop !)) (look ! 30 refl)) (and-then ! (load ! (from ! (stop !)) (look ! 22 refl)) (and-then ! (load ! (from ! (stop !)) (look ! 28 refl)) (and-then ! (load ! (from ! (stop !)) (look ! 26 refl)) (no-more !)))))))))) (λ w₂.
         use1 W (later (some (λ (r₂ : Turned). ((‵ (flft κ₀ q₀) ⊛ ‵ (flft κ₂ q₂) ⊛ ‵ (flft κ₃ q₃) ⊛ ‵ ftrue) ⊛ ‵ (TurnedT.the-row .own r₂ (w₂ ∷ []))) ⊛ raw (ensured 𝓤 H A f-turn.ended (f-turn.clauses 𝓤 H A mem run) (κ₀, (κ₂, (κ₃, tt))) (s, (n, (x-mem, ((length ys-table), (links, (slot, (r, (x-head, (x-body, tt))))))))) tt r₂)))) (id⊢ 𝓤 _) $ await ! tt $ pick ! (λ r₂.
-        split ! $ move ! (1 ∷ []) $ use1 W (some (λ (ws₂ : Unit {0} × (Unit {0} × (Unit {0} × (Unit {0} × (Unit {0} × (Unit {0} × (Unit {0} × (Unit {0} × (Unit {0} × Unit {0}))))))))). ‵ (lasts f-turn.ended (κ₀, (κ₂, (κ₃, tt))) (s, (n, (x-mem, ((length ys-table), (links, (slot, (r, (x-head, (x-body, tt))))))))) ws₂) ⊛ raw (fact 𝓤 (DidGather s n (ys-mem) (length ys-table) links slot r (ys-head) (ys-body) r₂)))) (id⊢ 𝓤 _) $ pick ! (λ ws₂.
-        split ! $ move ! (1 ∷ []) $ heard ! (DidGather s n (ys-mem) (length ys-table) links slot r (ys-head) (ys-body) r₂) (λ e₂.
+        split ! $ move ! (1 ∷ []) $ use1 W (some (λ (ws₂ : Unit {0} × (Unit {0} × (Unit {0} × (Unit {0} × (Unit {0} × (Unit {0} × (Unit {0} × (Unit {0} × (Unit {0} × Unit {0}))))))))). ‵ (lasts f-turn.ended (κ₀, (κ₂, (κ₃, tt))) (s, (n, (x-mem, ((length ys-table), (links, (slot, (r, (x-head, (x-body, tt))))))))) ws₂) ⊛ raw (fact 𝓤 (shownBy r₂ [] (ys-mem) ≡ onRecord s n (ys-mem) (length ys-table) links slot r (Request.send (ys-head ++ ys-body)))))) (id⊢ 𝓤 _) $ pick ! (λ ws₂.
+        split ! $ move ! (1 ∷ []) $ heard ! (shownBy r₂ [] (ys-mem) ≡ onRecord s n (ys-mem) (length ys-table) links slot r (Request.send (ys-head ++ ys-body))) (λ e₂.
         fsplit ! $ drop ! $ fsplit ! $ drop ! $ fsplit ! $ drop ! $ fsplit ! $ drop ! $ fsplit ! $ drop ! $ fsplit ! $ drop ! $ fsplit ! $ drop ! $ fsplit ! $ drop ! $ fsplit ! $ drop ! $ drop ! $ split ! $
         move ! (1 ∷ []) $ peeks ! TurnedT.the-row (Is TurnedT.the-row) (shows 𝓤 H A TurnedT.the-row) r₂ (w₂ ∷ []) (λ is₂. drop ! $
         land ! (from ! (stop !)) (init ! 20 refl (LL.lawful TurnedT.the-type TurnedL.the-laws 𝓤 H A W .typed r₂ _ is₂ .0)) $

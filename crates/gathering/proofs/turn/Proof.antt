@@ -2,10 +2,9 @@
 use mathlib.Core.List.{_++_}
 use denote.Ref.{now}
 use borrow.Author.Needs.{needs}
-use Rattle.table.proofs.Laws.{found-in}
 use Rattle.rules.specs.Rules.{send}
-use Rattle.rules.proofs.Settled.{on-plain}
-use Rattle.gathering.proofs.Laws.{joined-turn, did-joined}
+use Rattle.rules.proofs.Settled.{on-shown-plain}
+use Rattle.gathering.proofs.Laws.{joined-turn}
 use Rattle.gathering.proofs.turn.Statement.{statement}
 use Rattle.gathering.proofs.turn.Tie as tie
 
@@ -30,12 +29,9 @@ returns c =
     let l = o .before in
     let f = l .before in
     let a = f .before .before .before .before .args in
-    λ t h e.
-    did-joined (a .s) (a .n) (now (a .mem)) t (a .links) (a .slot) (a .rec) (now (a .head)) (now (a .body)) (c .settled .result) e
-    (on-plain (a .s) (a .n) t (a .links) (now (a .mem)) (a .slot) (send (now (a .head) ++ now (a .body))) (a .rec) e (f .found .result)
-    (found-in (a .s) (a .n) _ t h (a .slot) (a .rec) (f .found .ensures)) (l .link-active .result) (l .link-active .ensures)
-    (o .send .result) (c .settled .result) (c .settled .ensures)
-    (joined-turn _ _ _ _ (now (a .head)) (now (a .body)) _ (o .send .ensures)))
+    on-shown-plain (a .s) (a .n) (now (a .mem)) (a .count) (a .links) (a .slot) (send (now (a .head) ++ now (a .body))) (a .rec)
+    (f .found .result) (f .found .ensures) (l .link-active .result) (l .link-active .ensures) (o .send .result) (c .settled .result)
+    (c .settled .ensures) (joined-turn _ _ _ _ (now (a .head)) (now (a .body)) _ (o .send .ensures))
 
 pub turn-spec : {M : Type 1} → statement M
 turn-spec = tie.close (tie.spec found-requires link-active-requires add-send send-requires settled-requires returns)
