@@ -48,7 +48,7 @@ use Rattle.order.specs.Statement.{leaves}
 use Rattle.changes.specs.Numbers.{refusedB}
 use Rattle.safety.specs.Links.{callOf, relinked}
 use Rattle.failover.specs.Failover.{planOf, movedAll, messagesOf, countOf, bufferLeft}
-use Rattle.changes.specs.Gauges.{Regauges, by-sample, by-link-down, GaugesBySampleAndLinkDown, Document01, SameButGauges, GaugesUnread, downB, unlessDown, heardAfter, heardFrom, samples, GaugeHolds, MeanExact, LateExact}
+use Rattle.changes.specs.Gauges.{Regauges, by-sample, by-link-down, GaugesBySampleAndLinkDown, Document01, SameButGauges, GaugesUnread, downB, unlessDown, heardAfter, heardFrom, samples, Holding, GaugeHolds, MeanExact, LateExact}
 use Rattle.safety.proofs.Effects.{Effect, refuses-it, links-it, samples-it, puts-turn, effect, sample-facts, gaugeAfter}
 use Rattle.safety.proofs.Links.{link-calls-leave}
 use Rattle.refusals.proofs.Answers.{clash}
@@ -392,12 +392,18 @@ no-free (LinkCall.send l h vs) b k e = clash (cc)
 -- what a gauge holds, and that there are four
 record Holds (g : Group) (l : ℕ) (ns : List ℕ) : Type 0 where
   four : length (g .gauges) ≡ 4
-  is : gaugeAt (g .gauges) l ≡ after clearedOf ns
+  is : Holding (gaugeAt (g .gauges) l) ns
   each : Samples ns
 
 samples-one : (ns : List ℕ) (ms : ℕ) → ms ≤ mostMs → Samples ns → Samples (ns ++ ms ∷ [])
 samples-one [] ms h s = (h, tt)
 samples-one (n ∷ ns) ms h s = (s .0, samples-one ns ms h (s .1))
+
+-- with one sample more; the first is taken whatever else the gauge holds
+one-more : (ns : List ℕ) (q : Gauge) (ms : ℕ) → Holding q ns → Holding (sampledOf q ms) (ns ++ ms ∷ [])
+unfolding sampledOf after
+one-more [] q ms h = rw h
+one-more (n ∷ ns) q ms h = ap (λ (x : Gauge). sampledOf x ms) h ∙ sym (after-one clearedOf (n ∷ ns) ms)
 
 -- four gauges that are cleared
 all-cleared : (q : List Gauge) → length q ≡ 4 → (l : ℕ)
@@ -419,7 +425,11 @@ module _ (g : Group) (l : ℕ) (ns : List ℕ) (w : Holds g l ns) where
   as-it-was : (h : Group) (z : List ℕ) → h .gauges ≡ g .gauges → z ≡ ns → Holds h l z
   as-it-was h z e f =
       rw f
-      (record { four = ap length e ∙ w .four; is = ap (λ (q : List Gauge). gaugeAt q l) e ∙ w .is; each = w .each })
+      (record {
+        four = ap length e ∙ w .four;
+        is = subst (λ (q : Gauge). Holding q ns) (sym (ap (λ (q : List Gauge). gaugeAt q l) e)) (w .is);
+        each = w .each;
+      })
 
   -- the links are touched
   touched-holds : (h : Group) (t : Touch) → h .gauges ≡ touched (linksOf g) t .gauges → Holds h l (cond (downB t l) [] ns)
@@ -439,17 +449,19 @@ module _ (g : Group) (l : ℕ) (ns : List ℕ) (w : Holds g l ns) where
           record {
             four = four;
             is =
-                ap (λ (q : List Gauge). gaugeAt q l) (down ∙ ap (λ i. withGauge (g .gauges) i clearedOf) (eqb-true k l f))
-                ∙ gauge-cleared (g .gauges) l;
+                ap (λ (q : List Gauge). gaugeAt q l .count) (down ∙ ap (λ i. withGauge (g .gauges) i clearedOf) (eqb-true k l f))
+                ∙ ap (λ (q : Gauge). q .count) (gauge-cleared (g .gauges) l);
             each = tt;
           }
       go false f =
           record {
             four = four;
             is =
-                ap (λ (q : List Gauge). gaugeAt q l) down
-                ∙ gauge-set-other (g .gauges) k l clearedOf (λ p. eqb-false k l f (sym p))
-                ∙ w .is;
+                subst (λ (q : Gauge). Holding q ns)
+                (sym
+                (ap (λ (q : List Gauge). gaugeAt q l) down
+                ∙ gauge-set-other (g .gauges) k l clearedOf (λ p. eqb-false k l f (sym p))))
+                (w .is);
             each = w .each;
           }
   touched-holds h All e =
@@ -461,7 +473,9 @@ module _ (g : Group) (l : ℕ) (ns : List ℕ) (w : Holds g l ns) where
             ∙ with-gauge-length _ 2 clearedOf
             ∙ with-gauge-length _ 1 clearedOf
             ∙ w .four;
-        is = ap (λ (q : List Gauge). gaugeAt q l) down ∙ all-cleared (g .gauges) (w .four) l;
+        is =
+            ap (λ (q : List Gauge). gaugeAt q l .count) down
+            ∙ ap (λ (q : Gauge). q .count) (all-cleared (g .gauges) (w .four) l);
         each = tt;
       }
     where
@@ -506,16 +520,18 @@ module _ (g : Group) (l : ℕ) (ns : List ℕ) (w : Holds g l ns) where
           record {
             four = four;
             is =
-                (rw s at this) ∙ ap (λ (q : Gauge). sampledOf q ms) (w .is) ∙ sym (after-one clearedOf ns ms);
+                subst (λ (q : Gauge). Holding q (ns ++ ms ∷ [])) (sym (rw s at this)) (one-more ns (gaugeAt (g .gauges) l) ms (w .is));
             each = samples-one ns ms (leb-true ms mostMs r) (w .each);
           }
       go false f =
           record {
             four = four;
             is =
-                ap (λ (q : List Gauge). gaugeAt q l) e
-                ∙ gauge-set-other (g .gauges) k l (gaugeAfter g k ms) (λ p. eqb-false k l f (sym p))
-                ∙ w .is;
+                subst (λ (q : Gauge). Holding q ns)
+                (sym
+                (ap (λ (q : List Gauge). gaugeAt q l) e
+                ∙ gauge-set-other (g .gauges) k l (gaugeAfter g k ms) (λ p. eqb-false k l f (sym p))))
+                (w .is);
             each = w .each;
           }
 
@@ -573,7 +589,8 @@ mean-exact g f h cs l n ns e short =
     let w = all-hold g f h cs l in
     let s : Samples (n ∷ ns) = rw e at (w .each) in
     let v = through-eight clearedOf n ns refl short s .mean in
-    rw (w .is, e) v
+    let is : gaugeAt (leaves g cs .gauges) l ≡ after clearedOf (n ∷ ns) = subst (Holding (gaugeAt (leaves g cs .gauges) l)) e (w .is) in
+    rw is v
 
 -- the whole number stays below the most milliseconds
 whole-most : (ns : List ℕ) (w : ℕ) → w ≤ 60000 * 2097152 → Samples ns → wholeFrom w ns ≤ 60000 * 2097152
@@ -596,6 +613,7 @@ late-exact g f h cs l n ns e short s most =
     let v = through-eight clearedOf n ns refl short each in
     let some : after clearedOf (n ∷ ns) .count ≡ 0 → ⊥ = λ z. absurd (omega (arith, v .count, z)) in
     let most-whole = whole-most ns (n * 2097152) (mul-le-mul-right 2097152 (each .0)) (each .1) in
-    rw (w .is, e)
+    let is : gaugeAt (leaves g cs .gauges) l ≡ after clearedOf (n ∷ ns) = subst (Holding (gaugeAt (leaves g cs .gauges) l)) e (w .is) in
+    rw is
     (later-late (after clearedOf (n ∷ ns)) s some
     ∙ late-whole (after clearedOf (n ∷ ns) .mean) (ofInt binary64 (pos s)) (wholeFrom (n * 2097152) ns) s most-whole (v .mean) (of-whole s most))

@@ -8,6 +8,7 @@ use mathlib.Core.List.{List, [], _∷_, _++_}
 use lib.Dec.{ltb, eqb}
 use lib.Ieee.Exact.{HasValue}
 use lib.ListN.{length}
+use Rattle.gauge.specs.declared.Gauge.{Gauge}
 use Rattle.gauge.specs.Gauge.{mostMs, clearedOf, sampledOf, healthOf, after, wholeFrom}
 use Rattle.table.specs.Table.{gaugeAt, withGauge}
 use Rattle.rules.specs.Rules.{Group, openSlot, freeSlot, linkChange, linkMessage, linkSend, sample, Call, on, hear, manage, sampled, lentOk}
@@ -88,11 +89,15 @@ heardFrom g l ns (c ∷ cs) = heardFrom (next g c) l (heardAfter g l ns c) cs
 abbrev pub samples : Group → List Call → ℕ → List ℕ
 samples g cs l = heardFrom g l [] cs
 
+-- with none, its count is 0, and nothing else of it is ever looked at
+abbrev pub Holding : Gauge → List ℕ → Type 0
+Holding q [] = q .count ≡ 0
+Holding q (n ∷ ns) = q ≡ after clearedOf (n ∷ ns)
+
 -- four gauges are lent by their type
 abbrev pub GaugeHolds : Type 0
 GaugeHolds =
-    (g : Group) → Fresh g → length (g .gauges) ≡ 4 → (cs : List Call) (l : ℕ)
-    → gaugeAt (leaves g cs .gauges) l ≡ after clearedOf (samples g cs l)
+    (g : Group) → Fresh g → length (g .gauges) ≡ 4 → (cs : List Call) (l : ℕ) → Holding (gaugeAt (leaves g cs .gauges) l) (samples g cs l)
 
 -- so through the first eight of them its mean is exactly the whole number over 2,097,152
 abbrev pub MeanExact : Type 0

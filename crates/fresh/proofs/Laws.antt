@@ -40,10 +40,10 @@ unfolding activeB downLinks
 off role zero = refl
 off role (suc i) = all-alike false 4 4 i
 
-empty : (role : Role) (k : ℕ) → gaugeAt (downLinks role .gauges) k ≡ clearedOf
+empty : (role : Role) (k : ℕ) → gaugeAt (downLinks role .gauges) k .count ≡ 0
 unfolding gaugeAt downLinks
 empty role zero = refl
-empty role (suc i) = all-alike clearedOf 4 4 i
+empty role (suc i) = ap (λ (q : Gauge). q .count) (all-alike clearedOf 4 4 i)
 
 no-stage : (role : Role) → downLinks role .exchange .stage ≡ 0
 unfolding downLinks

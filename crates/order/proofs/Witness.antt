@@ -63,7 +63,7 @@ a-fresh-group = record { sizes = refl; closed = shut; down = off; unheard = empt
     off (suc (suc (suc (suc zero)))) = refl
     off (suc (suc (suc (suc (suc l))))) = refl
 
-    empty : (l : ℕ) → gaugeAt (clearedOf ∷ clearedOf ∷ clearedOf ∷ clearedOf ∷ []) l ≡ clearedOf
+    empty : (l : ℕ) → gaugeAt (clearedOf ∷ clearedOf ∷ clearedOf ∷ clearedOf ∷ []) l .count ≡ 0
     empty zero = refl
     empty (suc zero) = refl
     empty (suc (suc zero)) = refl

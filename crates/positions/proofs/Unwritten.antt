@@ -45,7 +45,7 @@ peer-announced-unwritten = (
     off (suc (suc (suc (suc zero)))) = refl
     off (suc (suc (suc (suc (suc l))))) = refl
 
-    empty : (l : ℕ) → gaugeAt (clearedOf ∷ clearedOf ∷ clearedOf ∷ clearedOf ∷ []) l ≡ clearedOf
+    empty : (l : ℕ) → gaugeAt (clearedOf ∷ clearedOf ∷ clearedOf ∷ clearedOf ∷ []) l .count ≡ 0
     empty zero = refl
     empty (suc zero) = refl
     empty (suc (suc zero)) = refl

@@ -21,7 +21,7 @@ use Rattle.exchange.specs.declared.Fate.{Fate}
 use Rattle.closing.specs.declared.State.{State}
 use Rattle.gauge.specs.declared.Gauge.{Gauge}
 use Rattle.gauge.specs.declared.Health.{Health}
-use Rattle.gauge.specs.Gauge.{mostMs, clearedOf, sampledOf, healthOf}
+use Rattle.gauge.specs.Gauge.{mostMs, sampledOf, healthOf}
 use Rattle.element.specs.Element.{baseOf, elementOf, splice, intactB, freshElement, intoOut}
 use Rattle.connection.specs.declared.Record.{Record}
 use Rattle.connection.specs.declared.Opening.{Opening}
@@ -425,13 +425,13 @@ pub record Did (g : Group) (c : Call) (a : Answer) (h : Group) : Type 0 where
 abbrev pub answerOf : Answered → List ℕ → Answer
 answerOf r out = record { says = saysOf (r .reply); made = r .made; message = r .message; out = out }
 
--- A fresh group has S and N in range, a table of S records, every slot closed (whatever else it holds), every link down, every gauge
--- cleared, no exchange, none that waits (whatever v, w and the places hold), either role, and memory all zeros.
+-- A fresh group has S and N in range, a table of S records, every slot closed (whatever else it holds), every link down, no sample in any
+-- gauge (whatever else it holds), no exchange, none that waits (whatever v, w and the places hold), either role, and memory all zeros.
 pub record Fresh (g : Group) : Type 0 where
   pub sizes : sizesOk g ≡ true
   pub closed : (k : ℕ) → openB (g .S) (g .table) k ≡ false
   pub down : (l : ℕ) → activeB (g .links) l ≡ false
-  pub unheard : (l : ℕ) → gaugeAt (g .gauges) l ≡ clearedOf
+  pub unheard : (l : ℕ) → gaugeAt (g .gauges) l .count ≡ 0
   pub idle : g .exchange .stage ≡ 0
   pub none : g .queue .count ≡ 0
   pub zeros : g .memory ≡ replicate (length (g .memory)) 0
