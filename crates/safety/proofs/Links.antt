@@ -1,10 +1,10 @@
 -- The claims of specs/Links. Assumes nothing.
-use Prim.Native.Nat.{ℕ}
-use mathlib.Core.Path.{_≡_, refl, sym, ap, _∙_}
+use Prim.Native.Nat.{ℕ, _≤_}
+use mathlib.Core.Path.{_≡_, refl, sym, ap, _∙_, subst}
 use mathlib.Core.Logic.{_⊎_, inl, inr}
 use mathlib.Core.Bool.{Bool, true, false, cond}
-use mathlib.Core.List.{List, []}
-use lib.Dec.{eqb}
+use mathlib.Core.List.{List, [], _∷_}
+use lib.Dec.{leb, eqb}
 use borrow.Author.Tests.{eqb-false}
 use Rattle.cdc.specs.declared.Decoded.{Decoded}
 use Rattle.cdc.specs.declared.Decoded.the-variants.{Good, Malformed}
@@ -14,17 +14,24 @@ use Rattle.llcfields.specs.declared.Kind.the-variants.{ConfirmLink}
 use Rattle.exchange.specs.declared.Role.{Role}
 use Rattle.exchange.specs.declared.Exchange.{Exchange}
 use Rattle.exchange.specs.declared.Queue.{Queue}
+use Rattle.exchange.specs.declared.Said.{Said}
+use Rattle.exchange.specs.declared.Touch.{Touch}
+use Rattle.exchange.specs.Exchange.{noExchange, nextStage, wentOn}
 use Rattle.table.specs.declared.Links.{Links}
 use Rattle.table.specs.Table.{openB, linkIn, gaugeAt}
 use Rattle.linkcalls.specs.Calls.{unchanged, changedOf, heardOf, sentOf}
+use Rattle.linktheorems.specs.Statements as Link
 use Rattle.linktheorems.specs.Statements.{Call as LinkCall}
-use Rattle.linktheorems.proofs.Theorems.{refused-keeps}
-use Rattle.rules.specs.Rules.{Group, openSlot, freeSlot, linkChange, linkMessage, linkSend, sample, Call, on, hear, manage, Answer, Turn, Done, does, refuses, putTurn, outOf, sizesOk, onDoes, hearAt, hearMessage, hearDoes, openRefusal, openDoes, freeRefusal, freeDoes, lentOk, linkRefusal, failsOver, linkDoes, linkMessageDoes, linkSendDoes, sampleRefusal, sampleDoes, Says, linksOf, withLinks, groupOf}
+use Rattle.linktheorems.specs.Course.{Begins, Course, stays, goes-on, ends, begins, replaced, adding, deleting, confirming, confirmingMore, withdrawing}
+use Rattle.linktheorems.proofs.Course.{one-exchange}
+use Rattle.linktheorems.proofs.Theorems.{refused-keeps, at-most-four}
+use Rattle.rules.specs.Rules.{Group, openSlot, freeSlot, linkChange, linkMessage, linkSend, sample, Call, on, hear, manage, Answer, Turn, Done, does, refuses, putTurn, outOf, sizesOk, onDoes, hearAt, hearMessage, hearDoes, openRefusal, openDoes, freeRefusal, freeDoes, lentOk, linkRefusal, failsOver, linkDoes, linkMessageDoes, linkSendDoes, sampleRefusal, sampleDoes, Says, linksOf, withLinks, groupOf, next}
 use native.Mathlib.Omega.{arith}
 use Rattle.connection.specs.declared.Record.{Record}
 use Rattle.failover.specs.Failover.{planOf, movedAll}
 use Rattle.failover.proofs.Still.{still-moved, same-still}
-use Rattle.safety.specs.Links.{callOf, LinkCallsLeave, KeepsLinks, OthersKeep, Other, SameButExchange, ExchangeUnread}
+use Rattle.order.specs.Statement.{leaves}
+use Rattle.safety.specs.Links.{callOf, relinked, LinkCallsLeave, KeepsLinks, OthersKeep, Other, SameButExchange, ExchangeUnread, AlwaysOne}
 use Rattle.safety.proofs.Effects.{Effect, refuses-it, links-it, samples-it, puts-turn, effect}
 
 -- 1. what is left, refused or not: links that are as they were move nothing
@@ -153,3 +160,86 @@ exchange-unread g h c d s = rw (sym is) (a .said, a .left)
 
     a : Alike (does g c) (does (other g (h .role) (h .exchange) (h .queue)) c)
     a = alike g (h .role) (h .exchange) (h .queue) c d
+
+-- 4. one at a time, from a fresh group on
+no-more-than : (b : Bool) (x y : ℕ) → x ≤ 11 → y ≤ 11 → cond b x y ≤ 11
+no-more-than true x y h i = h
+no-more-than false x y h i = i
+
+next-most : (x : Exchange) (m : Said) → nextStage x m ≤ 11
+unfolding nextStage
+next-most x m =
+    no-more-than (eqb (x .stage) 1) _ _ (no-more-than (m .z) 0 2 (omega arith) (omega arith))
+    (no-more-than (eqb (x .stage) 2) _ _ (no-more-than (eqb (m .kind) 0x03) 3 4 (omega arith) (omega arith))
+    (no-more-than (eqb (x .stage) 3) 2 _ (omega arith)
+    (no-more-than (eqb (x .stage) 7) _ _ (no-more-than (m .z) 0 8 (omega arith) (omega arith))
+    (no-more-than (eqb (x .stage) 8) _ _ (no-more-than (leb (m .num) 3) 9 10 (omega arith) (omega arith))
+    (no-more-than (eqb (x .stage) 10) _ 0 (no-more-than (m .z) 0 8 (omega arith) (omega arith)) (omega arith))))))
+
+on-stage : (x : Exchange) (m : Said) → wentOn x m .stage ≤ 11
+unfolding wentOn
+on-stage x m = go (eqb (nextStage x m) 0) (nextStage x m) (next-most x m)
+  where
+    go : (b : Bool) (n : ℕ) → n ≤ 11 → cond b noExchange (record { stage = n; v = x .v; w = x .w }) .stage ≤ 11
+    go true n h = omega arith
+    go false n h = h
+
+begin-stage : (l : ℕ) (m : Said) (x : Exchange) → Begins l m x → x .stage ≤ 11
+begin-stage l m x (adding i) = omega arith
+begin-stage l m x (deleting i) = omega arith
+begin-stage l m x (confirming i j) = omega arith
+begin-stage l m x (confirmingMore i j) = omega arith
+begin-stage l m x (withdrawing i) = omega arith
+
+course-stage : (g : Links) (c : LinkCall) (t : Touch) (x : Exchange) → Course g c t x → g .exchange .stage ≤ 11 → x .stage ≤ 11
+course-stage g c t x stays h = h
+course-stage g c t x (goes-on l m o d) h = on-stage (g .exchange) m
+course-stage g c t x (ends d) h = omega arith
+course-stage g c t x (begins l m y o z b) h = begin-stage l m y b
+course-stage g c t x (replaced l m o s i) h = omega arith
+
+-- what a call on links makes of exchange and queue; where 1 refuses it, nothing
+link-course : (g : Group) (k : LinkCall) (b : List ℕ)
+    → Course (linksOf g) k (Link.does (linksOf g) k .touch) (next g (callOf k b) .exchange)
+link-course g k b = rw (ap (λ (h : Group). h .exchange) (link-calls-leave g k b)) (go (lentOk g b))
+  where
+    go : (ok : Bool) → Course (linksOf g) k (Link.does (linksOf g) k .touch) (cond ok (relinked g k) g .exchange)
+    go true = one-exchange (linksOf g) k
+    go false = stays
+
+link-waits : (g : Group) (k : LinkCall) (b : List ℕ) → g .queue .count ≤ 4 → next g (callOf k b) .queue .count ≤ 4
+link-waits g k b h = rw (ap (λ (w : Group). w .queue) (link-calls-leave g k b)) (go (lentOk g b))
+  where
+    go : (ok : Bool) → cond ok (relinked g k) g .queue .count ≤ 4
+    go true = at-most-four (linksOf g) k h
+    go false = h
+
+record Bounds (g : Group) : Type 0 where
+  waits : g .queue .count ≤ 4
+  stage : g .exchange .stage ≤ 11
+
+call-bounds : (g : Group) (c : Call) → Bounds g → Bounds (next g c)
+call-bounds g c w = go (others-keep g c)
+  where
+    go : KeepsLinks g (next g c) ⊎ ((k : LinkCall) × (b : List ℕ) × (c ≡ callOf k b)) → Bounds (next g c)
+    go (inl e) =
+        record {
+          waits = rw (ap (λ (q : Queue). q .count) (e .same-queue)) (w .waits);
+          stage = rw (ap (λ (x : Exchange). x .stage) (e .same-exchange)) (w .stage);
+        }
+    go (inr (k, b, p)) =
+        subst (λ (d : Call). Bounds (next g d)) (sym p)
+        (record {
+          waits = link-waits g k b (w .waits);
+          stage = course-stage (linksOf g) k (Link.does (linksOf g) k .touch) (next g (callOf k b) .exchange) (link-course g k b) (w .stage);
+        })
+
+list-bounds : (cs : List Call) (g : Group) → Bounds g → Bounds (leaves g cs)
+unfolding leaves
+list-bounds [] g w = w
+list-bounds (c ∷ cs) g w = list-bounds cs (next g c) (call-bounds g c w)
+
+pub always-one : AlwaysOne
+always-one g f cs =
+    let w = list-bounds cs g (record { waits = omega (arith, f .none); stage = omega (arith, f .idle) }) in
+    record { most-wait = w .waits; stages = w .stage; course = link-course (leaves g cs) }

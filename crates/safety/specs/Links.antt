@@ -2,15 +2,17 @@
 -- what the crate linktheorems says of these calls on links holds of them on groups. All other calls leave the links as they are, but that a
 -- sample changes a gauge, and look neither at role, exchange nor queue. Claims about the rules that every contract cites (`answer`, `next`).
 -- proofs/Links proves each. Assumes nothing.
-use Prim.Native.Nat.{ℕ}
+use Prim.Native.Nat.{ℕ, _≤_}
 use mathlib.Core.Path.{_≡_}
 use mathlib.Core.Logic.{_⊎_}
 use mathlib.Core.List.{List}
 use Rattle.linktheorems.specs.Statements as Link
+use Rattle.linktheorems.specs.Course.{Course}
 use Rattle.linktheorems.specs.Statements.{Call as LinkCall}
 use Rattle.rules.specs.Rules.{Group, Management, openSlot, freeSlot, linkChange, linkMessage, linkSend, sample, Call, on, hear, manage, answer, next, linksOf, groupOf, lentOk}
 use mathlib.Core.Bool.{cond}
 use Rattle.failover.specs.Failover.{planOf, movedAll}
+use Rattle.safety.specs.Statement.{Always}
 
 -- the desk call that a call on links is, with the buffer b (request 2026-13)
 abbrev pub deskOf : LinkCall → List ℕ → Management
@@ -65,3 +67,14 @@ pub record SameButExchange (g h : Group) : Type 0 where
 abbrev pub ExchangeUnread : Type 0
 ExchangeUnread =
     (g h : Group) (c : Call) → Other c → SameButExchange g h → (answer g c ≡ answer h c) × SameButExchange (next g c) (next h c)
+
+-- 4. Whatever calls are made of a fresh group: at most four messages wait; at most one exchange runs, of a stage from 0, which is none, to 11;
+-- and of a call on links it stays, goes on, ends or begins as the crate linktheorems says (`Course`)
+pub record OneAtATime (h : Group) : Type 0 where
+  pub most-wait : h .queue .count ≤ 4
+  pub stages : h .exchange .stage ≤ 11
+  pub course : (k : LinkCall) (b : List ℕ)
+      → Course (linksOf h) k (Link.does (linksOf h) k .touch) (next h (callOf k b) .exchange)
+
+abbrev pub AlwaysOne : Type 0
+AlwaysOne = Always OneAtATime
