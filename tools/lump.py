@@ -66,10 +66,10 @@ class Tree:
         with open(os.path.join(work, 'top', 'src', 'lib.rt'), 'w', encoding='utf-8') as top:
             top.write('// All crates are passed as libraries.\n')
 
-    def copy(self, name, place, pairs=()):
-        """A crate's copy below a place, with the edit's pairs made, and without its functions."""
+    def copy(self, name, place, pairs=(), bare=False):
+        """A crate's copy below a place, with the edit's pairs made, and without its functions; `bare`: without its lemmas too."""
         folder = os.path.join(place, 'crates', name)
-        for part in ('src', 'specs', 'proofs'):
+        for part in ('src', 'specs') if bare else ('src', 'specs', 'proofs'):
             if os.path.isdir(os.path.join('crates', name, part)):
                 shutil.copytree(os.path.join('crates', name, part), os.path.join(folder, part))
         for path, old, new in pairs:
@@ -80,6 +80,12 @@ class Tree:
             open(path, 'w', encoding='utf-8').write(text.replace(old, new))
         if not self.whole:
             without_functions(folder)
+
+    def cites_none(self, name):
+        """Whether the proofs of a crate cite no lemma of another."""
+        cited = re.compile(rf'^use Rattle·(?!{name}·)\w+\.proofs\b', re.M)
+        folder = os.path.join(self.work, 'crates', name, 'proofs')
+        return not any(cited.search(open(os.path.join(place, f), encoding='utf-8').read()) for place, _, files in os.walk(folder) for f in files)
 
     def below(self, wanted):
         seen = []
