@@ -100,8 +100,8 @@ class Tree:
             visit(name)
         return seen
 
-    def check(self, wanted, saved, place=None):
-        """What the prover says of these crates and all below, those of `place` in the place of ours."""
+    def check(self, wanted, saved, *places):
+        """What the prover says of these crates and all below, each from the first of `places` that has it, or ours."""
         home, own = kit()
         top = os.path.join(self.work, 'top', 'src', 'lib.rt')
         words = [os.path.join(own, 'bin', 'rattle'), 'check', '--crate-name', 'top', top,
@@ -111,9 +111,7 @@ class Tree:
             if os.path.exists(os.path.join(own, 'rlib', name + '.rlib')):
                 words += ['--extern', f'{name}={own}/rlib/{name}.rlib']
         for name in self.below(wanted):
-            folder = os.path.join(place or self.work, 'crates', name)
-            if not os.path.isdir(folder):
-                folder = os.path.join(self.work, 'crates', name)
-            root = os.path.join(folder, 'src', 'lib.rt')
+            folders = (os.path.join(place, 'crates', name) for place in (*places, self.work))
+            root = os.path.join(next(f for f in folders if os.path.isdir(f)), 'src', 'lib.rt')
             words += ['--lib', f'{name}:{",".join(["std"] + self.deps[name])}={root}']
         return subprocess.run(words, stdout=subprocess.PIPE, stderr=subprocess.STDOUT, text=True, errors='replace').stdout
