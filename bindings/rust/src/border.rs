@@ -4,7 +4,7 @@
 //! valid for their lengths, buffers that do not overlap, and bools that are 0 or 1. Rust's own types keep all of this, and whoever
 //! implements [`Memory`] by hand promises it.
 
-use crate::{Closed, Heard, Links, Message, Opening, Placing, Placings, Read, Record, Refusal, Role, Sent, State};
+use crate::{Closed, Heard, Links, Message, Opening, Placing, Placings, Quiet, Read, Record, Refusal, Role, Sent, State};
 use alloc::boxed::Box;
 use alloc::vec::Vec;
 use core::marker::PhantomData;
@@ -713,13 +713,14 @@ pub(crate) fn hear<M: Memory + ?Sized>(lent: Lent<'_, M>, active: [bool; 4], byt
     Ok(Heard { moved, state, message: None, quiet: None })
 }
 
-type Finish = unsafe extern "C" fn(u32, u32, *const u8, usize, *mut Record, usize, LinkStates, u32, *mut [u8; Message::SIZE]) -> FinishAnswer;
+type Finish =
+    unsafe extern "C" fn(u32, u32, *const u8, usize, *mut Record, usize, LinkStates, u32, *mut [u8; Message::SIZE]) -> FinishAnswer;
 
 /// Shutdown, close or abort, on the table itself.
 #[inline(always)]
 fn finish<M: Memory + ?Sized>(
     call: Finish,
-    lent: Lent<'_, M>,
+    lent: &mut Lent<'_, M>,
     active: [bool; 4],
     slot: u32,
     message: &mut Unwritten,
@@ -735,26 +736,36 @@ fn finish<M: Memory + ?Sized>(
 }
 
 #[inline]
-pub(crate) fn shutdown<M: Memory + ?Sized>(lent: Lent<'_, M>, active: [bool; 4], slot: u32) -> Result<Message, Refusal> {
+pub(crate) fn shutdown<M: Memory + ?Sized>(mut lent: Lent<'_, M>, active: [bool; 4], slot: u32) -> Result<Message, Refusal> {
     let mut message = Unwritten::new();
-    finish(fordlinnet_make_shutdown, lent, active, slot, &mut message)?;
+    finish(fordlinnet_make_shutdown, &mut lent, active, slot, &mut message)?;
     // SAFETY: one that is not refused makes a message.
     Ok(unsafe { message.message() })
 }
 
+/// With the right to open the slot again, where the call has closed it. Each answer is made by itself: a message that is part of another
+/// answer first is copied once more.
 #[inline]
-pub(crate) fn close<M: Memory + ?Sized>(lent: Lent<'_, M>, active: [bool; 4], slot: u32) -> Result<Closed, Refusal> {
+pub(crate) fn close<M: Memory + ?Sized>(mut lent: Lent<'_, M>, active: [bool; 4], slot: u32) -> Result<Closed, Refusal> {
     let mut message = Unwritten::new();
-    let answer = finish(fordlinnet_make_close, lent, active, slot, &mut message)?;
+    let answer = finish(fordlinnet_make_close, &mut lent, active, slot, &mut message)?;
+    if answer.reset {
+        // SAFETY: as in `shutdown`.
+        return Ok(Closed::Reset { message: unsafe { message.message() } });
+    }
+    // one that is not refused names a slot of the table
+    if lent.table.get((slot as usize).wrapping_sub(1)).is_some_and(|record| !record.id.opened) {
+        // SAFETY: as in `shutdown`.
+        return Ok(Closed::InOrder { message: unsafe { message.message() }, quiet: Some(Quiet::proved(slot)) });
+    }
     // SAFETY: as in `shutdown`.
-    let message = unsafe { message.message() };
-    Ok(if answer.reset { Closed::Reset { message } } else { Closed::InOrder { message, quiet: None } })
+    Ok(Closed::InOrder { message: unsafe { message.message() }, quiet: None })
 }
 
 #[inline]
-pub(crate) fn abort<M: Memory + ?Sized>(lent: Lent<'_, M>, active: [bool; 4], slot: u32) -> Result<Message, Refusal> {
+pub(crate) fn abort<M: Memory + ?Sized>(mut lent: Lent<'_, M>, active: [bool; 4], slot: u32) -> Result<Message, Refusal> {
     let mut message = Unwritten::new();
-    finish(fordlinnet_make_abort, lent, active, slot, &mut message)?;
+    finish(fordlinnet_make_abort, &mut lent, active, slot, &mut message)?;
     // SAFETY: as in `shutdown`.
     Ok(unsafe { message.message() })
 }

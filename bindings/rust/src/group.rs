@@ -769,11 +769,7 @@ where
         }
         let lent = Lent { s: self.s, n: self.n, memory: &mut self.memory, table: self.table.as_mut() };
         let links: &Links = self.links.borrow();
-        let mut closed = border::close(lent, links.active, slot)?;
-        if let Closed::InOrder { quiet, .. } = &mut closed {
-            *quiet = self.closed(slot);
-        }
-        Ok(closed)
+        border::close(lent, links.active, slot)
     }
 
     /// Sends A. The slot then waits for the peer's A, or for [`Group::free`].
