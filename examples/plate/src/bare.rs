@@ -1,10 +1,10 @@
 //! What the core is set beside, in processes of the same kind: a plain Unix socket, and a bare copy through shared memory.
 
-use crate::end::{Ended, Trouble};
+use crate::end::{Ended, Tried, Trouble};
 use crate::plan::{Board, Mark, Plan, Role};
-use std::io::{self, ErrorKind, Read, Write};
-use std::os::fd::AsFd;
-use std::os::unix::net::UnixStream;
+use crate::system::Patience;
+use crate::wire::{self, SOCKET};
+use std::io::{ErrorKind, Read, Write};
 use std::ptr;
 use std::time::Instant;
 
@@ -14,7 +14,7 @@ const PIECE: usize = 65_536;
 pub fn socket(role: Role, plan: &Plan) -> Result<Ended, Trouble> {
     let map = plan.map_shared()?;
     let board = Board::of(&map);
-    let mut stream = UnixStream::from(io::stdin().as_fd().try_clone_to_owned()?);
+    let mut stream = wire::given()?;
     match role {
         Role::Composer => {
             let input = plan.map_input()?;
@@ -22,7 +22,8 @@ pub fn socket(role: Role, plan: &Plan) -> Result<Ended, Trouble> {
             let file = unsafe { input.bytes() };
             board.begin(role);
             for piece in file.chunks(PIECE) {
-                stream.write_all(piece)?;
+                stream.write_all(piece).tried("write to", SOCKET)?;
+                board.add(Mark::Head, piece.len() as u64);
             }
         }
         Role::Host => {
@@ -36,9 +37,12 @@ pub fn socket(role: Role, plan: &Plan) -> Result<Ended, Trouble> {
                 let end = file.len().min(at + PIECE);
                 match stream.read(&mut file[at..end]) {
                     Ok(0) => return Ok(Ended::Aborted),
-                    Ok(n) => at += n,
+                    Ok(n) => {
+                        at += n;
+                        board.set(Mark::Tail, at as u64);
+                    }
                     Err(e) if e.kind() == ErrorKind::Interrupted => {}
-                    Err(e) => return Err(e.into()),
+                    failed => return failed.map(|_| Ended::Aborted).tried("read", SOCKET),
                 }
             }
             board.set(Mark::Nanoseconds, start.elapsed().as_nanos() as u64);
@@ -55,6 +59,7 @@ pub fn copy(role: Role, plan: &Plan) -> Result<Ended, Trouble> {
     let piece = (plan.element as usize - 4).min(len);
     // how many of `left` bytes lie before the ring's end, from a position on
     let run = |at: usize, left: usize| left.min(len - at % len).min(piece);
+    let mut patience = Patience::default();
     match role {
         Role::Composer => {
             let input = plan.map_input()?;
@@ -66,9 +71,10 @@ pub fn copy(role: Role, plan: &Plan) -> Result<Ended, Trouble> {
                 let room = len - (at - board.get(Mark::Tail) as usize);
                 let n = run(at, (file.len() - at).min(room));
                 if n == 0 {
-                    std::thread::yield_now();
+                    patience.wait();
                     continue;
                 }
+                patience.again();
                 // SAFETY: n bytes of the ring from `at` on are free until the head is moved.
                 unsafe { ptr::copy_nonoverlapping(file[at..].as_ptr(), ring.add(at % len), n) };
                 at += n;
@@ -85,9 +91,10 @@ pub fn copy(role: Role, plan: &Plan) -> Result<Ended, Trouble> {
             while at < file.len() {
                 let n = run(at, board.get(Mark::Head) as usize - at);
                 if n == 0 {
-                    std::thread::yield_now();
+                    patience.wait();
                     continue;
                 }
+                patience.again();
                 // SAFETY: n bytes of the ring from `at` on were written before the head was moved.
                 unsafe { ptr::copy_nonoverlapping(ring.add(at % len), file[at..].as_mut_ptr(), n) };
                 at += n;

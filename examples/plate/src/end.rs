@@ -8,27 +8,34 @@ use fordlinnet::{
     Closed, Fate, Group, LinkFields, LinkKind, Links, Message, Opening, Placing, Quiet, RToken, Read, Record, Refusal, Remote, Row,
     SharedMemory, State,
 };
+use std::fmt;
 use std::io;
 use std::ptr;
 
 /// What went wrong, other than the peer's going.
 #[derive(Debug)]
 pub enum Trouble {
-    System(io::Error),
+    /// What was tried, and with which file.
+    System(String, io::Error),
     Refused(&'static str, Refusal),
     Other(String),
 }
 
-impl From<io::Error> for Trouble {
-    fn from(e: io::Error) -> Trouble {
-        Trouble::System(e)
+/// An answer of the system, with what was asked of it.
+pub trait Tried<T> {
+    fn tried(self, what: &str, of: impl fmt::Display) -> Result<T, Trouble>;
+}
+
+impl<T> Tried<T> for io::Result<T> {
+    fn tried(self, what: &str, of: impl fmt::Display) -> Result<T, Trouble> {
+        self.map_err(|e| Trouble::System(format!("cannot {what} {of}"), e))
     }
 }
 
-impl std::fmt::Display for Trouble {
-    fn fmt(&self, f: &mut std::fmt::Formatter<'_>) -> std::fmt::Result {
+impl fmt::Display for Trouble {
+    fn fmt(&self, f: &mut fmt::Formatter<'_>) -> fmt::Result {
         match self {
-            Trouble::System(e) => write!(f, "{e}"),
+            Trouble::System(tried, e) => write!(f, "{tried}: {e}"),
             Trouble::Refused(call, refusal) => write!(f, "{call}: {refusal}"),
             Trouble::Other(text) => write!(f, "{text}"),
         }

@@ -1,7 +1,8 @@
 //! The links: the first is up from the beginning, the host adds the others by link messages. Only before the file is moved, so that each
 //! can wait for the other; on the socket a link message follows the number of its link.
 
-use crate::end::Trouble;
+use crate::end::{Tried, Trouble};
+use crate::wire::SOCKET;
 use fordlinnet::{Fate, Group, LinkFields, LinkKind, Links, RToken, Record, Role, Row, SharedMemory};
 use std::io::{Read, Write};
 use std::os::unix::net::UnixStream;
@@ -47,12 +48,12 @@ fn say(group: &mut Plates, mut stream: &UnixStream, link: u8, fields: &LinkField
     let sent = group.link_send(link, fields).map_err(|no| Trouble::Refused("link send", no))?;
     let mut bytes = [link; 45];
     bytes[1..].copy_from_slice(&sent.message);
-    Ok(stream.write_all(&bytes)?)
+    stream.write_all(&bytes).tried("write to", SOCKET)
 }
 
 fn hear(group: &mut Plates, mut stream: &UnixStream) -> Result<(u8, LinkFields), Trouble> {
     let mut bytes = [0; 45];
-    stream.read_exact(&mut bytes)?;
+    stream.read_exact(&mut bytes).tried("read", SOCKET)?;
     let heard = group.link_message(bytes[0], &bytes[1..]).map_err(|no| Trouble::Refused("link message", no))?;
     match (heard.fields, heard.fate) {
         (Some(fields), Fate::Taken) => Ok((bytes[0], fields)),

@@ -1,10 +1,10 @@
 //! What both processes are told, and the board on which they write how far they are.
 
-use crate::system::Map;
+use crate::end::{Tried, Trouble};
+use crate::system::{Map, Patience};
 use std::fs::{File, OpenOptions};
-use std::io;
 use std::ops::Range;
-use std::path::PathBuf;
+use std::path::{Path, PathBuf};
 use std::sync::atomic::{AtomicU64, Ordering};
 
 /// Who a process is. Each has a memory of its own, which the other writes.
@@ -21,6 +21,18 @@ impl Role {
             Role::Host => Role::Composer,
         }
     }
+
+    pub fn word(self) -> &'static str {
+        match self {
+            Role::Composer => "composer",
+            Role::Host => "host",
+        }
+    }
+}
+
+fn map(path: &Path, writes: bool) -> Result<Map, Trouble> {
+    let file = if writes { OpenOptions::new().read(true).write(true).open(path) } else { File::open(path) };
+    Map::of(&file.tried("open", path.display())?, writes).tried("map", path.display())
 }
 
 /// The arguments that the processes share.
@@ -88,16 +100,16 @@ impl Plan {
         len * (slot - 1) / k..len * slot / k
     }
 
-    pub fn map_shared(&self) -> io::Result<Map> {
-        Map::of(&OpenOptions::new().read(true).write(true).open(&self.shared)?, true)
+    pub fn map_shared(&self) -> Result<Map, Trouble> {
+        map(&self.shared, true)
     }
 
-    pub fn map_input(&self) -> io::Result<Map> {
-        Map::of(&File::open(&self.input)?, false)
+    pub fn map_input(&self) -> Result<Map, Trouble> {
+        map(&self.input, false)
     }
 
-    pub fn map_output(&self) -> io::Result<Map> {
-        Map::of(&OpenOptions::new().read(true).write(true).open(&self.output)?, true)
+    pub fn map_output(&self) -> Result<Map, Trouble> {
+        map(&self.output, true)
     }
 }
 
@@ -119,10 +131,14 @@ pub enum Mark {
     /// Messages with F that the ends made and heard.
     Moved,
     FailoversHeard,
-    /// Of the bare copy: bytes written, bytes read.
+    /// Beside the core: bytes written, bytes read.
     Head,
     Tail,
 }
+
+/// Where the counters of slots begin.
+const READ: usize = 64;
+const TAKEN: usize = 512;
 
 /// Counters that all processes see, and that outlive one that is killed.
 #[derive(Clone, Copy)]
@@ -153,19 +169,26 @@ impl<'a> Board<'a> {
 
     /// How many bytes of its part a connection has read.
     pub fn read(&self, slot: u32) -> &'a AtomicU64 {
-        &self.all[64 + slot as usize]
+        &self.all[READ + slot as usize]
     }
 
     /// How many bytes of its part were taken by sends.
     pub fn taken(&self, slot: u32) -> &'a AtomicU64 {
-        &self.all[512 + slot as usize]
+        &self.all[TAKEN + slot as usize]
+    }
+
+    /// How many bytes were taken by sends and how many were read, of all connections.
+    pub fn moved(&self, connections: u32) -> [u64; 2] {
+        let sum = |first: usize| self.all[first + 1..=first + connections as usize].iter().map(|n| n.load(Ordering::Acquire)).sum();
+        [sum(TAKEN), sum(READ)]
     }
 
     /// Says that this process is ready, and waits until it may begin.
     pub fn begin(&self, role: Role) {
         self.set(if role == Role::Composer { Mark::ComposerReady } else { Mark::HostReady }, 1);
+        let mut patience = Patience::default();
         while self.get(Mark::Go) == 0 {
-            std::thread::yield_now();
+            patience.wait();
         }
     }
 }

@@ -1,5 +1,6 @@
 //! Messages over a Unix socket: the number of the link that carries one, then its 44 bytes.
 
+use crate::end::{Tried, Trouble};
 use fordlinnet::Message;
 use std::io::{self, ErrorKind, Read, Write};
 use std::os::fd::{AsFd, AsRawFd};
@@ -8,6 +9,9 @@ use std::sync::atomic::{fence, Ordering};
 
 /// The link's number, and a message.
 const FRAME: usize = 1 + Message::SIZE;
+
+/// What errors call it.
+pub const SOCKET: &str = "the socket between the processes";
 
 pub struct Wire {
     stream: UnixStream,
@@ -22,13 +26,14 @@ pub struct Wire {
 }
 
 /// The socket that this process was given as its standard input.
-pub fn given() -> io::Result<UnixStream> {
-    Ok(UnixStream::from(io::stdin().as_fd().try_clone_to_owned()?))
+pub fn given() -> Result<UnixStream, Trouble> {
+    let given = io::stdin().as_fd().try_clone_to_owned().tried("take over", SOCKET)?;
+    Ok(UnixStream::from(given))
 }
 
 impl Wire {
-    pub fn new(stream: UnixStream) -> io::Result<Wire> {
-        stream.set_nonblocking(true)?;
+    pub fn new(stream: UnixStream) -> Result<Wire, Trouble> {
+        stream.set_nonblocking(true).tried("set up", SOCKET)?;
         Ok(Wire { stream, coming: Vec::new(), taken: 0, going: Vec::new(), written: 0, lost: false })
     }
 
@@ -44,7 +49,7 @@ impl Wire {
 
     /// Writes what the socket takes. Every placing that a message announces, and every read that it tells of, is done before it leaves:
     /// the fence keeps the copies before the write.
-    pub fn flush(&mut self) -> io::Result<()> {
+    pub fn flush(&mut self) -> Result<(), Trouble> {
         fence(Ordering::Release);
         while self.written < self.going.len() && !self.lost {
             match self.stream.write(&self.going[self.written..]) {
@@ -53,7 +58,7 @@ impl Wire {
                 Err(e) if e.kind() == ErrorKind::Interrupted => {}
                 // the peer has gone; what it sent before is still to be taken in
                 Err(e) if matches!(e.kind(), ErrorKind::BrokenPipe | ErrorKind::ConnectionReset) => break,
-                Err(e) => return Err(e),
+                failed => return failed.map(drop).tried("write to", SOCKET),
             }
         }
         self.going.clear();
@@ -62,7 +67,7 @@ impl Wire {
     }
 
     /// Takes in what has come. The fence keeps later reads of the element behind the message that announced its bytes.
-    pub fn fill(&mut self) -> io::Result<()> {
+    pub fn fill(&mut self) -> Result<(), Trouble> {
         let mut piece = [0; FRAME * 256];
         while !self.lost {
             match self.stream.read(&mut piece) {
@@ -76,7 +81,7 @@ impl Wire {
                 Err(e) if e.kind() == ErrorKind::WouldBlock => break,
                 Err(e) if e.kind() == ErrorKind::Interrupted => {}
                 Err(e) if e.kind() == ErrorKind::ConnectionReset => self.lost = true,
-                Err(e) => return Err(e),
+                failed => return failed.map(drop).tried("read", SOCKET),
             }
         }
         fence(Ordering::Acquire);
