@@ -26,13 +26,18 @@ pub fn run(plan: &Plan) -> Result<Ended, Trouble> {
     // SAFETY: nobody writes the input while it is sent.
     let file = unsafe { input.bytes() };
     let mut end = End::new(Role::Composer, plan, &map)?;
+    end.board.begin(Role::Composer);
+    deliver(&mut end, plan, file)
+}
+
+/// Sends a whole file, takes the receipts, and closes.
+pub fn deliver(end: &mut End, plan: &Plan, file: &[u8]) -> Result<Ended, Trouble> {
     let slots = 1..=plan.connections;
     let part = |slot| {
         let part = plan.part(slot, file.len());
         Part { next: part.start, end: part.end, waits: false, done: false }
     };
     let mut parts: Vec<Part> = slots.clone().map(part).collect();
-    end.board.begin(Role::Composer);
 
     while !(end.over() && end.wire.idle()) {
         let mut worked = false;
@@ -63,7 +68,7 @@ pub fn run(plan: &Plan) -> Result<Ended, Trouble> {
             let Some(slot) = end.hear(link, &bytes)? else { continue };
             parts[slot as usize - 1].waits = false;
             if end.record(slot).marks.heard.closed {
-                receipt(&mut end, slot, plan.part(slot, file.len()).len())?;
+                receipt(end, slot, plan.part(slot, file.len()).len())?;
             }
         }
         if end.wire.lost && !end.over() {

@@ -5,7 +5,7 @@ use crate::plan::{Board, Mark, Plan, Role};
 use crate::system::Map;
 use crate::wire::{self, Wire};
 use fordlinnet::{
-    Closed, Fate, Group, LinkFields, LinkKind, Links, Message, Opening, Placing, Quiet, RToken, Read, Record, Refusal, Remote, Row,
+    Closed, Fate, Freed, Group, LinkFields, LinkKind, Links, Message, Opening, Placing, Quiet, RToken, Read, Record, Refusal, Remote, Row,
     SharedMemory, State,
 };
 use std::fmt;
@@ -62,9 +62,22 @@ struct Card<'a> {
     start: usize,
     len: usize,
     of: Role,
+    /// Of an element's data, every second piece of so many bytes is lost; none where it is 0.
+    loses: usize,
+    element: usize,
 }
 
 impl Card<'_> {
+    /// Copies to an offset in the peer's memory, unless the card is told to lose it.
+    fn copy(&self, at: usize, bytes: &[u8]) {
+        if self.loses > 0 && (at % self.element - 4) / self.loses % 2 == 1 {
+            return;
+        }
+        let to = self.map.part(self.start + at, bytes.len());
+        // SAFETY: within the peer's memory, where the core has found these bytes free; the peer reads them once it is told.
+        unsafe { ptr::copy_nonoverlapping(bytes.as_ptr(), to, bytes.len()) };
+    }
+
     fn write(&self, links: &Links, placing: &Placing, sent: &[u8]) -> Result<(), Trouble> {
         let bytes = placing.of(sent);
         let active = (1..=4).filter(|link| links.active[usize::from(link - 1)]);
@@ -72,9 +85,12 @@ impl Card<'_> {
         let at = token.and_then(|token| placing.address.checked_sub(token.base));
         match at {
             Some(at) if at as usize <= self.len && bytes.len() <= self.len - at as usize => {
-                let to = self.map.part(self.start + at as usize, bytes.len());
-                // SAFETY: within the peer's memory, where the core has found these bytes free; the peer reads them once it is told.
-                unsafe { ptr::copy_nonoverlapping(bytes.as_ptr(), to, bytes.len()) };
+                let at = at as usize;
+                if self.loses == 0 {
+                    self.copy(at, bytes);
+                } else {
+                    bytes.iter().enumerate().for_each(|(k, byte)| self.copy(at + k, std::slice::from_ref(byte)));
+                }
                 Ok(())
             }
             _ => Err(Trouble::Other(format!("the card knows no {placing:?}"))),
@@ -82,18 +98,18 @@ impl Card<'_> {
     }
 }
 
-/// Token and link of a slot: all four links are used.
-fn token(role: Role, slot: u32) -> u32 {
-    if role == Role::Composer {
-        0x1000 + slot
-    } else {
-        0x2000 + slot
-    }
+/// Token and link of a slot: all four links are used, and a second job's connections have tokens of their own.
+fn token(role: Role, job: u32, slot: u32) -> u32 {
+    let who = if role == Role::Composer { 1 } else { 2 };
+    0x1000 * (2 * job + who) + slot
 }
 
 fn link(slot: u32) -> u8 {
     ((slot - 1) % 4) as u8 + 1
 }
+
+/// A frame of no link: a note between the hosts of the two cards, which is no part of the protocol.
+const NOTE: u8 = 0;
 
 pub struct End<'a> {
     role: Role,
@@ -101,6 +117,17 @@ pub struct End<'a> {
     card: Card<'a>,
     pub wire: Wire,
     pub board: Board<'a>,
+    /// The peer's keys, and where our own memory begins.
+    peer: [RToken; 4],
+    start: usize,
+    /// The rights to open slots again, of calls that closed them.
+    pub quiet: Vec<Quiet>,
+    /// Slots that were freed: writes may still be under way.
+    pub freed: Vec<Freed>,
+    /// Of every slot, how many bytes were announced.
+    pub announced: Vec<u64>,
+    /// How many notes came.
+    pub notes: u32,
 }
 
 impl<'a> End<'a> {
@@ -117,14 +144,55 @@ impl<'a> End<'a> {
         let stream = wire::given()?;
         let mut keys = Keys { own: [1, 2, 3, 4].map(|link| registered(role, link)), peer: [registered(other, 1); 4] };
         links::bring_up(&mut group, &mut keys, &stream)?;
+        let card = Card { map, start: plan.start(other), len: plan.memory(), of: other, loses: 0, element: plan.element as usize };
+        let (wire, board, announced) = (Wire::new(stream)?, Board::of(map), vec![0; s as usize]);
+        let (peer, start, quiet, freed) = (keys.peer, plan.start(role), Vec::new(), Vec::new());
+        let mut end = End { role, group, card, wire, board, peer, start, quiet, freed, announced, notes: 0 };
         for slot in 1..=s {
-            let remote = Remote { size: plan.element, index: slot, rtokens: keys.peer };
-            let opening = Opening { own: token(role, slot), peer: token(other, slot), link: link(slot), remote };
-            // the file is new: nobody has written into it
-            group.open(Quiet::no_write_can_arrive(slot), &opening).map_err(|no| Trouble::Refused("open", no.refusal))?;
+            // the memory is new: nobody has written into it
+            end.open(Quiet::no_write_can_arrive(slot), 0)?;
         }
-        let card = Card { map, start: plan.start(other), len: plan.memory(), of: other };
-        Ok(End { role, group, card, wire: Wire::new(stream)?, board: Board::of(map) })
+        Ok(end)
+    }
+
+    /// Opens a slot for a job, with the right to use its element.
+    pub fn open(&mut self, quiet: Quiet, job: u32) -> Result<(), Trouble> {
+        let slot = quiet.slot();
+        let remote = Remote { size: self.group.element_size(), index: slot, rtokens: self.peer };
+        let opening = Opening { own: token(self.role, job, slot), peer: token(self.role.other(), job, slot), link: link(slot), remote };
+        self.group.open(quiet, &opening).map_err(|no| Trouble::Refused("open", no.refusal))?;
+        self.announced[slot as usize - 1] = 0;
+        Ok(())
+    }
+
+    /// **Not the proved open**: a stand-in for one that does not zero. It opens the slot, then lays back what lay in the element.
+    pub fn open_without_zeroing(&mut self, quiet: Quiet, job: u32) -> Result<(), Trouble> {
+        let (slot, n) = (quiet.slot() as usize, self.card.element);
+        let data = self.card.map.part(self.start + (slot - 1) * n + 4, n - 4);
+        let mut old = vec![0; n - 4];
+        // SAFETY: the element's data, within our memory, while no call runs and the peer writes nothing.
+        unsafe { ptr::copy_nonoverlapping(data, old.as_mut_ptr(), n - 4) };
+        self.open(quiet, job)?;
+        // SAFETY: as above.
+        unsafe { ptr::copy_nonoverlapping(old.as_ptr(), data, n - 4) };
+        Ok(())
+    }
+
+    /// What lies in our elements.
+    pub fn elements(&self, out: &mut [u8]) {
+        let memory = self.card.map.part(self.start, out.len());
+        // SAFETY: our memory, while no call runs and the peer writes nothing.
+        unsafe { ptr::copy_nonoverlapping(memory, out.as_mut_ptr(), out.len()) };
+    }
+
+    /// From now on the card loses every second piece of an element's data.
+    pub fn lose(&mut self, piece: usize) {
+        self.card.loses = piece;
+    }
+
+    /// Tells the other process that we are through: every write before this was performed, and every message is ahead of it.
+    pub fn note(&mut self) {
+        self.wire.post(NOTE, &[0; Message::SIZE]);
     }
 
     /// A message goes out on the link that its connection had when it was made.
@@ -162,11 +230,22 @@ impl<'a> End<'a> {
 
     /// Hears a message that a link has carried; the slot that it is for, or none for a link message.
     pub fn hear(&mut self, link: u8, bytes: &[u8; 44]) -> Result<Option<u32>, Trouble> {
+        if link == NOTE {
+            self.notes += 1;
+            return Ok(None);
+        }
         let Ok(message) = Message::try_from(&bytes[..]) else {
             self.hear_link(link, bytes)?;
             return Ok(None);
         };
-        let slot = message.token() - token(self.role, 0);
+        let slot = message.token() & 0xFFF;
+        if !(1..=self.group.elements()).contains(&slot) {
+            return Err(Trouble::Other(format!("a message for token {:#x}", message.token())));
+        }
+        // its connection was freed meanwhile: nobody's
+        if self.freed.iter().any(|freed| freed.slot() == slot) {
+            return Ok(None);
+        }
         if message.flags().failover {
             self.board.add(Mark::FailoversHeard, 1);
             // both have said C meanwhile: nothing is left to move
@@ -179,6 +258,8 @@ impl<'a> End<'a> {
             return Err(Trouble::Other(format!("slot {slot}: a message is missing")));
         }
         self.post(link, heard.message.as_ref());
+        self.announced[slot as usize - 1] += heard.moved;
+        self.quiet.extend(heard.quiet);
         Ok(Some(slot))
     }
 
@@ -234,6 +315,20 @@ impl<'a> End<'a> {
     /// Whether every slot is closed.
     pub fn over(&self) -> bool {
         self.group.table().iter().all(|record| !record.id.opened)
+    }
+
+    /// Aborts a connection; the other end closes it when it hears of it.
+    pub fn abort_one(&mut self, slot: u32) -> Result<(), Trouble> {
+        let link = self.record(slot).id.link;
+        let message = self.group.abort(slot).map_err(|no| Trouble::Refused("abort", no))?;
+        self.post(link, Some(&message));
+        Ok(())
+    }
+
+    /// Closes an aborted connection without waiting for the peer's A.
+    pub fn free(&mut self, slot: u32) -> Result<(), Trouble> {
+        self.freed.push(self.group.free(slot).map_err(|no| Trouble::Refused("free", no))?);
+        Ok(())
     }
 
     /// The peer has gone: aborts and frees what is open.

@@ -11,12 +11,17 @@ pub fn run(plan: &Plan) -> Result<Ended, Trouble> {
     // SAFETY: this process alone writes the output, and holds no other slice of it.
     let file = unsafe { output.own_bytes() };
     let mut end = End::new(Role::Host, plan, &map)?;
+    end.board.begin(Role::Host);
+    receive(&mut end, plan, file)
+}
+
+/// Reads a whole file into its place, and closes.
+pub fn receive(end: &mut End, plan: &Plan, file: &mut [u8]) -> Result<Ended, Trouble> {
     let slots = 1..=plan.connections;
     let mut next: Vec<usize> = slots.clone().map(|slot| plan.part(slot, file.len()).start).collect();
     let mut news = vec![false; plan.connections as usize];
     let mut missing = file.len();
     let mut fails = plan.failover;
-    end.board.begin(Role::Host);
     let start = Instant::now();
 
     while !(end.over() && end.wire.idle()) {

@@ -4,15 +4,18 @@
 mod args;
 mod bare;
 mod composer;
+mod draft;
 mod end;
 mod files;
 mod host;
 mod links;
+mod picture;
 mod plan;
 mod system;
 mod wire;
 
 use args::{Asked, Options, USAGE};
+use draft::Drafted;
 use end::{Ended, Tried, Trouble};
 use files::{Named, Nameless};
 use plan::{Board, Mark, Plan, Role, FAILING};
@@ -21,27 +24,34 @@ use std::io::{self, IsTerminal};
 use std::os::fd::OwnedFd;
 use std::os::unix::net::UnixStream;
 use std::os::unix::process::ExitStatusExt;
+use std::path::PathBuf;
 use std::process::{exit, Child, Command, ExitStatus, Stdio};
 use std::sync::atomic::Ordering;
 use std::thread;
 use std::time::{Duration, Instant};
 
-/// How the file is moved.
+/// What is moved, and how.
 #[derive(Clone, Copy, Debug, PartialEq, Eq)]
 enum Way {
     Core,
     Socket,
     Copy,
+    /// A draft and a shorter job, with the proved open between them.
+    Draft,
+    /// The same with an open that does not zero.
+    Control,
 }
 
 impl Way {
-    const ALL: [Way; 3] = [Way::Core, Way::Socket, Way::Copy];
+    const ALL: [Way; 5] = [Way::Core, Way::Socket, Way::Copy, Way::Draft, Way::Control];
 
     fn word(self) -> &'static str {
         match self {
             Way::Core => "core",
             Way::Socket => "socket",
             Way::Copy => "copy",
+            Way::Draft => "draft",
+            Way::Control => "control",
         }
     }
 }
@@ -62,6 +72,9 @@ fn process(words: &[String]) -> i32 {
         (Way::Core, Role::Host) => host::run(&plan),
         (Way::Socket, _) => bare::socket(role, &plan),
         (Way::Copy, _) => bare::copy(role, &plan),
+        (Way::Draft | Way::Control, Role::Composer) => draft::composer(&plan),
+        (Way::Draft, Role::Host) => draft::host(&plan, true),
+        (Way::Control, Role::Host) => draft::host(&plan, false),
     };
     match ended {
         Ok(Ended::InOrder) => 0,
@@ -130,8 +143,8 @@ fn fate(role: Role, status: Option<ExitStatus>) -> String {
 /// How both came to their end, the one that was killed first, and after how many bytes.
 fn fates(way: Way, plan: &Plan, board: &Board, len: usize, [composer, host]: [Option<ExitStatus>; 2]) -> String {
     let [sent, read] = match way {
-        Way::Core => board.moved(plan.connections),
-        _ => [board.get(Mark::Head), board.get(Mark::Tail)],
+        Way::Socket | Way::Copy => [board.get(Mark::Head), board.get(Mark::Tail)],
+        _ => board.moved(plan.connections),
     };
     let (mut first, mut second) = (fate(Role::Composer, composer), fate(Role::Host, host));
     if host.is_some_and(|status| status.signal().is_some()) {
@@ -261,7 +274,7 @@ fn work(o: &Options) -> Result<(), Trouble> {
         // an aborted job is no plate: it takes no name
         return killed(&plan, len, victim, o.at);
     }
-    let ways = if o.alone { &Way::ALL[..1] } else { &Way::ALL };
+    let ways = &Way::ALL[..if o.alone { 1 } else { 3 }];
     let mut best = [f64::MAX; 3];
     for round in 0..o.rounds {
         // the core is last, so that what it left is the output
@@ -293,6 +306,29 @@ fn work(o: &Options) -> Result<(), Trouble> {
     named.map_or(Ok(()), Named::place)
 }
 
+/// A draft, its elements opened again, and a shorter job: once with the proved open, once with one that does not zero.
+fn drafts(o: &Options) -> Result<(), Trouble> {
+    let (shared, output) = (Nameless::new()?, Nameless::new()?);
+    let (input, failover) = (PathBuf::new(), None);
+    let (shared, output) = (&shared.path, &output.path);
+    let plan =
+        Plan { shared: shared.clone(), input, output: output.clone(), connections: o.connections, element: o.element, pace: 0, failover };
+    let mut both = Vec::new();
+    for way in [Way::Draft, Way::Control] {
+        let run = run(way, &plan, draft::room(&plan), None)?;
+        check(run.composer.success() && run.host.success(), &format!("{}: {}", way.word(), run.fates))?;
+        let output = plan.map_output()?;
+        // SAFETY: both processes have ended.
+        both.push(Drafted::of(&plan, unsafe { output.bytes() }));
+    }
+    print!("{}", draft::summary(&plan, &both[0], &both[1]));
+    if let Some(path) = &o.picture {
+        fs::write(path, picture::draw(&plan, &both[0], &both[1])).tried("write", path.display())?;
+    }
+    check(both[0].as_it_should_be(true), "a byte of the draft is in the plate, or the plate is not what was written")?;
+    check(both[1].as_it_should_be(false), "the control shows no draft: it shows nothing")
+}
+
 fn main() {
     let words: Vec<String> = std::env::args().skip(1).collect();
     if words.first().is_some_and(|word| word == "as") && words.len() > 3 {
@@ -310,7 +346,7 @@ fn main() {
         }
     };
     system::keep_signals();
-    if let Err(trouble) = work(&options) {
+    if let Err(trouble) = if options.draft { drafts(&options) } else { work(&options) } {
         eprintln!("plate: {trouble}");
         exit(1);
     }
