@@ -62,7 +62,7 @@ fn hear_until(end: &mut End, done: impl Fn(&End) -> bool) -> Result<(), Trouble>
             return Err(Trouble::Other("the other process has gone".to_string()));
         }
         if !news {
-            end.wire.wait();
+            end.wire.wait()?;
         }
     }
     end.wire.flush()

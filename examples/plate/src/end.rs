@@ -145,7 +145,7 @@ impl<'a> End<'a> {
         let mut keys = Keys { own: [1, 2, 3, 4].map(|link| registered(role, link)), peer: [registered(other, 1); 4] };
         links::bring_up(&mut group, &mut keys, &stream)?;
         let card = Card { map, start: plan.start(other), len: plan.memory(), of: other, loses: 0, element: plan.element as usize };
-        let (wire, board, announced) = (Wire::new(stream)?, Board::of(map), vec![0; s as usize]);
+        let (wire, board, announced) = (Wire::new(stream, s == 1)?, Board::of(map), vec![0; s as usize]);
         let (peer, start, quiet, freed) = (keys.peer, plan.start(role), Vec::new(), Vec::new());
         let mut end = End { role, group, card, wire, board, peer, start, quiet, freed, announced, notes: 0 };
         for slot in 1..=s {

@@ -61,7 +61,7 @@ pub fn receive(end: &mut End, plan: &Plan, file: &mut [u8]) -> Result<Ended, Tro
             return Ok(Ended::Aborted);
         }
         if !end.over() {
-            end.wire.wait();
+            end.wire.wait()?;
         }
     }
     Ok(Ended::InOrder)

@@ -11,6 +11,8 @@ const LEFT: usize = 120;
 const WIDE: usize = CELLS * CELL;
 const GAP: usize = 56;
 
+const STYLE: &str = r#"font-family="DejaVu Sans, Verdana, sans-serif" font-size="12" role="img" aria-labelledby="title description""#;
+
 fn colour(of: Of) -> &'static str {
     match of {
         Of::Nobody => "#ffffff",
@@ -50,8 +52,8 @@ pub fn draw(plan: &Plan, proved: &Drafted, control: &Drafted) -> String {
     let title = "A draft was aborted, its elements were opened again, and a shorter job followed in them";
     let found = |run: &Drafted| run.plate.iter().filter(|&&byte| draft::of(byte) == Of::Draft).count();
     let description = format!(
-        "{k} connections, elements of {} bytes. Left, with the proved open: {} bytes of the draft in the plate. Right, with an open that does \
-         not zero: {}. The card lost every second piece of the shorter job on purpose.",
+        "{k} connections, elements of {} bytes. Left, with the proved open: {} bytes of the draft in the plate. Right, with an open that \
+         does not zero: {}. The card lost every second piece of the shorter job on purpose.",
         plan.element,
         found(proved),
         found(control)
@@ -59,7 +61,7 @@ pub fn draw(plan: &Plan, proved: &Drafted, control: &Drafted) -> String {
     let mut svg = String::new();
     let _ = writeln!(
         svg,
-        r#"<svg xmlns="http://www.w3.org/2000/svg" width="{width}" height="{height}" viewBox="0 0 {width} {height}" font-family="DejaVu Sans, Verdana, sans-serif" font-size="12" role="img" aria-labelledby="title description">"#
+        r#"<svg xmlns="http://www.w3.org/2000/svg" width="{width}" height="{height}" viewBox="0 0 {width} {height}" {STYLE}>"#
     );
     let _ = writeln!(svg, "<title id=\"title\">{title}</title>\n<desc id=\"description\">{description}</desc>");
     let _ = writeln!(svg, r##"<rect width="{width}" height="{height}" fill="#f7f5f0"/>"##);

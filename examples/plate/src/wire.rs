@@ -2,13 +2,21 @@
 
 use crate::end::{Tried, Trouble};
 use fordlinnet::Message;
+use std::hint;
 use std::io::{self, ErrorKind, Read, Write};
 use std::os::fd::{AsFd, AsRawFd};
 use std::os::unix::net::UnixStream;
 use std::sync::atomic::{fence, Ordering};
+use std::time::{Duration, Instant};
 
 /// The link's number, and a message.
 const FRAME: usize = 1 + Message::SIZE;
+
+/// How long a wait looks at the socket at first and at most before it sleeps; and where that was of no use, in how many waits it is tried
+/// again.
+const FIRST: Duration = Duration::from_micros(20);
+const LONGEST: Duration = Duration::from_micros(80);
+const AGAIN: u32 = 16;
 
 /// What errors call it.
 pub const SOCKET: &str = "the socket between the processes";
@@ -23,6 +31,10 @@ pub struct Wire {
     written: usize,
     /// The peer has gone: nothing more will come, nothing can be sent.
     pub lost: bool,
+    /// Whether waits look before they sleep, how long the next one does, and how many there were.
+    looks: bool,
+    look: Duration,
+    waits: u32,
 }
 
 /// The socket that this process was given as its standard input.
@@ -32,9 +44,19 @@ pub fn given() -> Result<UnixStream, Trouble> {
 }
 
 impl Wire {
-    pub fn new(stream: UnixStream) -> Result<Wire, Trouble> {
+    pub fn new(stream: UnixStream, looks: bool) -> Result<Wire, Trouble> {
         stream.set_nonblocking(true).tried("set up", SOCKET)?;
-        Ok(Wire { stream, coming: Vec::new(), taken: 0, going: Vec::new(), written: 0, lost: false })
+        Ok(Wire {
+            stream,
+            coming: Vec::new(),
+            taken: 0,
+            going: Vec::new(),
+            written: 0,
+            lost: false,
+            looks,
+            look: if looks { FIRST } else { Duration::ZERO },
+            waits: 0,
+        })
     }
 
     pub fn post(&mut self, link: u8, message: &[u8; Message::SIZE]) {
@@ -100,7 +122,30 @@ impl Wire {
         Some((rest[0], rest[1..FRAME].try_into().ok()?))
     }
 
-    pub fn wait(&self) {
+    /// Waits for the peer. To be woken takes longer than to move an element's bytes, so that with one connection the socket is first looked
+    /// at again and again: twice as long as the last time where that was of use, half as long where it was not, for the peer may wait for
+    /// this very processor.
+    pub fn wait(&mut self) -> Result<(), Trouble> {
+        self.waits = self.waits.wrapping_add(1);
+        let look = if self.looks && self.look.is_zero() && self.waits % AGAIN == 0 { FIRST } else { self.look };
+        let (since, before, mut tries) = (Instant::now(), self.coming.len(), 0);
+        while self.going.is_empty() && since.elapsed() < look {
+            self.fill()?;
+            if self.coming.len() > before || self.lost {
+                // what is there at once says nothing about the peer's processor
+                self.look = if tries == 0 { self.look } else { (2 * look).min(LONGEST) };
+                return Ok(());
+            }
+            tries += 1;
+            hint::spin_loop();
+        }
+        self.look = if look < FIRST / 2 { Duration::ZERO } else { look / 2 };
         crate::system::wait(self.stream.as_raw_fd(), !self.going.is_empty());
+        Ok(())
+    }
+
+    /// Whether the peer answers while we look: it has a processor of its own.
+    pub fn quick(&self) -> bool {
+        !self.look.is_zero()
     }
 }
