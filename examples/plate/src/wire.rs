@@ -16,7 +16,7 @@ const FRAME: usize = 1 + Message::SIZE;
 /// again.
 const FIRST: Duration = Duration::from_micros(20);
 const LONGEST: Duration = Duration::from_micros(80);
-const AGAIN: u32 = 16;
+const AGAIN: u32 = 64;
 
 /// What errors call it.
 pub const SOCKET: &str = "the socket between the processes";
@@ -139,7 +139,7 @@ impl Wire {
             tries += 1;
             hint::spin_loop();
         }
-        self.look = if look < FIRST / 2 { Duration::ZERO } else { look / 2 };
+        self.look = if look <= FIRST { Duration::ZERO } else { look / 2 };
         crate::system::wait(self.stream.as_raw_fd(), !self.going.is_empty());
         Ok(())
     }
