@@ -288,6 +288,10 @@ proposed length o rest =
     octets 5 0xE2D4C3D9_01
     ++ (octets 2 length ++ (0x10 ∷ (octets 30 0xA1A2A3A4A5A6A7A8_B1B2B3B4B5B6B7B8B9BABBBCBDBEBFB0_C1C2C3C4C5C6 ++ (octets 2 o ++ rest))))
 
+-- n bytes between eye catchers, of which bytes 5 and 6 say n: zeros but for the type
+abbrev plainly : ℕ → ℕ → List ℕ
+plainly type n = octets 4 0xE2D4C3D9 ++ (type ∷ (octets 2 n ++ (0x10 ∷ (zeros (n - 12) ++ octets 4 0xE2D4C3D9))))
+
 unfoldable pub sorts : List Sort
 sorts =
     sort proposal Proposal
@@ -314,6 +318,13 @@ sorts =
     ∷ sort (octets 28 0xE2D4C3D9_01_001C_10_A1A2A3A4A5A6A7A8_00000001_00000000_E2D4C3D9) Nothing
     ∷ sort (endpoint 1 0x10 0x20) Nothing
     ∷ sort (endpoint 4 0x10 0x20) Nothing
+    -- an Accept and a Confirm are 68 bytes
+    ∷ sort (plainly 2 68) Accept
+    ∷ sort (plainly 3 68) Confirm
+    ∷ sort (plainly 2 67) Nothing
+    ∷ sort (plainly 3 67) Nothing
+    ∷ sort (plainly 2 69) Nothing
+    ∷ sort (plainly 3 69) Nothing
     -- a Proposal is 52 + o + 17 p bytes, p at most 8
     ∷ sort (proposed 52 0 (octets 12 0xFFFF0000_10_0000_00_E2D4C3D9)) Proposal
     ∷ sort (proposed 52 0 (octets 12 0xFFFF0000_10_0000_01_E2D4C3D9)) Nothing
