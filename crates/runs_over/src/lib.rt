@@ -1,0 +1,1 @@
+// Definitions and theorems only: over which links an exchange is run, in the page's words.
