@@ -87,6 +87,24 @@ class Tree:
         folder = os.path.join(self.work, 'crates', name, 'proofs')
         return not any(cited.search(open(os.path.join(place, f), encoding='utf-8').read()) for place, _, files in os.walk(folder) for f in files)
 
+    def only(self, name, place, theorem):
+        """Leaves of the proofs of a crate's copy the module with a theorem, and those that this one cites; all where none has it."""
+        folder = os.path.join(place, 'crates', name, 'proofs')
+        text = {f[:-5]: open(os.path.join(folder, f), encoding='utf-8').read() for f in os.listdir(folder) if f.endswith('.antt')}
+        text.pop('Lib', None)
+        todo = [m for m in text if re.search(rf'^(pub )?{re.escape(theorem)} :', text[m], re.M)]
+        kept = []
+        while todo:
+            module = todo.pop()
+            if module not in kept:
+                kept.append(module)
+                todo += re.findall(rf'^use Rattle\.{name}\.proofs\.(\w+)', text[module], re.M)
+        if kept:
+            for module in set(text) - set(kept):
+                os.remove(os.path.join(folder, module + '.antt'))
+            with open(os.path.join(folder, 'Lib.antt'), 'w', encoding='utf-8') as lib:
+                lib.write(''.join(f'pub mod {module}\n' for module in kept))
+
     def below(self, wanted):
         seen = []
 

@@ -20,7 +20,8 @@ use Rattle.outcome.specs.declared.Reply.the-variants.{Heard}
 use Rattle.closing.specs.declared.State.the-variants.{PeerAbortWait}
 use Rattle.outcome.specs.declared.Outcome.{Outcome}
 use Rattle.connection.specs.Connection.{zeroRecord, openedRecord, refusalOf, marksTo}
-use Rattle.outcome.specs.Outcome.{refusedOf, outcomeOf, urgentOutcome, toldOf, toldIn, closedIf, sequenceAfter}
+use Rattle.outcome.specs.Outcome.{refusedOf, outcomeOf, toldOf, toldIn, closedIf, sequenceAfter}
+use Rattle.outcome.proofs.Goes.{By, pick, by-test, by-refused, by-outcome, by-urgent, by-shut, by-left}
 use Rattle.transmit.specs.Transmit.{sendOf, sentOf, urgentOf, urgentSendOf}
 use Rattle.produced.specs.Produced.{producedOf, urgedOf}
 use Rattle.receive.specs.Receive.{placeOf, readOf, takeOf, tornOf, consumedOf, consumedIn, clearedIn}
@@ -74,8 +75,19 @@ abbrev Last : ℕ → Bool → Record → Type 0
 Last s a d = (d ≡ zeroRecord) ⊎ ((d .inbound .last ≡ s) × (d .marks .abort ≡ a))
 
 -- a call on a slot, by its answer
-record Leaves (q : Request) (c : Record) (o : Outcome) : Type 0 where
-  last : Last (c .inbound .last) (sendsA q (saysOf (o .reply)) || c .marks .abort) (o .after)
+record Same (q : Request) (c : Record) (r : Reply) (d : Record) : Type 0 where
+  last : d .inbound .last ≡ c .inbound .last
+  mark : d .marks .abort ≡ sendsA q (saysOf r) || c .marks .abort
+
+abbrev Leaves : Request → Record → Outcome → Type 0
+Leaves q c = By (Same q c)
+
+last-of : (q : Request) (c : Record) (o : Outcome) → Leaves q c o
+    → Last (c .inbound .last) (sendsA q (saysOf (o .reply)) || c .marks .abort) (o .after)
+unfolding toldOf toldIn
+last-of q c =
+    by-left (Same q c) (λ r t d. (d .inbound .last ≡ c .inbound .last) × (d .marks .abort ≡ sendsA q (saysOf r) || c .marks .abort))
+    (λ r d s. (s .last, s .mark)) (λ r d s. (s .last, s .mark))
 
 -- a refusal sends no A
 no-refusal : (q : Request) (k : ℕ) → sendsA q (refusal k) ≡ false
@@ -88,74 +100,52 @@ no-refusal shutdown k = refl
 no-refusal close k = refl
 no-refusal abort k = refl
 
-module _ (q : Request) (c : Record) where
-  by-test : (t : Bool) (o p : Outcome) → Leaves q c o → Leaves q c p → Leaves q c (cond t o p)
-  by-test true o p h k = h
-  by-test false o p h k = k
-
-  refused : (k : ℕ) → Leaves q c (refusedOf k c)
-  unfolding refusedOf
-  refused k = record { last = inr (refl, ap (λ z. z || c .marks .abort) (sym (no-refusal q k))) }
-
-  outcome : (r : Reply) (t : Bool) (d : Record) → d .inbound .last ≡ c .inbound .last
-      → d .marks .abort ≡ sendsA q (saysOf r) || c .marks .abort → Leaves q c (outcomeOf r t d)
-  unfolding outcomeOf toldOf toldIn
-  outcome r true d e f = record { last = inr (e, f) }
-  outcome r false d e f = record { last = inr (e, f) }
-
-  short : (r : Reply) (m : Message) (d : Record) → d .inbound .last ≡ c .inbound .last → d .marks .abort ≡ sendsA q (saysOf r) || c .marks .abort
-      → Leaves q c (urgentOutcome r m d)
-  unfolding urgentOutcome toldOf toldIn
-  short r m d e f = record { last = inr (e, f) }
-
-  shut : (t : Bool) (o : Outcome) → Leaves q c o → Leaves q c (closedIf t o)
-  unfolding closedIf
-  shut true o h = record { last = inl refl }
-  shut false o h = h
+refused : (q : Request) (c : Record) (k : ℕ) → Leaves q c (refusedOf k c)
+refused q c k = by-refused (Same q c) k c (record { last = refl; mark = ap (λ z. z || c .marks .abort) (sym (no-refusal q k)) })
 
 module _ (n : ℕ) (a : Bool) (c : Record) where
   send-leaves : (b : List ℕ) → Leaves (send b) c (sendOf n a c (length b))
   unfolding sendOf sentOf producedOf
-  send-leaves b = search (by-test, refused, outcome) depth 9
+  send-leaves b = search (by-test, refused, by-outcome) depth 9
 
   urgent-leaves : (b : List ℕ) → Leaves (urgent b) c (urgentSendOf n a c (length b))
   unfolding urgentSendOf urgentOf urgedOf producedOf
-  urgent-leaves b = search (by-test, refused, outcome, short) depth 9
+  urgent-leaves b = search (by-test, refused, by-outcome, by-urgent) depth 9
 
   place-leaves : (at : ℕ) (b : List ℕ) → Leaves (place at b) c (placeOf n a c at (length b))
   unfolding placeOf
-  place-leaves at b = search (by-test, refused, outcome) depth 9
+  place-leaves at b = search (by-test, refused, by-outcome) depth 9
 
   read-leaves : (out : List ℕ) (t : Bool) → Leaves (read out) c (readOf n a c t (length out))
   unfolding readOf takeOf tornOf consumedOf consumedIn clearedIn marksTo abortSent
-  read-leaves out t = search (by-test, refused, outcome) depth 9
+  read-leaves out t = search (by-test, refused, by-outcome) depth 9
 
   shutdown-leaves : Leaves shutdown c (shutdownOf n a c)
   unfolding shutdownOf marksTo doneSent
-  shutdown-leaves = search (by-test, refused, outcome) depth 9
+  shutdown-leaves = search (by-test, refused, by-outcome) depth 9
 
   close-leaves : Leaves close c (closeOf n a c)
   unfolding closeOf resetOf closingOf marksTo abortSent closedSent
-  close-leaves = search (by-test, refused, outcome, shut) depth 9
+  close-leaves = search (by-test, refused, by-outcome, by-shut) depth 9
 
   abort-leaves : Leaves abort c (abortOf n a c)
   unfolding abortOf marksTo abortSent
-  abort-leaves = search (by-test, refused, outcome) depth 9
+  abort-leaves = search (by-test, refused, by-outcome) depth 9
 
   request-last : (e : List ℕ) (q : Request)
       → let t = requestTurn n a c e q in Last (c .inbound .last) (sendsA q (t .answer .says) || c .marks .abort) (t .after)
   unfolding requestTurn turnOf
-  request-last e (send b) = send-leaves b .last
-  request-last e (urgent b) = urgent-leaves b .last
+  request-last e (send b) = last-of _ c _ (send-leaves b)
+  request-last e (urgent b) = last-of _ c _ (urgent-leaves b)
   request-last e (gather h b) =
       let o = sendOf n a c (length (h ++ b)) in
       carried (piecesOf c h b) (λ (s : Says). Last (c .inbound .last) (brokenB s || c .marks .abort) (o .after)) (λ n p q l. l)
-      (saysOf (o .reply)) (send-leaves (h ++ b) .last)
-  request-last e (place at b) = place-leaves at b .last
-  request-last e (read out) = read-leaves out _ .last
-  request-last e shutdown = shutdown-leaves .last
-  request-last e close = close-leaves .last
-  request-last e abort = abort-leaves .last
+      (saysOf (o .reply)) (last-of (send (h ++ b)) c o (send-leaves (h ++ b)))
+  request-last e (place at b) = last-of _ c _ (place-leaves at b)
+  request-last e (read out) = last-of _ c _ (read-leaves out _)
+  request-last e shutdown = last-of _ c _ (shutdown-leaves)
+  request-last e close = last-of _ c _ (close-leaves)
+  request-last e abort = last-of _ c _ (abort-leaves)
 
 -- HEAR. A message that counts has the next number, which is then the last one heard; any other leaves it; the abort mark stays, but where
 -- one with F differs
@@ -179,10 +169,6 @@ record Hears (c : Record) (m : Message) (o : Outcome) : Type 0 where
   numbered : Numbered c m (saysOf (o .reply)) (o .after)
 
 module _ (n : ℕ) (a : Bool) (c : Record) (m : Message) where
-  either : (t : Bool) (o p : Outcome) → (t ≡ true → Hears c m o) → (t ≡ false → Hears c m p) → Hears c m (cond t o p)
-  either true o p h k = h refl
-  either false o p h k = k refl
-
   not-taken : (k : ℕ) → Hears c m (refusedOf k c)
   unfolding refusedOf
   not-taken k = record { numbered = passes refl (inr (refl, ap (λ z. z || c .marks .abort) (sym (no-break m k)))) }
@@ -244,17 +230,17 @@ module _ (n : ℕ) (a : Bool) (c : Record) (m : Message) where
   hear-hears : Hears c m (hearOf n a c m)
   unfolding hearOf followedOf validatedOf ruledOf
   hear-hears =
-      either (eqb (refusalOf n a c false) 0) _ _
+      pick (Hears c m) (eqb (refusalOf n a c false) 0) _ _
       (λ e.
-      either (m .flags .abort) _ _ with-A
+      pick (Hears c m) (m .flags .abort) _ _ with-A
       (λ h.
-      either (c .marks .abort) _ _ (after-A h)
+      pick (Hears c m) (c .marks .abort) _ _ (after-A h)
       (λ s.
-      either (m .flags .failover) _ _
-      (λ v. either (eqb (m .sequence) (c .inbound .last)) _ _ (λ z. agrees h s v) (λ z. differs h v))
+      pick (Hears c m) (m .flags .failover) _ _
+      (λ v. pick (Hears c m) (eqb (m .sequence) (c .inbound .last)) _ _ (λ z. agrees h s v) (λ z. differs h v))
       (λ v.
-      either (nextB c m) _ _
-      (λ z. either (producerB n c (m .producer) && consumerB c (m .consumer)) _ _ (λ r. accepts h s v z) (λ r. not-taken 8))
+      pick (Hears c m) (nextB c m) _ _
+      (λ z. pick (Hears c m) (producerB n c (m .producer) && consumerB c (m .consumer)) _ _ (λ r. accepts h s v z) (λ r. not-taken 8))
       (λ z. not-taken 16)))))
       (λ e. not-taken _)
 

@@ -3,7 +3,7 @@
 -- proves it. Assumes nothing.
 use Prim.Native.Nat.{ℕ, zero, suc, _+_, _%_}
 use mathlib.Core.Path.{_≡_}
-use mathlib.Core.Bool.{Bool, true, false, _&&_, _||_, not, cond}
+use mathlib.Core.Bool.{Bool, false, _&&_, _||_, not, cond}
 use mathlib.Core.List.{List, [], _∷_, _++_}
 use lib.Dec.{eqb}
 use lib.ListN.{length}
@@ -12,6 +12,7 @@ use Rattle.cdc.specs.declared.Decoded.{Decoded}
 use Rattle.cdc.specs.declared.Decoded.the-variants.{Good, Malformed}
 use Rattle.cdc.specs.Cdc.{decodeOf}
 use Rattle.refusals.specs.Refusals.{aborting}
+use Rattle.rules.specs.Says.{saidIn}
 use Rattle.rules.specs.Rules.{Group, Request, send, gather, urgent, place, read, shutdown, close, abort, openSlot, freeSlot, linkChange, linkMessage, linkSend, sample, Call, on, hear, manage, Says, refusal, accepted, sent, gathered, wasRead, torn, reset, heard, sampled, linkChanged, linkHeard, linkSent, answer, next, recordOf, holderOf, Fresh}
 use Rattle.order.specs.Statement.{leaves}
 use Rattle.safety.specs.Statement.{OpenAt, acceptedB}
@@ -27,33 +28,11 @@ abbrev pub nothingYet : Taken
 nothingYet = record { numbers = []; aborted = false }
 
 abbrev pub refusedB : Says → Bool
-refusedB (refusal k) = true
-refusedB accepted = false
-refusedB (sent n p) = false
-refusedB (gathered n p) = false
-refusedB (wasRead n) = false
-refusedB torn = false
-refusedB (heard moved state) = false
-refusedB reset = false
-refusedB (sampled q) = false
-refusedB (linkChanged n) = false
-refusedB (linkHeard f t u n) = false
-refusedB (linkSent u n) = false
+refusedB says = saidIn says .refuses
 
 -- we send A where abort is accepted, and where a call answers "torn" or "reset" (a hear of A sends one too, and closes the slot)
 abbrev pub brokenB : Says → Bool
-brokenB (refusal k) = false
-brokenB accepted = false
-brokenB (sent n p) = false
-brokenB (gathered n p) = false
-brokenB (wasRead n) = false
-brokenB torn = true
-brokenB (heard moved state) = false
-brokenB reset = true
-brokenB (sampled q) = false
-brokenB (linkChanged n) = false
-brokenB (linkHeard f t u n) = false
-brokenB (linkSent u n) = false
+brokenB says = saidIn says .resets || saidIn says .tears
 
 abbrev pub sendsA : Request → Says → Bool
 sendsA (send b) says = brokenB says

@@ -28,7 +28,7 @@ use Rattle.hear.proofs.Laws.{hear-accepts, shutBy, repliedTo, accepted-is, hear
 use Rattle.only_sent.specs.Books.{Names}
 use Rattle.only_sent.specs.Plain.{Mark, Outward, Inward, OutwardIs, InwardIs, urgentAt, plainHeardOut, plainHeardIn}
 use Rattle.only_sent_way.proofs.Way.{Bears, step, endsB}
-use Rattle.only_sent_ends.proofs.Goes.{Held, Kept, Goes, kept-self, outcome-goes, shut-goes, or-left, or-right}
+use Rattle.only_sent_ends.proofs.Follows.{Held, Kept, Follows, kept-self, outcome-follows, shut-follows, or-left, or-right}
 use Rattle.only_sent_ends.proofs.Sends.{passed-at, stands-at}
 
 same-self : (c : Cursor) → sameB c c ≡ true
@@ -55,7 +55,7 @@ pub record Still (d d' : ℕ) (c : Record) (m : Message) (o1 : Outward) (i1 : In
 -- Q and C stay
 pub record HearStep (d d' Q C : ℕ) (c : Record) (m : Message) (o1 : Outward) (i1 : Inward) (x : Outcome) : Type 0 where
   pub c1 : Record
-  pub goes : Goes c c1 x
+  pub follows : Follows c c1 x
   pub Q-is : c1 .outbound .producer ≡ cursorAt d' Q
   pub C-is : c1 .inbound .consumer ≡ cursorAt d C
   pub urgent-is : c1 .marks .abort ≡ false → c1 .outbound .urgent .standing ≡ ltb (o1 .R) (o1 .U)
@@ -107,7 +107,7 @@ module _ {d d' : ℕ} {c : Record} {o : Outward} {i : Inward} (held : Held d d' 
           let c1 = marksTo c (abortSent (c .marks)) in
           record {
             c1 = c1;
-            goes = shut-goes true (outcome-goes kept r t (λ e. (quiet (c .marks .abort) e, refl)));
+            follows = shut-follows true (outcome-follows kept r t (λ e. (quiet (c .marks .abort) e, refl)));
             Q-is = out .Q-is;
             C-is = inn .C-is;
             urgent-is = λ e. absurd (false≢true (sym e));
@@ -123,7 +123,7 @@ module _ {d d' : ℕ} {c : Record} {o : Outward} {i : Inward} (held : Held d d' 
   stays m st =
       record {
         c1 = c;
-        goes = outcome-goes (kept-self c) (Heard 0 st) false (λ e. (refl, refl));
+        follows = outcome-follows (kept-self c) (Heard 0 st) false (λ e. (refl, refl));
         Q-is = out .Q-is;
         C-is = inn .C-is;
         urgent-is = λ z. stands-at out;
@@ -268,10 +268,10 @@ module _ {d d' : ℕ} {c : Record} {o : Outward} {i : Inward} (held : Held d d' 
         go false false true w e = inl refl
         go false false false w e = inr (or-left (m .flags .abort) e)
 
-    goes-on : Goes c c1 (heardOutcome (d + 4) c m)
+    goes-on : Follows c c1 (heardOutcome (d + 4) c m)
     unfolding heardRecord heardIn heardOut marksTo marksHeard
     goes-on =
-        outcome-goes (search)
+        outcome-follows (search)
         (repliedTo (d + 4) c m)
         (answersB (d + 4) (c .inbound) m) (λ e. (refl, refl))
 
@@ -282,7 +282,7 @@ module _ {d d' : ℕ} {c : Record} {o : Outward} {i : Inward} (held : Held d d' 
         let u = answersB (d + 4) (c .inbound) m in
         record {
           c1 = c1;
-          goes = shut-goes t goes-on;
+          follows = shut-follows t goes-on;
           Q-is = out-now .Q-is;
           C-is = in-now .C-is;
           urgent-is = λ z. stands-at out-now;

@@ -27,7 +27,8 @@ use Rattle.receive.specs.Receive.{takeOf, readOf}
 use Rattle.receive.proofs.Laws.{Placeable}
 use Rattle.finish.specs.Finish.{shutdownForbids, closeForbids, shutdownOf, closeOf, resetOf, closingOf, abortOf}
 use Rattle.only_sent.specs.Plain.{Outward, Inward, InwardIs, urgentAt, plainRead}
-use Rattle.only_sent_ends.proofs.Goes.{Held, Kept, Goes, kept-self, outcome-goes, shut-goes, refused-goes, pick, or-none, or-right}
+use Rattle.outcome.proofs.Goes.{pick}
+use Rattle.only_sent_ends.proofs.Follows.{Held, Kept, Follows, kept-self, outcome-follows, shut-follows, refused-follows, or-none, or-right}
 use Rattle.only_sent_ends.proofs.Sends.{passed-at}
 
 -- A PLACE of bytes that are free, each at the place of a position from P on and before T + d
@@ -70,7 +71,7 @@ module _ (d : ℕ) (full : 0 < d) where
 pub record ReadStep (d : ℕ) (c : Record) (i : Inward) (room : ℕ) (o : Outcome) : Type 0 where
   pub m : ℕ
   pub c1 : Record
-  pub goes : Goes c c1 o
+  pub follows : Follows c c1 o
   pub now : InwardIs d (plainRead i m) (c1 .inbound)
   pub same-out : c1 .outbound ≡ c .outbound
   pub same-marks : c1 .marks ≡ c .marks
@@ -94,7 +95,7 @@ module _ {d d' : ℕ} {c : Record} {o : Outward} {i : Inward} (x : Held d d' c o
       record {
         m = 0;
         c1 = c;
-        goes = refused-goes c k;
+        follows = refused-follows c k;
         now =
             record {
               P-is = at .P-is;
@@ -131,7 +132,7 @@ module _ {d d' : ℕ} {c : Record} {o : Outward} {i : Inward} (x : Held d d' c o
       record {
         m = taken;
         c1 = c1;
-        goes = outcome-goes kept (Read taken) t (λ e. (refl, refl));
+        follows = outcome-follows kept (Read taken) t (λ e. (refl, refl));
         now =
             record {
               P-is = at .P-is;
@@ -161,7 +162,7 @@ module _ {d d' : ℕ} {c : Record} {o : Outward} {i : Inward} (x : Held d d' c o
 -- THE ENDINGS: marks change, and it is told
 pub record FinishStep (c : Record) (o : Outcome) : Type 0 where
   pub c1 : Record
-  pub goes : Goes c c1 o
+  pub follows : Follows c c1 o
   pub same-out : c1 .outbound ≡ c .outbound
   pub same-in : c1 .inbound ≡ c .inbound
   pub same-heard : c1 .marks .heard ≡ c .marks .heard
@@ -173,7 +174,7 @@ pub data PlaceStep (c : Record) (o : Outcome) : Type 0 where
 
 module _ (n : ℕ) (a : Bool) (c : Record) where
   ends-refused : (k : ℕ) → FinishStep c (refusedOf k c)
-  ends-refused k = record { c1 = c; goes = refused-goes c k; same-out = refl; same-in = refl; same-heard = refl }
+  ends-refused k = record { c1 = c; follows = refused-follows c k; same-out = refl; same-in = refl; same-heard = refl }
 
   marks-step : (m : Marks) (r : Reply) (t : Bool) → (c .marks .abort ≡ true → m .abort ≡ true)
       → (marked (c .marks .sent) ≡ true → marked (m .sent) ≡ true)
@@ -183,7 +184,7 @@ module _ (n : ℕ) (a : Bool) (c : Record) where
       let kept : Kept c (marksTo c m) = search in
       record {
         c1 = marksTo c m;
-        goes = shut-goes t (outcome-goes kept r true (λ e. absurd (false≢true (sym e))));
+        follows = shut-follows t (outcome-follows kept r true (λ e. absurd (false≢true (sym e))));
         same-out = refl;
         same-in = refl;
         same-heard = hs;
@@ -220,16 +221,16 @@ module _ (n : ℕ) (a : Bool) (c : Record) where
       refl))
 
   pub place-step : coherentB n c ≡ true → a ≡ true → (at k : ℕ) → Placeable n (c .inbound) at k
-      → Goes c c (placeOf n a c at k) × (placeOf n a c at k .made ≡ false) × PlaceStep c (placeOf n a c at k)
+      → Follows c c (placeOf n a c at k) × (placeOf n a c at k .made ≡ false) × PlaceStep c (placeOf n a c at k)
   unfolding placeOf refusalOf mayPlace outcomeOf refusedOf
   place-step coh up at k may = go (placeForbids (c .marks)) refl may
     where
-      let-in : Goes c c (outcomeOf Accepted false c)
-      let-in = outcome-goes (kept-self c) Accepted false (λ e. (refl, refl))
+      let-in : Follows c c (outcomeOf Accepted false c)
+      let-in = outcome-follows (kept-self c) Accepted false (λ e. (refl, refl))
 
       go : (f : Bool) → placeForbids (c .marks) ≡ f → Placeable n (c .inbound) at k
-          → Goes c c (placeOf n a c at k) × (placeOf n a c at k .made ≡ false) × PlaceStep c (placeOf n a c at k)
-      go true e may = rw (coh, up, e) (refused-goes c 7, refl, forbidden refl e)
+          → Follows c c (placeOf n a c at k) × (placeOf n a c at k .made ≡ false) × PlaceStep c (placeOf n a c at k)
+      go true e may = rw (coh, up, e) (refused-follows c 7, refl, forbidden refl e)
       go false e (inl z) = rw (coh, up, e, eq-eqb k 0 z) (let-in, refl, taken-in refl)
       go false e (inr w) =
           rw (coh, up, e, le-leb 4 at (w .0), le-leb (at + k) n (w .1), w .2, or-right (eqb k 0) {b = true} refl)

@@ -6,7 +6,7 @@ use Prim.Native.Nat.{ℕ, _+_, _-_, _≤_, _<_, min}
 use native.Mathlib.Omega.{arith}
 use native.Mathlib.Decide.{decLt, decLe}
 use lib.Dec.{ltb, leb, eqb}
-use borrow.Author.Tests.{eqb-true, eq-eqb, ltb-true, ltb-false, lt-ltb, le-ltb, le-leb, lt-leb}
+use borrow.Author.Tests.{eqb-true, ltb-true, ltb-false, lt-ltb, le-ltb, le-leb, lt-leb}
 use Rattle.cursor.specs.Cursor.{cursorAt, gapOf, stepOf}
 use Rattle.cursor.proofs.Positions.{step-at, gap-at}
 use Rattle.flow.specs.Flow.{roomOf, takenOf}
@@ -14,18 +14,17 @@ use Rattle.flow.proofs.Laws.{stretches-none}
 use Rattle.connection.specs.declared.Record.{Record}
 use Rattle.connection.specs.declared.Outbound.{Outbound}
 use Rattle.connection.specs.declared.Urgent.{Urgent}
-use Rattle.connection.specs.Connection.{noPlace, placeAt, refusalOf, passedBy, reachedB}
-use Rattle.connection.proofs.Laws.{refusal-none}
+use Rattle.connection.specs.Connection.{noPlace, placeAt, passedBy, reachedB}
 use Rattle.outcome.specs.declared.Reply.the-variants.{Refused, Sent}
 use Rattle.outcome.specs.declared.Placings.the-variants.{Nowhere}
 use Rattle.outcome.specs.declared.Outcome.{Outcome}
 use Rattle.outcome.specs.Outcome.{messageOf, pendingOf, outcomeOf, urgentOutcome, refusedOf}
 use Rattle.outcome.proofs.Laws.{outcome-reply}
 use Rattle.produced.specs.Produced.{sendForbids, nOf, producedOut, producedOf, tellsOf, urgedOut, urgedOf, waitsB}
-use Rattle.transmit.specs.Transmit.{sendOf, sentOf, urgentSendOf, urgentOf, sentReply, nothingSent, placingsOf}
+use Rattle.transmit.proofs.Laws.{send-cases, urgent-cases}
+use Rattle.transmit.specs.Transmit.{sendOf, sentOf, urgentSendOf, sentReply, nothingSent, placingsOf}
 use Rattle.only_sent.specs.Plain.{Outward, Inward, OutwardIs, urgentAt, freeRoom, plainSent}
-use Rattle.only_sent_ends.proofs.Goes.{endedB, Kept, Goes, alike-own, alike-pending, kept-self, outcome-goes, urgent-goes}
-use Rattle.only_sent_ends.proofs.Goes.{refused-goes, Held, pick, or-none}
+use Rattle.only_sent_ends.proofs.Follows.{endedB, Kept, Follows, alike-own, alike-pending, kept-self, outcome-follows, urgent-follows, refused-follows, Held, or-none}
 
 -- the urgent place of position u is cleared exactly when the cursor on its way to it has reached it
 module _ (d : ℕ) (full : 0 < d) (r q z u : ℕ) (rz : r ≤ z) (zq : z ≤ q) (qr : q ≤ r + d) (uq : u ≤ q) where
@@ -64,7 +63,7 @@ stands-at {d'} {o} i = ap (λ (u : Urgent). u .standing) (i .U-is) ∙ go (ltb (
 pub record SendStep (d' : ℕ) (c : Record) (o : Outward) (u : Bool) (len : ℕ) (x : Outcome) : Type 0 where
   pub m : ℕ
   pub c1 : Record
-  pub goes : Goes c c1 x
+  pub follows : Follows c c1 x
   pub now : OutwardIs d' (plainSent o u len m) (c1 .outbound)
   pub same-in : c1 .inbound ≡ c .inbound
   pub same-heard : c1 .marks .heard ≡ c .marks .heard
@@ -113,13 +112,13 @@ module _ {d d' : ℕ} {c : Record} {o : Outward} {i : Inward} (x : Held d d' c o
           go true = refl
           go false = refl
 
-  idle : (y : Outcome) → Goes c c y
+  idle : (y : Outcome) → Follows c c y
       → ((k : ℕ) × (y .reply ≡ Refused k) × (_≡_ {A = ℕ} 0 0)) ⊎ ((y .reply ≡ sentReply c 0) × (0 ≡ freeRoom d' o len)) → Does y
   idle y g r =
       record {
         m = 0;
         c1 = c;
-        goes = g;
+        follows = g;
         now = idle-sends;
         same-in = refl;
         same-heard = refl;
@@ -131,12 +130,12 @@ module _ {d d' : ℕ} {c : Record} {o : Outward} {i : Inward} (x : Held d d' c o
 
   refuses : (k : ℕ) → Does (refusedOf k c)
   unfolding refusedOf
-  refuses k = idle (refusedOf k c) (refused-goes c k) (inl (k, refl, refl))
+  refuses k = idle (refusedOf k c) (refused-follows c k) (inl (k, refl, refl))
 
   waits : waitsB c len ≡ true → Does (nothingSent c)
   unfolding outcomeOf waitsB
   waits w =
-      idle (nothingSent c) (outcome-goes (kept-self c) (Sent 0 Nowhere) false (λ e. (refl, refl)))
+      idle (nothingSent c) (outcome-follows (kept-self c) (Sent 0 Nowhere) false (λ e. (refl, refl)))
       (inr (
         ap (λ s. Sent 0 (placingsOf c s)) (sym (stretches-none (c .remote .size) (c .outbound .producer))),
         none (c .outbound .urgent .standing) (eqb len 0) refl refl w,
@@ -159,14 +158,6 @@ module _ {d d' : ℕ} {c : Record} {o : Outward} {i : Inward} (x : Held d d' c o
     free : c .outbound .urgent .standing ≡ false
     unfolding waitsB
     free = or-none (c .outbound .urgent .standing) (eqb len 0) w .0
-
-    some : 0 < len
-    unfolding waitsB
-    some =
-        elim (decLt 0 len) [
-          | yes l ↦ l
-          | no l ↦ absurd (false≢true (sym (or-none (c .outbound .urgent .standing) (eqb len 0) w .1) ∙ eq-eqb len 0 (omega arith)))
-        ]
 
     not-ended : endedB (c .marks) ≡ true → nOf c len ≡ 0
     unfolding sendForbids
@@ -192,13 +183,13 @@ module _ {d d' : ℕ} {c : Record} {o : Outward} {i : Inward} (x : Held d d' c o
     Q-now = (λ i. stepOf (size' i) (at .Q-is i) (nOf c len)) ∙ step-at d' full' (o .Q) (nOf c len) (omega (arith, n-at, R-Q))
 
     -- the record c1 with Q moved, and perhaps urgent, is told or not
-    moved-step : (y : Outcome) (c1 : Record) → Goes c c1 y → OutwardIs d' (plainSent o u len (nOf c len)) (c1 .outbound)
+    moved-step : (y : Outcome) (c1 : Record) → Follows c c1 y → OutwardIs d' (plainSent o u len (nOf c len)) (c1 .outbound)
         → c1 .inbound ≡ c .inbound → c1 .marks .heard ≡ c .marks .heard → y .reply ≡ sentReply c (nOf c len) → Does y
     moved-step y c1 g now z m r =
         record {
           m = nOf c len;
           c1 = c1;
-          goes = g;
+          follows = g;
           now = now;
           same-in = z;
           same-heard = m;
@@ -224,7 +215,7 @@ module _ {d d' : ℕ} {c : Record} {o : Outward} {i : Inward} (x : Held d d' c o
     sends plain =
         let r = sentReply c (nOf c len) in
         let t = tellsOf c (nOf c len) len in
-        moved-step (outcomeOf r t c1) c1 (outcome-goes produced-kept r t (λ e. (refl, refl)))
+        moved-step (outcomeOf r t c1) c1 (outcome-follows produced-kept r t (λ e. (refl, refl)))
         (produced-at (ap (λ (t : Bool). cond (t && (ltb 0 len && leb len (nOf c len))) (o .Q + nOf c len) (o .U)) plain)) refl refl
         (outcome-reply r t c1)
 
@@ -233,18 +224,18 @@ module _ {d d' : ℕ} {c : Record} {o : Outward} {i : Inward} (x : Held d d' c o
     short l =
         let r = sentReply c (nOf c len) in
         moved-step (urgentOutcome r (pendingOf (messageOf c1)) c1) c1
-        (urgent-goes produced-kept r (pendingOf (messageOf c1)) (alike-pending c1))
+        (urgent-follows produced-kept r (pendingOf (messageOf c1)) (alike-pending c1))
         (produced-at (cut-short (nOf c len) l)) refl refl refl
 
     abbrev c2 : Record
     c2 = urgedOf c1
 
-    whole : u ≡ true → nOf c len ≡ len → Does (urgentOutcome (sentReply c (nOf c len)) (messageOf c2) c2)
+    whole : u ≡ true → 0 < len → nOf c len ≡ len → Does (urgentOutcome (sentReply c (nOf c len)) (messageOf c2) c2)
     unfolding urgentOutcome plainSent urgedOf urgedOut producedOf producedOut
-    whole urgent all =
+    whole urgent some all =
         let r = sentReply c (nOf c len) in
         let kept : Kept c c2 = search in
-        moved-step (urgentOutcome r (messageOf c2) c2) c2 (urgent-goes kept r (messageOf c2) (alike-own c2))
+        moved-step (urgentOutcome r (messageOf c2) c2) c2 (urgent-follows kept r (messageOf c2) (alike-own c2))
         (record {
           Q-is = Q-now;
           R-is = at .R-is;
@@ -262,26 +253,9 @@ module _ {d d' : ℕ} {c : Record} {o : Outward} {i : Inward} (x : Held d d' c o
         later : ltb (o .R) (o .Q + nOf c len) ≡ true
         later = lt-ltb (o .R) (o .Q + nOf c len) (omega (arith, all, some, R-Q))
 
-    urges : u ≡ true → Does (urgentOf c len)
-    unfolding urgentOf
-    urges urgent =
-        pick Does (ltb (nOf c len) len) _ _ (λ e. short (ltb-true (nOf c len) len e))
-        (λ e. whole urgent (omega (arith, n-at, ltb-false (nOf c len) len e)))
-
-  -- the tests of both
-  tested : (n : ℕ) (a : Bool) (y : Outcome) → (sendForbids (c .marks) ≡ false → waitsB c len ≡ false → Does y)
-      → let no = refusalOf n a c (sendForbids (c .marks)) in
-      Does (cond (eqb no 0) (cond (waitsB c len) (nothingSent c) y) (refusedOf no c))
-  tested n a y f =
-      let no = refusalOf n a c (sendForbids (c .marks)) in
-      pick Does (eqb no 0) _ _
-      (λ e. pick Does (waitsB c len) _ _ waits (f (refusal-none n a c (sendForbids (c .marks)) (eqb-true no 0 e) .2)))
-      (λ e. refuses no)
-
   pub send-step : u ≡ false → (n : ℕ) (a : Bool) → Does (sendOf n a c len)
-  unfolding sendOf
-  send-step e n a = tested n a (sentOf c len) (λ m w. sends m w e)
+  send-step e n a = send-cases n a c len Does refuses waits (λ m. sends (m .may) (m .free) e)
 
   pub urgent-step : u ≡ true → (n : ℕ) (a : Bool) → Does (urgentSendOf n a c len)
-  unfolding urgentSendOf
-  urgent-step e n a = tested n a (urgentOf c len) (λ m w. urges m w e)
+  urgent-step e n a =
+      urgent-cases n a c len Does refuses waits (λ m l. short (m .may) (m .free) l) (λ m some all. whole (m .may) (m .free) e some all)

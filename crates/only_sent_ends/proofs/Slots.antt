@@ -6,30 +6,30 @@ use mathlib.Core.List.{List, []}
 use Prim.Native.Nat.{ℕ, zero, suc}
 use native.Mathlib.Decide.{ℕ-discrete}
 use native.Mathlib.Omega.{arith}
-use lib.Dec.{eqb, eqb·suc-zero}
+use lib.Dec.{eqb}
 use lib.ListN.{length}
-use borrow.Author.Tests.{eqb-true, eq-eqb, ne-eqb}
+use borrow.Author.Tests.{eqb-true, eq-eqb}
 use Rattle.cdc.specs.declared.Message.{Message}
 use Rattle.cdc.specs.declared.Decoded.the-variants.{Good}
 use Rattle.cdc.specs.Cdc.{decodeOf}
 use Rattle.connection.specs.declared.Opening as Given
 use Rattle.connection.specs.Connection.{openedRecord, zeroRecord, coherentB}
-use Rattle.connection.proofs.Laws.{coherent-facts}
 use Rattle.element.specs.Element.{elementOf, intactB}
 use Rattle.failover.specs.Failover.{planOf}
 use Rattle.failover.proofs.Keeps.{ButLink, moved-keeps}
 use Rattle.linktheorems.specs.Statements.{Call as LinkCall}
 use Rattle.rules.specs.Rules.{Group, Request, send, urgent, gather, place, read, shutdown, close, abort, openSlot, Call, on, hear, manage}
 use Rattle.rules.specs.Rules.{Turn, requestTurn, hearTurn, Done, does, answer, next, refuses, putTurn, recordOf, elementIn, linkOf}
-use Rattle.rules.specs.Rules.{holderOf, hearAt, hearDoes, openRefusal, openDoes, sizesOk}
+use Rattle.rules.specs.Rules.{holderOf, openRefusal, openDoes, sizesOk}
 use Rattle.order.proofs.Near.{enough}
-use Rattle.order.proofs.Slots.{slot-in, open-in, open-found, found-open, element-long, Put, put}
+use Rattle.order.proofs.Slots.{slot-in, open-in, element-long, Put, put}
 use Rattle.changes.proofs.Acted.{acts-in, acts-high, acts-long}
 use Rattle.safety.specs.Statement.{OpenAt, ownOf, acceptedB}
 use Rattle.safety.specs.Links.{callOf}
 use Rattle.safety.proofs.Invariant.{Sound, sizes, no-slot-0}
 use Rattle.safety.proofs.Failing.{only-the-link}
-use Rattle.safety.proofs.OnSlot.{on-open}
+use Rattle.safety.proofs.OnSlot.{hear-open, on-open}
+use Rattle.safety.proofs.Theorem.{the-only}
 use Rattle.safety.proofs.Effects.{Openable, openTurn, open-facts, Acts, asks, hears, opens, frees, Effect, refuses-it, links-it, samples-it}
 use Rattle.safety.proofs.Effects.{puts-turn, effect}
 use Rattle.positions.specs.Positions.{namesB}
@@ -73,16 +73,8 @@ module _ (g : Group) (s : Sound g) where
         coherent = s .coherent i o;
         intact = s .intact i o;
         long = element-long (g .N) (g .S) (g .memory) (sizes g s .whole) i (open-in (g .S) (g .table) (suc i) o .high);
-        holder = holder;
+        holder = the-only g s i (ownOf g (suc i)) o refl;
       }
-    where
-      holder : holderOf g (ownOf g (suc i)) ≡ suc i
-      holder =
-          let f = coherent-facts (g .N) (recordOf g (suc i)) (s .coherent i o) in
-          let w = open-found (g .S) (g .table) i o in
-          let x = found-open (g .S) (g .table) (ownOf g (suc i)) (w .0) (w .1) in
-          let one = s .good .apart (w .0) i (x .0) o (x .1) in
-          rw (ne-eqb (ownOf g (suc i)) 0 (λ z. omega (arith, z, f .own-nonzero))) (w .1 ∙ ap suc one)
 
   module _ (k : ℕ) (o : OpenAt g k) where
     -- A CALL ON THE SLOT
@@ -90,22 +82,11 @@ module _ (g : Group) (s : Sound g) where
     on-turned q = acts-turned (on k q) k _ (asks q refl o refl) (on-open g k q (s .good .sizes) o)
 
     -- A MESSAGE WITH ITS TOKEN
-    hear-open : (b : List ℕ) (m : Message) → decodeOf b ≡ Good m → holderOf g (m .token) ≡ k
-        → does g (hear b) ≡ putTurn g k (hearTurn (g .N) (linkOf g k) (recordOf g k) (elementIn g k) m)
-    unfolding hearDoes hearAt
-    hear-open b m d e = rw (s .good .sizes, d, e) (not-none k o)
-      where
-        not-none : (k : ℕ) → OpenAt g k
-            → cond (eqb k 0) (refuses g 5 []) (putTurn g k (hearTurn (g .N) (linkOf g k) (recordOf g k) (elementIn g k) m))
-            ≡ putTurn g k (hearTurn (g .N) (linkOf g k) (recordOf g k) (elementIn g k) m)
-        not-none zero o = absurd (no-slot-0 g o)
-        not-none (suc i) o = rw (eqb·suc-zero i)
-
     pub hear-turned : (b : List ℕ) (m : Message) → decodeOf b ≡ Good m → ownOf g k ≡ m .token
         → Turned g (hear b) k (hearTurn (g .N) (linkOf g k) (recordOf g k) (elementIn g k) m)
     hear-turned b m d e =
         let h : holderOf g (m .token) ≡ k = ap (holderOf g) (sym e) ∙ slot-of k o .holder in
-        acts-turned (hear b) k _ (hears b m refl d h o e refl) (hear-open b m d h)
+        acts-turned (hear b) k _ (hears b m refl d h o e refl) (hear-open g (s .good .sizes) k o b m d h)
 
     -- A CALL ELSEWHERE: the record stays, all but its link, or the slot closes
     pub data Elsewhere (c : Call) : Type 0 where

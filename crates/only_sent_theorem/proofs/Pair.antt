@@ -20,7 +20,7 @@ use Rattle.only_sent.specs.Books.{Names, Aim, End, handsOver, movesOver, tellsI
 use Rattle.only_sent.specs.Plain.{Plain, Outward, Inward, OutwardIs, InwardIs, plainBegun, plainDoes, plainMine, plainTheirs, abortsB}
 use Rattle.only_sent.specs.Plain.{plainTold, plainReaches, toldMark}
 use Rattle.only_sent_way.proofs.Direction.{Out, In, Seen, Dir, dir-tells, dir-told}
-use Rattle.only_sent_ends.proofs.Goes.{endedB, Held, Told, Goes, or-none, or-left, or-right, or-cases}
+use Rattle.only_sent_ends.proofs.Follows.{endedB, Held, Told, Follows, or-none, or-left, or-right, or-cases}
 use Rattle.only_sent_ends.proofs.Slots.{slot-of}
 use mathlib.Core.Logic.{_⊎_, inl, inr}
 use lib.Dec.{ltb}
@@ -207,7 +207,7 @@ module _ (a : Act) where
     pub over-is : marked (c1 .marks .heard) ≡ true → h1 .seen .over ≡ true
 
   pub record Mid (e1 : End) (items : List Item) (p1 : Plain) (h1 : Hidden) (c1 : Record) (o : Outcome) : Type 0 where
-    pub goes : Goes (recOf a) c1 o
+    pub follows : Follows (recOf a) c1 o
     pub Q-is : c1 .outbound .producer ≡ cursorAt d' (p1 .outward .Q)
     pub C-is : c1 .inbound .consumer ≡ cursorAt d (p1 .inward .C)
     pub urgent-is : c1 .marks .abort ≡ false → c1 .outbound .urgent .standing ≡ ltb (p1 .outward .R) (p1 .outward .U)
@@ -220,16 +220,16 @@ module _ (a : Act) where
 
   -- a call that leaves c1 in positions, told or not, or nothing
   module _ (e1 : End) (items : List Item) {p1 : Plain} {h1 : Hidden} {c1 : Record} {o : Outcome} where
-    pub mid-by : Goes (recOf a) c1 o → Stays p1 h1 c1 → p1 .mute ≡ p .mute → p1 .outward .made ≡ p .outward .made → h1 .ended ≡ h .ended
+    pub mid-by : Follows (recOf a) c1 o → Stays p1 h1 c1 → p1 .mute ≡ p .mute → p1 .outward .made ≡ p .outward .made → h1 .ended ≡ h .ended
         → Dir d' d m (outOf e1 p1 h1) (inOf m (withComing f (f .coming ++ items)) q k)
         → Dir d d' n (outOf f q k) (inOf n (withGroup e1 (nextOf a)) p1 h1) → Mid e1 items p1 h1 c1 o
     mid-by g s mute made ended to-f to-e =
         record {
-          goes = g;
+          follows = g;
           Q-is = s .out-now .Q-is;
           C-is = s .in-now .C-is;
           urgent-is = λ z. stands-at (s .out-now);
-          left = by (g .left);
+          left = by (g .goes .left);
           mute-same = mute;
           made-same = made;
           ended-same = ended;
@@ -278,8 +278,8 @@ module _ (a : Act) {e1 : End} {items : List Item} {p1 : Plain} {h1 : Hidden} {c1
 
   matched-now : Matched n m (d' + 4) (c1 .id .own) (c1 .id .peer) (c1 .remote)
   matched-now =
-      subst (λ (r : Remote). Matched n m (d' + 4) (c1 .id .own) (c1 .id .peer) r) (sym (mid .goes .kept .same-remote))
-      (subst (λ (i : Identity). Matched n m (d' + 4) (i .own) (i .peer) (recOf a .remote)) (sym (mid .goes .kept .same-id))
+      subst (λ (r : Remote). Matched n m (d' + 4) (c1 .id .own) (c1 .id .peer) r) (sym (mid .follows .kept .same-remote))
+      (subst (λ (i : Identity). Matched n m (d' + 4) (i .own) (i .peer) (recOf a .remote)) (sym (mid .follows .kept .same-id))
       (atOf a .matched))
 
   -- NO MESSAGE IS MADE
@@ -296,7 +296,7 @@ module _ (a : Act) {e1 : End} {items : List Item} {p1 : Plain} {h1 : Hidden} {c1
     where
       kept : Stays a p1 h1 c1 → AtRec n m d d' (knownOf p1 h1) c1
       kept s =
-          let same = mid .goes .quiet made in
+          let same = mid .follows .quiet made in
           record {
             matched = matched-now;
             out-now = s .out-now;
@@ -309,7 +309,7 @@ module _ (a : Act) {e1 : End} {items : List Item} {p1 : Plain} {h1 : Hidden} {c1
   -- A MESSAGE IS MADE
   module _ (made : o .made ≡ true) where
     said : Told c1 (o .message)
-    said = mid .goes .tells made
+    said = mid .follows .tells made
 
     decoded : decodeOf (o .message) ≡ Good (said .m)
     decoded = ap decodeOf (said .is) ∙ reads-back (said .m)
@@ -327,20 +327,20 @@ module _ (a : Act) {e1 : End} {items : List Item} {p1 : Plain} {h1 : Hidden} {c1
     h2 = record { ended = endedB (c1 .marks); seen = h1 .seen }
 
     next-was : c1 .outbound .next ≡ (p1 .outward .made + 1) % 65536
-    next-was = mid .goes .kept .same-next ∙ atOf a .out-now .next-is ∙ ap (λ (x : ℕ). (x + 1) % 65536) (sym (mid .made-same))
+    next-was = mid .follows .kept .same-next ∙ atOf a .out-now .next-is ∙ ap (λ (x : ℕ). (x + 1) % 65536) (sym (mid .made-same))
 
     ended-up : h1 .ended ≡ true → endedB (c1 .marks) ≡ true
     ended-up z = by (or-cases (marked (recOf a .marks .sent)) (recOf a .marks .abort) (atOf a .ended-is ∙ sym (mid .ended-same) ∙ z))
       where
         by : (marked (recOf a .marks .sent) ≡ true) ⊎ (recOf a .marks .abort ≡ true) → endedB (c1 .marks) ≡ true
-        by (inl y) = or-left (c1 .marks .abort) (mid .goes .kept .sent-up y)
-        by (inr y) = or-right (marked (c1 .marks .sent)) (mid .goes .kept .abort-up y)
+        by (inl y) = or-left (c1 .marks .abort) (mid .follows .kept .sent-up y)
+        by (inr y) = or-right (marked (c1 .marks .sent)) (mid .follows .kept .abort-up y)
 
     mute-now : c1 .marks .abort ≡ p1 .mute || aborts
     mute-now = go (p1 .mute) refl
       where
         go : (t : Bool) → p1 .mute ≡ t → c1 .marks .abort ≡ t || aborts
-        go true z = mid .goes .kept .abort-up (atOf a .mute-is ∙ sym (mid .mute-same) ∙ z)
+        go true z = mid .follows .kept .abort-up (atOf a .mute-is ∙ sym (mid .mute-same) ∙ z)
         go false z = sym (ap abortsB decoded ∙ said .alike .abort-is)
 
     told-rec : Stays a p1 h1 c1 → AtRec n m d d' (knownOf p2 h2) (toldOf c1)

@@ -39,7 +39,7 @@ use Rattle.receive.specs.Receive.{placeForbids}
 use Rattle.receive.proofs.Laws.{Placeable}
 use Rattle.safety.proofs.Lists.{splice-at, splice-none}
 use Rattle.only_sent_way.proofs.Way.{Position, covers-true, covers-is, way-owed, way-number, endsB, Chain, chain-most, chain-heard}
-use Rattle.only_sent_ends.proofs.Goes.{Goes, kept-self, outcome-goes, or-left, or-right}
+use Rattle.only_sent_ends.proofs.Follows.{Follows, kept-self, outcome-follows, or-left, or-right}
 use Rattle.only_sent_ends.proofs.Slots.{slot-of}
 use lib.Dec.{ltb}
 use Rattle.cdc.specs.declared.Message.{Message}
@@ -186,7 +186,7 @@ module _ (a : Act) where
     unfolding plainRead
     reads-event =
         finished a
-        (mid-by a (gives n e (readIn says) now-out) [] (step .goes)
+        (mid-by a (gives n e (readIn says) now-out) [] (step .follows)
         (record {
           out-now = subst (OutwardIs d' (p .outward)) (sym (step .same-out)) (atOf a .out-now);
           in-now = subst (λ (v : ℕ). InwardIs d (plainRead (p .inward) v) (step .c1 .inbound)) (sym engine-is) (step .now);
@@ -327,12 +327,12 @@ module _ (a : Act) (at : ℕ) (b : List ℕ) (owed-all : EachOwed (a .n) (a .e) 
       none-left true z y = absurd (false≢true (sym z))
       none-left false z y = y
 
-  pub places-event : {o : Outcome} → Goes (recOf a) (recOf a) o → PlaceStep (recOf a) o
+  pub places-event : {o : Outcome} → Follows (recOf a) (recOf a) o → PlaceStep (recOf a) o
       → recordOf (nextOf a) (n .slot) ≡ o .after → elementIn (nextOf a) (n .slot) ≡ placedIn (effectOf (o .reply)) (elemOf a) at b
       → After a (record { says = saysOf (o .reply); made = o .made; message = o .message; out = [] }) (places at b)
-  places-event {o} goes step record-is element-is =
+  places-event {o} follows step record-is element-is =
       finished a
-      (mid-by a (puts n e (acceptedB (saysOf (o .reply))) at (length b)) [] goes
+      (mid-by a (puts n e (acceptedB (saysOf (o .reply))) at (length b)) [] follows
       (record { out-now = atOf a .out-now; in-now = atOf a .in-now; over-is = atOf a .over-is }) refl refl refl
       (no-items a e p h (pair .to-f)) (to-e step))
       opened record-is
@@ -417,7 +417,7 @@ module _ (a : Act) (b : List ℕ) (first-is : FirstIs b (a .e .coming)) (all : A
     passes far = (
       so true true far (or-left (p .mute) far)
           (finished a
-          (mid-by a (withComing e (lessMessage (e .coming))) [] goes
+          (mid-by a (withComing e (lessMessage (e .coming))) [] follows
           (record { out-now = atOf a .out-now; in-now = atOf a .in-now; over-is = atOf a .over-is }) refl refl refl
           (no-items a e (withMarks p rest) h (dir-drops (pair .to-f) mark rest (the-first .marks-are)))
           (dir-elem (dir-passes (pair .to-e) b first-is all far) (elementIn (nextOf a) (n .slot)) element-is))
@@ -437,10 +437,10 @@ module _ (a : Act) (b : List ℕ) (first-is : FirstIs b (a .e .coming)) (all : A
         same =
             hear-passes (held a) up msg (the-first .is .bears .not-abort far) (the-first .is .bears .failover-is ∙ far) number
 
-        goes : Goes (recOf a) (recOf a) o
-        goes =
-            subst (Goes (recOf a) (recOf a)) (sym (same .1))
-            (outcome-goes (kept-self (recOf a)) (Heard 0 (same .0)) false (λ e. (refl, refl)))
+        follows : Follows (recOf a) (recOf a) o
+        follows =
+            subst (Follows (recOf a) (recOf a)) (sym (same .1))
+            (outcome-follows (kept-self (recOf a)) (Heard 0 (same .0)) false (λ e. (refl, refl)))
 
     -- ANY OTHER, which leaves o1 and i1
     module _ (plain : mark .failover ≡ false) {o1 : Outward} {i1 : Inward} (step : StepTo o1 i1) (Q-same : o1 .Q ≡ p .outward .Q)
@@ -461,7 +461,7 @@ module _ (a : Act) (b : List ℕ) (first-is : FirstIs b (a .e .coming)) (all : A
           → Mid a (withComing e (afterMessage (e .coming))) [] p1 (h1 over) (step .c1) o
       mid over why left =
           record {
-            goes = step .goes;
+            follows = step .follows;
             Q-is = step .Q-is ∙ ap (cursorAt d') (sym Q-same);
             C-is = step .C-is ∙ ap (cursorAt d) (sym C-same);
             urgent-is = step .urgent-is;

@@ -5,7 +5,6 @@ use mathlib.Core.Bool.{Bool, true, false, _||_, cond, false≢true}
 use mathlib.Core.List.{List}
 use Prim.Native.Nat.{ℕ, zero, suc, _<_}
 use native.Mathlib.Omega.{arith}
-use lib.Dec.{eqb}
 use borrow.Author.Tests.{eq-eqb}
 use Rattle.cdc.specs.declared.Message.{Message}
 use Rattle.cdc.specs.declared.Decoded.the-variants.{Good}
@@ -13,11 +12,10 @@ use Rattle.cdc.specs.Cdc.{decodeOf}
 use Rattle.closing.specs.declared.Marks.{Marks}
 use Rattle.closing.specs.Closing.{marked}
 use Rattle.produced.specs.Produced.{sendForbids}
-use Rattle.table.specs.Table.{findFrom}
 use Rattle.connection.proofs.Laws.{and-left}
 use Rattle.rules.specs.Rules.{Group, close, freeSlot, Call, on, manage, Answer, answer, next, recordOf, holderOf}
-use Rattle.order.proofs.Slots.{found-open}
 use Rattle.safety.specs.Statement.{OpenAt, ownOf, acceptedB}
+use Rattle.safety.proofs.Effects.{holder-open}
 use Rattle.safety.proofs.Invariant.{no-slot-0}
 use Rattle.changes.specs.Changes.{HeardFor, Closes, by-close, by-hear, by-abort, by-free}
 use Rattle.changes.proofs.Changes.{closed-by}
@@ -30,7 +28,7 @@ use Rattle.only_sent.specs.Plain.{Plain, Mark, plainAfter}
 use Rattle.only_sent.specs.Reuse.{OwnOpen, NotFreed, NoBytes, NoneToCome, NothingUnderWay}
 use Rattle.only_sent_way.proofs.Way.{Way, there, a-byte, a-message, Bears, endsB, way-up}
 use Rattle.only_sent_way.proofs.Direction.{Dir, HeardBy, hears-it}
-use Rattle.only_sent_ends.proofs.Goes.{endedB, or-left, or-right, or-cases}
+use Rattle.only_sent_ends.proofs.Follows.{endedB, or-left, or-right, or-cases}
 use Rattle.only_sent_theorem.proofs.Pair.{Hidden, outOf, inOf, knownOf, AtRec, AtEnd, Pair, swap}
 use Rattle.only_sent_theorem.proofs.Run.{opened-now, PairAt, from-near, event-step, over-all, bothHidden, bothPlain, datas, full-of}
 use Rattle.only_sent_theorem.proofs.Run.{begun-pair, begun-mades}
@@ -51,11 +49,7 @@ module _ {d d' : ℕ} {n : Names} {S : ℕ → Type 0} {took : List ℕ} {ended 
 -- whose a message is
 holder-own : (g : Group) (token k : ℕ) → OpenAt g k → holderOf g token ≡ k → ownOf g k ≡ token
 holder-own g token zero o e = absurd (no-slot-0 g o)
-holder-own g token (suc i) o e = go (eqb token 0) e
-  where
-    go : (t : Bool) → cond t 0 (findFrom (g .table) token (g .S)) ≡ suc i → ownOf g (suc i) ≡ token
-    go true q = absurd (omega (arith, q))
-    go false q = found-open (g .S) (g .table) token i q .1
+holder-own g token (suc i) o e = holder-open g token i e .1
 
 forbids-by : (m : Marks) → endedB m ≡ true → sendForbids m ≡ true
 unfolding sendForbids

@@ -132,7 +132,7 @@ module _ (a : Act) where
       unfolding plainSent
       sends-event =
           finished a
-          (mid-by a (takes e bytes) items (step .goes)
+          (mid-by a (takes e bytes) items (step .follows)
           (record {
             out-now =
                 subst (λ (j : ℕ). OutwardIs d' (plainSent (p .outward) u (length b) j) (step .c1 .outbound)) (sym (s .engine-is))
@@ -177,7 +177,7 @@ module _ (a : Act) where
       → After a (record { says = says; made = o .made; message = o .message; out = out }) finishes
   finishes-event step says out record-is element-is =
       finished a
-      (mid-by a e [] (step .goes)
+      (mid-by a e [] (step .follows)
       (record {
         out-now = subst (OutwardIs d' (p .outward)) (sym (step .same-out)) (atOf a .out-now);
         in-now = subst (InwardIs d (p .inward)) (sym (step .same-in)) (atOf a .in-now);

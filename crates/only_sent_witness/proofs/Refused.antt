@@ -1,12 +1,11 @@
 -- Refused calls may stand: a stranger's placing outside the data (9), and a message heard again (16). By computing the rules. Assumes
 -- nothing.
 use mathlib.Core.Path.{_≡_, refl}
-use mathlib.Core.Bool.{Bool, true, false, cond, false≢true}
+use mathlib.Core.Bool.{Bool, true, false, cond}
 use mathlib.Core.List.{List, [], _∷_, _++_}
-use Prim.Native.Nat.{ℕ}
 use lib.ListN.{length}
-use Rattle.rules.specs.Rules.{send, place, read, on, hear, Says, refusal, accepted, sent, gathered, wasRead, torn, heard, reset, sampled}
-use Rattle.rules.specs.Rules.{linkChanged, linkHeard, linkSent}
+use Rattle.rules.proofs.Says.{says-refusal}
+use Rattle.rules.specs.Rules.{send, place, read, on, hear, heard}
 use Rattle.order.proofs.Witness.{aGroup}
 use Rattle.changes.specs.Numbers.{refusedB}
 use Rattle.only_sent.specs.Books.{near, far, Event}
@@ -28,26 +27,12 @@ abbrev unrefused : List Event → List Event
 unrefused [] = []
 unrefused (v ∷ es) = cond (refusedB (v .said .says)) (unrefused es) (v ∷ unrefused es)
 
-is-refusal : (x : Says) → refusedB x ≡ true → (k : ℕ) × (x ≡ refusal k)
-is-refusal (refusal k) e = (k, refl)
-is-refusal accepted e = absurd (false≢true e)
-is-refusal (sent n p) e = absurd (false≢true e)
-is-refusal (gathered n p) e = absurd (false≢true e)
-is-refusal (wasRead n) e = absurd (false≢true e)
-is-refusal torn e = absurd (false≢true e)
-is-refusal (heard moved state) e = absurd (false≢true e)
-is-refusal reset e = absurd (false≢true e)
-is-refusal (sampled q) e = absurd (false≢true e)
-is-refusal (linkChanged n) e = absurd (false≢true e)
-is-refusal (linkHeard f t u n) e = absurd (false≢true e)
-is-refusal (linkSent u n) e = absurd (false≢true e)
-
 without : (es : List Event) → Without es (unrefused es)
 without [] = both-end
 without (v ∷ es) = go (refusedB (v .said .says)) refl (without es)
   where
     go : (t : Bool) → refusedB (v .said .says) ≡ t → Without es (unrefused es) → Without (v ∷ es) (cond t (unrefused es) (v ∷ unrefused es))
-    go true e w = let r = is-refusal (v .said .says) e in strikes (r .0) (r .1) w
+    go true e w = strikes _ (says-refusal (v .said .says) e) w
     go false e w = keeps w
 
 abbrev left : List Event

@@ -21,7 +21,8 @@ use Rattle.outcome.specs.declared.Reply.{Reply}
 use Rattle.outcome.specs.declared.Reply.the-variants.{Accepted}
 use Rattle.outcome.specs.declared.Outcome.{Outcome}
 use Rattle.connection.specs.Connection.{zeroRecord, refusalOf, marksTo}
-use Rattle.outcome.specs.Outcome.{effectOf, refusedOf, outcomeOf, urgentOutcome, toldOf, closedIf}
+use Rattle.outcome.specs.Outcome.{effectOf, refusedOf, outcomeOf, toldOf}
+use Rattle.outcome.proofs.Goes.{By, by-test, by-refused, by-outcome, by-urgent, by-shut, by-left}
 use Rattle.transmit.specs.Transmit.{sendOf, sentOf, urgentOf, urgentSendOf}
 use Rattle.produced.specs.Produced.{producedOf, urgedOf}
 use Rattle.receive.specs.Receive.{placeOf, mayPlace, placeForbids, readOf, takeOf, tornOf, consumedOf}
@@ -34,63 +35,44 @@ use Rattle.rules.specs.Rules.{Request, send, gather, urgent, place, read, shutd
 abbrev pub Left : Record → Record → Type 0
 Left c d = (d .id ≡ c .id) ⊎ (d ≡ zeroRecord)
 
-record Keeps (c : Record) (o : Outcome) : Type 0 where
-  kept : Left c (o .after)
+abbrev Same : Record → Reply → Record → Type 0
+Same c r d = d .id ≡ c .id
+
+abbrev Keeps : Record → Outcome → Type 0
+Keeps c o = By (Same c) o
 
 module _ (c : Record) where
-  by-test : (t : Bool) (o p : Outcome) → Keeps c o → Keeps c p → Keeps c (cond t o p)
-  by-test true o p h k = h
-  by-test false o p h k = k
-
-  refused : (k : ℕ) → Keeps c (refusedOf k c)
-  unfolding refusedOf
-  refused k = record { kept = inl refl }
-
-  outcome : (r : Reply) (t : Bool) (d : Record) → d .id ≡ c .id → Keeps c (outcomeOf r t d)
-  unfolding outcomeOf toldOf
-  outcome r true d h = record { kept = inl h }
-  outcome r false d h = record { kept = inl h }
-
-  short : (r : Reply) (m : Message) (d : Record) → d .id ≡ c .id → Keeps c (urgentOutcome r m d)
-  unfolding urgentOutcome toldOf
-  short r m d h = record { kept = inl h }
-
-  shut : (t : Bool) (o : Outcome) → Keeps c o → Keeps c (closedIf t o)
-  unfolding closedIf
-  shut true o h = record { kept = inr refl }
-  shut false o h = h
-
   send-keeps : (n : ℕ) (a : Bool) (k : ℕ) → Keeps c (sendOf n a c k)
   unfolding sendOf sentOf producedOf
-  send-keeps n a k = search (by-test, refused, outcome) depth 9
+  send-keeps n a k = search (by-test, by-refused, by-outcome) depth 9
 
   urgent-keeps : (n : ℕ) (a : Bool) (k : ℕ) → Keeps c (urgentSendOf n a c k)
   unfolding urgentSendOf urgentOf urgedOf producedOf
-  urgent-keeps n a k = search (by-test, refused, outcome, short) depth 9
+  urgent-keeps n a k = search (by-test, by-refused, by-outcome, by-urgent) depth 9
 
   place-keeps : (n : ℕ) (a : Bool) (at k : ℕ) → Keeps c (placeOf n a c at k)
   unfolding placeOf
-  place-keeps n a at k = search (by-test, refused, outcome) depth 9
+  place-keeps n a at k = search (by-test, by-refused, by-outcome) depth 9
 
   read-keeps : (n : ℕ) (a t : Bool) (k : ℕ) → Keeps c (readOf n a c t k)
   unfolding readOf takeOf tornOf consumedOf marksTo
-  read-keeps n a t k = search (by-test, refused, outcome) depth 9
+  read-keeps n a t k = search (by-test, by-refused, by-outcome) depth 9
 
   hear-keeps : (n : ℕ) (a : Bool) (m : Message) → Keeps c (hearOf n a c m)
   unfolding hearOf abortedOf followedOf validatedOf ruledOf acceptedOf heardRecord marksTo
-  hear-keeps n a m = search (by-test, refused, outcome, shut) depth 9
+  hear-keeps n a m = search (by-test, by-refused, by-outcome, by-shut) depth 9
 
   shutdown-keeps : (n : ℕ) (a : Bool) → Keeps c (shutdownOf n a c)
   unfolding shutdownOf marksTo
-  shutdown-keeps n a = search (by-test, refused, outcome) depth 9
+  shutdown-keeps n a = search (by-test, by-refused, by-outcome) depth 9
 
   close-keeps : (n : ℕ) (a : Bool) → Keeps c (closeOf n a c)
   unfolding closeOf resetOf closingOf marksTo
-  close-keeps n a = search (by-test, refused, outcome, shut) depth 9
+  close-keeps n a = search (by-test, by-refused, by-outcome, by-shut) depth 9
 
   abort-keeps : (n : ℕ) (a : Bool) → Keeps c (abortOf n a c)
   unfolding abortOf marksTo
-  abort-keeps n a = search (by-test, refused, outcome) depth 9
+  abort-keeps n a = search (by-test, by-refused, by-outcome) depth 9
 
 -- a splice of bytes that lie inside, or of none
 splice-keeps : (e b : List ℕ) (at : ℕ) → (length b ≡ 0) ⊎ (at + length b ≤ length e) → length (splice e at b) ≡ length e
@@ -137,8 +119,12 @@ turnBy n a c e (manage d) = idle c e
 
 module _ (n : ℕ) (a : Bool) (c : Record) (e : List ℕ) where
   turn-left : (o : Outcome) (f out : List ℕ) → Keeps c o → Left c ((turnOf o f out) .after)
-  unfolding turnOf
-  turn-left o f out h = h .kept
+  unfolding turnOf toldOf
+  turn-left o f out h = go (by-left (Same c) (λ r t d. d .id ≡ c .id) (λ r d e. e) (λ r d e. e) o h)
+    where
+      go : (o .after ≡ zeroRecord) ⊎ (o .after .id ≡ c .id) → Left c (o .after)
+      go (inl z) = inr z
+      go (inr e) = inl e
 
   request-left : (q : Request) → Left c ((requestTurn n a c e q) .after)
   unfolding requestTurn
@@ -154,12 +140,12 @@ module _ (n : ℕ) (a : Bool) (c : Record) (e : List ℕ) where
   heard-left : (d : Decoded) → Left c ((heardTurn n a c e d) .after)
   unfolding hearTurn
   heard-left (Good m) = turn-left _ _ _ (hear-keeps c n a m)
-  heard-left Malformed = turn-left _ _ _ (refused c 0)
+  heard-left Malformed = turn-left _ _ _ (by-refused (Same c) 0 c refl)
 
   pub left-by : (call : Call) → Left c ((turnBy n a c e call) .after)
   left-by (on s q) = request-left q
   left-by (hear b) = heard-left (decodeOf b)
-  left-by (manage d) = turn-left _ _ _ (refused c 0)
+  left-by (manage d) = turn-left _ _ _ (by-refused (Same c) 0 c refl)
 
   module _ (long : length e ≡ n) where
     request-long : (q : Request) → length ((requestTurn n a c e q) .element) ≡ n

@@ -184,7 +184,8 @@ module _ (g : Group) (fresh : Fresh g) (first second : List Call) (o : AnotherOr
       same j e = Option·some-injective j i (sym (at-upto (length first) j (rw (length-upto (length first)) at (in-range firstly j i e))) ∙ e)
 
 -- calls that were made answered and left what the rules say
-by-rules : {g : Group} {cs : List Call} {said : List Answer} {end : Group} → Made g cs said end → (said ≡ answers g cs) × (end ≡ leaves g cs)
+pub by-rules : {g : Group} {cs : List Call} {said : List Answer} {end : Group} → Made g cs said end
+    → (said ≡ answers g cs) × (end ≡ leaves g cs)
 unfolding answers leaves
 by-rules none-made = (refl, refl)
 by-rules (one-made d m) = let r = by-rules m in (cc (r .0, d .answered, d .left), cc (r .1, d .left))

@@ -10,7 +10,7 @@ use Rattle.rules.specs.Rules.{Group, Request, read, on, Done, answer, refuses, 
 use Rattle.safety.proofs.Invariant.{Sound}
 use Rattle.safety.proofs.Effects.{opens, Acts, asks, hears, frees, Effect, refuses-it, links-it, samples-it, puts-turn, effect}
 use Rattle.refusals.proofs.Answers.{clash}
-use Rattle.safety.proofs.Accepted.{says-accepted}
+use Rattle.rules.proofs.Says.{says-accepted}
 use Rattle.positions.specs.Positions.{readIn, Placed, Journal, noted, afterCall, opened, nothing, placed, namesB, journalFrom}
 use Rattle.safety.proofs.Calls.{Opening}
 use Rattle.positions.proofs.Inbound.{request-reader, hear-reads-none}

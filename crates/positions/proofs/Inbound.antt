@@ -7,31 +7,27 @@ use mathlib.Core.List.{List, _++_}
 use Prim.Native.Nat.{ℕ, _-_}
 use Rattle.cursor.specs.Cursor.{gapOf, stepOf}
 use Rattle.cdc.specs.declared.Message.{Message}
-use Rattle.closing.specs.Closing.{stateOf, abortSent}
 use Rattle.connection.specs.declared.Record.{Record}
 use Rattle.outcome.specs.declared.Reply.{Reply}
-use Rattle.outcome.specs.declared.Reply.the-variants.{Heard, Read}
 use Rattle.outcome.specs.declared.Outcome.{Outcome}
 use Rattle.connection.specs.Connection.{zeroRecord, marksTo}
-use Rattle.outcome.specs.Outcome.{refusedOf, outcomeOf, urgentOutcome, toldOf, toldIn, closedIf}
+use Rattle.outcome.specs.Outcome.{toldOf, toldIn}
+use Rattle.outcome.proofs.Goes.{By, by-test, by-refused, by-outcome, by-urgent, by-shut, by-left}
 use Rattle.transmit.specs.Transmit.{sendOf, sentOf, urgentOf, urgentSendOf}
 use Rattle.produced.specs.Produced.{producedOf, urgedOf}
 use Rattle.receive.specs.Receive.{placeOf, readOf, takeOf, tornOf, consumedOf, consumedIn, clearedIn, unreadOf}
-use Rattle.hear.specs.Hear.{ruledOf, hearOf, abortedOf, followedOf, validatedOf, acceptedOf}
+use Rattle.hear.specs.Hear.{hearOf, abortedOf}
 use Rattle.heard.specs.Heard.{heardRecord, heardIn}
-use Rattle.hear.proofs.Laws.{aborted-shut, repliedTo, hear-cases, accepted-is}
+use Rattle.hear.proofs.Laws.{repliedTo, hear-cases, accepted-is}
 use Rattle.heard.proofs.Laws.{Produces}
 use Rattle.finish.specs.Finish.{resetOf, closingOf, shutdownOf, closeOf, abortOf}
 use Rattle.outcome.specs.declared.Placing.{Placing}
 use Rattle.pieces.specs.Pieces.{Piece, piecesOf}
 use Rattle.rules.specs.Rules.{Says, saysOf, refusal, accepted, Request, read, turnOf, requestTurn, send, gather, urgent, place, shutdown, close, abort, hearTurn, heard, torn, reset, sampled, linkChanged, linkHeard, linkSent, sent, gathered, wasRead, Turn}
-use Rattle.flow.specs.Flow.{takenOf}
 use Rattle.connection.specs.declared.Inbound.{Inbound}
-use Rattle.closing.specs.declared.State.the-variants.{PeerAbortWait}
 use Rattle.positions.specs.Positions.{movedIn, readIn}
 use Rattle.cursor.proofs.Laws.{step-none}
 use lib.ListN.{length}
-use Rattle.outcome.proofs.Laws.{outcome-reply, closed-reply}
 use Rattle.cursor.specs.declared.Cursor.{Cursor}
 use Rattle.refusals.proofs.Gathered.{carried}
 
@@ -43,106 +39,96 @@ pub record Steps (n : ℕ) (c : Record) (New : Cursor → Type 0) (says : Says) 
       ((d .inbound .producer ≡ c .inbound .producer) × (movedIn says ≡ 0))
       ⊎ (New (d .inbound .producer) × Produces n c (d .inbound .producer) × (movedIn says ≡ gapOf (n - 4) (c .inbound .producer) (d .inbound .producer)))
 
--- of an outcome: it closes the slot, or
-record Goes (n : ℕ) (c : Record) (New : Cursor → Type 0) (o : Outcome) : Type 0 where
-  steps : (o .after ≡ zeroRecord) ⊎ Steps n c New (saysOf (o .reply)) (o .made) (o .after)
+-- by the answer and the record before telling; no call but read names a number read
+record Moves (n : ℕ) (c : Record) (New : Cursor → Type 0) (r : Reply) (d : Record) : Type 0 where
+  steps : Steps n c New (saysOf r) false d
+  none-read : readIn (saysOf r) ≡ 0
 
 module _ (n : ℕ) (c : Record) (New : Cursor → Type 0) where
-  by-test : (t : Bool) (o p : Outcome) → Goes n c New o → Goes n c New p → Goes n c New (cond t o p)
-  by-test true o p h k = h
-  by-test false o p h k = k
+  abbrev Stepped : Outcome → Type 0
+  Stepped = By (λ r d. Steps n c New (saysOf r) false d)
 
-  -- a record with P, C and T as they were, and an answer that names nothing
-  quiet : (says : Says) (d : Record) → movedIn says ≡ 0 → readIn says ≡ 0 → d .inbound ≡ c .inbound → Steps n c New says false d
-  quiet says d m r e =
-      record {
-        C-steps = ap (λ (i : Inbound). i .consumer) e ∙ sym (step-none n (c .inbound .consumer)) ∙ ap (stepOf n (c .inbound .consumer)) (sym r);
-        T-tells = ap (λ (i : Inbound). i .told) e;
-        P-moves = inl (ap (λ (i : Inbound). i .producer) e, m);
-      }
-
-  refused : (k : ℕ) → Goes n c New (refusedOf k c)
-  unfolding refusedOf
-  refused k = record { steps = inr (quiet (refusal k) c refl refl refl) }
+  abbrev Moved : Outcome → Type 0
+  Moved = By (Moves n c New)
 
   -- making a message sets T to C
   tells : (says : Says) (d : Record) → Steps n c New says false d → Steps n c New says true (toldOf d)
   unfolding toldOf toldIn
   tells says d s = record { C-steps = s .C-steps; T-tells = refl; P-moves = s .P-moves }
 
-  outcome : (r : Reply) (t : Bool) (d : Record) → Steps n c New (saysOf r) false d → Goes n c New (outcomeOf r t d)
-  unfolding outcomeOf
-  outcome r true d s = record { steps = inr (tells (saysOf r) d s) }
-  outcome r false d s = record { steps = inr s }
+  stepped : (o : Outcome) → Stepped o → (o .after ≡ zeroRecord) ⊎ Steps n c New (saysOf (o .reply)) (o .made) (o .after)
+  stepped = by-left _ (λ r t d. Steps n c New (saysOf r) t d) (λ r d s. s) (λ r d s. tells (saysOf r) d s)
 
-  short : (r : Reply) (m : Message) (d : Record) → Steps n c New (saysOf r) false d → Goes n c New (urgentOutcome r m d)
-  unfolding urgentOutcome
-  short r m d s = record { steps = inr (tells (saysOf r) d s) }
+  moved : (o : Outcome) → Moved o → (o .after ≡ zeroRecord) ⊎ Steps n c New (saysOf (o .reply)) (o .made) (o .after)
+  moved o h = stepped o (record { before = h .before; goes = h .goes; stands = h .stands .steps })
 
-  shut : (t : Bool) (o : Outcome) → Goes n c New o → Goes n c New (closedIf t o)
-  unfolding closedIf
-  shut true o h = record { steps = inl refl }
-  shut false o h = h
+  -- a record with P, C and T as they were, and an answer that names nothing
+  stays : (says : Says) (d : Record) → movedIn says ≡ 0 → readIn says ≡ 0 → d .inbound ≡ c .inbound → Steps n c New says false d
+  stays says d m r e =
+      record {
+        C-steps =
+            ap (λ (i : Inbound). i .consumer) e
+            ∙ sym (step-none n (c .inbound .consumer))
+            ∙ ap (stepOf n (c .inbound .consumer)) (sym r);
+        T-tells = ap (λ (i : Inbound). i .told) e;
+        P-moves = inl (ap (λ (i : Inbound). i .producer) e, m);
+      }
+
+  quiet : (r : Reply) (d : Record) → movedIn (saysOf r) ≡ 0 → readIn (saysOf r) ≡ 0 → d .inbound ≡ c .inbound → Moves n c New r d
+  quiet r d m z e = record { steps = stays (saysOf r) d m z e; none-read = z }
 
   -- the record with what a message says
-  heard-steps : (m : Message) → New (m .producer) → Produces n c (m .producer) → Steps n c New (saysOf (repliedTo n c m)) false (heardRecord n c m)
+  heard-moves : (m : Message) → New (m .producer) → Produces n c (m .producer) → Moves n c New (repliedTo n c m) (heardRecord n c m)
   unfolding heardRecord heardIn marksTo
-  heard-steps m w p =
+  heard-moves m w p =
       record {
-        C-steps = sym (step-none n (c .inbound .consumer));
-        T-tells = refl;
-        P-moves = inr (w, p, refl);
+        steps = record { C-steps = sym (step-none n (c .inbound .consumer)); T-tells = refl; P-moves = inr (w, p, refl) };
+        none-read = refl;
       }
 
   module _ (a : Bool) where
-    send-goes : (k : ℕ) → Goes n c New (sendOf n a c k)
+    send-moves : (k : ℕ) → Moved (sendOf n a c k)
     unfolding sendOf sentOf producedOf
-    send-goes k = search (by-test, refused, outcome, quiet) depth 9
+    send-moves k = search (by-test, by-refused, by-outcome, quiet) depth 9
 
-    urgent-goes : (k : ℕ) → Goes n c New (urgentSendOf n a c k)
+    urgent-moves : (k : ℕ) → Moved (urgentSendOf n a c k)
     unfolding urgentSendOf urgentOf urgedOf producedOf
-    urgent-goes k = search (by-test, refused, outcome, short, quiet) depth 9
+    urgent-moves k = search (by-test, by-refused, by-outcome, by-urgent, quiet) depth 9
 
-    place-goes : (at k : ℕ) → Goes n c New (placeOf n a c at k)
+    place-moves : (at k : ℕ) → Moved (placeOf n a c at k)
     unfolding placeOf
-    place-goes at k = search (by-test, refused, outcome, quiet) depth 9
+    place-moves at k = search (by-test, by-refused, by-outcome, quiet) depth 9
 
-    shutdown-goes : Goes n c New (shutdownOf n a c)
+    shutdown-moves : Moved (shutdownOf n a c)
     unfolding shutdownOf marksTo
-    shutdown-goes = search (by-test, refused, outcome, quiet) depth 9
+    shutdown-moves = search (by-test, by-refused, by-outcome, quiet) depth 9
 
-    abort-goes : Goes n c New (abortOf n a c)
+    abort-moves : Moved (abortOf n a c)
     unfolding abortOf marksTo
-    abort-goes = search (by-test, refused, outcome, quiet) depth 9
+    abort-moves = search (by-test, by-refused, by-outcome, quiet) depth 9
 
-    close-goes : Goes n c New (closeOf n a c)
+    close-moves : Moved (closeOf n a c)
     unfolding closeOf resetOf closingOf marksTo
-    close-goes = search (by-test, refused, outcome, shut, quiet) depth 9
+    close-moves = search (by-test, by-refused, by-outcome, by-shut, quiet) depth 9
 
-    taken : (k : ℕ) → Goes n c New (takeOf n c k)
+    taken : (k : ℕ) → Stepped (takeOf n c k)
     unfolding takeOf consumedOf consumedIn clearedIn unreadOf
-    taken k =
-        let m = takenOf (gapOf (n - 4) (c .inbound .consumer) (c .inbound .producer)) k in
-        outcome (Read m) _ _
-        (record {
-          C-steps = refl;
-          T-tells = refl;
-          P-moves = inl (refl, refl);
-        })
+    taken k = by-outcome _ _ _ _ (record { C-steps = refl; T-tells = refl; P-moves = inl (refl, refl) })
 
-    read-goes : (t : Bool) (k : ℕ) → Goes n c New (readOf n a c t k)
+    read-steps : (t : Bool) (k : ℕ) → Stepped (readOf n a c t k)
     unfolding readOf tornOf marksTo
-    read-goes t k = search (by-test, refused, outcome, quiet, taken) depth 9
+    read-steps t k = search (by-test, by-refused, by-outcome, stays, taken) depth 9
 
     -- hear replaces P by what keeps the rules
-    heard-goes : (m : Message) → New (m .producer) → Goes n c New (hearOf n a c m)
-    unfolding marksTo
-    heard-goes m w =
-        hear-cases n a c m (Goes n c New) refused (record { steps = inl (aborted-shut c) })
-        (outcome (Heard 0 PeerAbortWait) false c (quiet _ c refl refl refl))
-        (outcome (Heard 0 (stateOf (c .marks))) false c (quiet _ c refl refl refl))
-        (outcome (Heard 0 PeerAbortWait) true (marksTo c (abortSent (c .marks))) (quiet _ (marksTo c (abortSent (c .marks))) refl refl refl))
-        (λ p r. rw (accepted-is n c m) (shut _ _ (outcome (repliedTo n c m) _ (heardRecord n c m) (heard-steps m w p))))
+    hear-moves : (m : Message) → New (m .producer) → Moved (hearOf n a c m)
+    unfolding abortedOf marksTo
+    hear-moves m w =
+        hear-cases n a c m Moved (λ k. by-refused _ k c (quiet _ c refl refl refl))
+        (by-shut _ true _ (by-outcome _ _ _ _ (quiet _ _ refl refl refl)))
+        (by-outcome _ _ _ c (quiet _ c refl refl refl))
+        (by-outcome _ _ _ c (quiet _ c refl refl refl))
+        (by-outcome _ _ _ _ (quiet _ _ refl refl refl))
+        (λ p r. rw (accepted-is n c m) (by-shut _ _ _ (by-outcome _ _ _ _ (heard-moves m w p))))
 
 module _ (n : ℕ) (a : Bool) (c : Record) (e : List ℕ) where
   -- what a turn does to P, C and T, unless it closes the slot
@@ -157,73 +143,27 @@ module _ (n : ℕ) (a : Bool) (c : Record) (e : List ℕ) where
   -- no call but hear moves P, so to nothing
   pub request-steps : (New : Cursor → Type 0) (q : Request) → Turned New (requestTurn n a c e q)
   unfolding requestTurn turnOf
-  request-steps New (send b) = send-goes n c New a (length b) .steps
-  request-steps New (urgent b) = urgent-goes n c New a (length b) .steps
+  request-steps New (send b) = moved n c New _ (send-moves n c New a (length b))
+  request-steps New (urgent b) = moved n c New _ (urgent-moves n c New a (length b))
   request-steps New (gather h b) =
       let o = sendOf n a c (length (h ++ b)) in
       carried (piecesOf c h b) (λ (s : Says). (o .after ≡ zeroRecord) ⊎ Steps n c New s (o .made) (o .after)) (as-sent New (o .made) (o .after))
-      (saysOf (o .reply)) (send-goes n c New a (length (h ++ b)) .steps)
-  request-steps New (place at b) = place-goes n c New a at (length b) .steps
-  request-steps New (read out) = read-goes n c New a _ (length out) .steps
-  request-steps New shutdown = shutdown-goes n c New a .steps
-  request-steps New close = close-goes n c New a .steps
-  request-steps New abort = abort-goes n c New a .steps
+      (saysOf (o .reply)) (moved n c New o (send-moves n c New a (length (h ++ b))))
+  request-steps New (place at b) = moved n c New _ (place-moves n c New a at (length b))
+  request-steps New (read out) = stepped n c New _ (read-steps n c New a _ (length out))
+  request-steps New shutdown = moved n c New _ (shutdown-moves n c New a)
+  request-steps New close = moved n c New _ (close-moves n c New a)
+  request-steps New abort = moved n c New _ (abort-moves n c New a)
 
   -- and hear to the message's
   pub hear-steps : (New : Cursor → Type 0) (m : Message) → New (m .producer) → Turned New (hearTurn n a c e m)
   unfolding hearTurn turnOf
-  hear-steps New m w = heard-goes n c New a m w .steps
+  hear-steps New m w = moved n c New _ (hear-moves n c New a m w)
 
 -- WHO READS: no call but read names a number read
-record Unread (o : Outcome) : Type 0 where
-  none-read : readIn (saysOf (o .reply)) ≡ 0
-
 module _ (n : ℕ) (a : Bool) (c : Record) where
-  either : (t : Bool) (o p : Outcome) → Unread o → Unread p → Unread (cond t o p)
-  either true o p h k = h
-  either false o p h k = k
-
-  refuses : (k : ℕ) → Unread (refusedOf k c)
-  unfolding refusedOf
-  refuses k = record { none-read = refl }
-
-  replies : (r : Reply) (t : Bool) (d : Record) → readIn (saysOf r) ≡ 0 → Unread (outcomeOf r t d)
-  replies r t d h = record { none-read = ap (λ s. readIn (saysOf s)) (outcome-reply r t d) ∙ h }
-
-  cuts : (r : Reply) (m : Message) (d : Record) → readIn (saysOf r) ≡ 0 → Unread (urgentOutcome r m d)
-  unfolding urgentOutcome
-  cuts r m d h = record { none-read = h }
-
-  closes : (t : Bool) (o : Outcome) → Unread o → Unread (closedIf t o)
-  closes t o h = record { none-read = ap (λ s. readIn (saysOf s)) (closed-reply t o) ∙ h .none-read }
-
-  send-unread : (k : ℕ) → Unread (sendOf n a c k)
-  unfolding sendOf sentOf
-  send-unread k = search (either, refuses, replies) depth 9
-
-  urgent-unread : (k : ℕ) → Unread (urgentSendOf n a c k)
-  unfolding urgentSendOf urgentOf
-  urgent-unread k = search (either, refuses, replies, cuts) depth 9
-
-  place-unread : (at k : ℕ) → Unread (placeOf n a c at k)
-  unfolding placeOf
-  place-unread at k = search (either, refuses, replies) depth 9
-
-  shutdown-unread : Unread (shutdownOf n a c)
-  unfolding shutdownOf
-  shutdown-unread = search (either, refuses, replies) depth 9
-
-  close-unread : Unread (closeOf n a c)
-  unfolding closeOf resetOf closingOf
-  close-unread = search (either, refuses, replies, closes) depth 9
-
-  abort-unread : Unread (abortOf n a c)
-  unfolding abortOf
-  abort-unread = search (either, refuses, replies) depth 9
-
-  hear-unread : (m : Message) → Unread (hearOf n a c m)
-  unfolding hearOf abortedOf followedOf validatedOf ruledOf acceptedOf
-  hear-unread m = search (either, refuses, replies, closes) depth 9
+  abbrev Any : Cursor → Type 0
+  Any p = Unit {0}
 
   -- a request that names a number read is a read
   abbrev pub Reader : Request → Says → Type 0
@@ -245,17 +185,17 @@ module _ (n : ℕ) (a : Bool) (c : Record) where
 
   pub request-reader : (e : List ℕ) (q : Request) → Reader q (requestTurn n a c e q .answer .says)
   unfolding requestTurn turnOf
-  request-reader e (send b) = inl (send-unread (length b) .none-read)
-  request-reader e (urgent b) = inl (urgent-unread (length b) .none-read)
+  request-reader e (send b) = inl (send-moves n c Any a (length b) .stands .none-read)
+  request-reader e (urgent b) = inl (urgent-moves n c Any a (length b) .stands .none-read)
   request-reader e (gather h b) =
       inl (carried (piecesOf c h b) (λ (s : Says). readIn s ≡ 0) (λ n p q r. r) (saysOf (sendOf n a c (length (h ++ b)) .reply))
-      (send-unread (length (h ++ b)) .none-read))
-  request-reader e (place at b) = inl (place-unread at (length b) .none-read)
+      (send-moves n c Any a (length (h ++ b)) .stands .none-read))
+  request-reader e (place at b) = inl (place-moves n c Any a at (length b) .stands .none-read)
   request-reader e (read out) = reader (read out) out refl _
-  request-reader e shutdown = inl (shutdown-unread .none-read)
-  request-reader e close = inl (close-unread .none-read)
-  request-reader e abort = inl (abort-unread .none-read)
+  request-reader e shutdown = inl (shutdown-moves n c Any a .stands .none-read)
+  request-reader e close = inl (close-moves n c Any a .stands .none-read)
+  request-reader e abort = inl (abort-moves n c Any a .stands .none-read)
 
   pub hear-reads-none : (e : List ℕ) (m : Message) → readIn (hearTurn n a c e m .answer .says) ≡ 0
   unfolding hearTurn turnOf
-  hear-reads-none e m = hear-unread m .none-read
+  hear-reads-none e m = hear-moves n c Any a m tt .stands .none-read

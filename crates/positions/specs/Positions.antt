@@ -21,9 +21,10 @@ use Rattle.connection.specs.declared.Remote.{Remote}
 use Rattle.connection.specs.Connection.{zeroToken, zeroRecord, startCursor}
 use Rattle.exchange.specs.declared.Role.the-variants.{Client}
 use Rattle.exchange.specs.Exchange.{noExchange, emptyQueue}
+use Rattle.rules.specs.Says.{saidIn}
 use Rattle.rules.specs.Rules.{Group, Request, send, gather, urgent, place, read, shutdown, close, abort, openSlot, freeSlot, linkChange}
-use Rattle.rules.specs.Rules.{linkMessage, linkSend, sample, Call, on, hear, manage, Says, refusal, accepted, sent, gathered, wasRead}
-use Rattle.rules.specs.Rules.{torn, reset, heard, sampled, linkChanged, linkHeard, linkSent, Answer, answer, next, recordOf, elementIn, Fresh}
+use Rattle.rules.specs.Rules.{linkMessage, linkSend, sample, Call, on, hear, manage, Says, accepted, wasRead}
+use Rattle.rules.specs.Rules.{heard, Answer, answer, next, recordOf, elementIn, Fresh}
 use Rattle.order.specs.Statement.{leaves, answers, At}
 use Rattle.safety.specs.Statement.{OpenAt, acceptedB, Opens}
 
@@ -51,32 +52,10 @@ opened own = record { own = own; announced = 0; handed = 0; told = 0; stream = [
 
 -- what an answer names: how far P moved, and how many bytes were read
 abbrev pub movedIn : Says → ℕ
-movedIn (refusal k) = 0
-movedIn accepted = 0
-movedIn (sent n p) = 0
-movedIn (gathered n p) = 0
-movedIn (wasRead n) = 0
-movedIn torn = 0
-movedIn (heard moved state) = moved
-movedIn reset = 0
-movedIn (sampled q) = 0
-movedIn (linkChanged n) = 0
-movedIn (linkHeard f t u n) = 0
-movedIn (linkSent u n) = 0
+movedIn says = saidIn says .moved
 
 abbrev pub readIn : Says → ℕ
-readIn (refusal k) = 0
-readIn accepted = 0
-readIn (sent n p) = 0
-readIn (gathered n p) = 0
-readIn (wasRead n) = n
-readIn torn = 0
-readIn (heard moved state) = 0
-readIn reset = 0
-readIn (sampled q) = 0
-readIn (linkChanged n) = 0
-readIn (linkHeard f t u n) = 0
-readIn (linkSent u n) = 0
+readIn says = saidIn says .handed
 
 -- the bytes that a call places, and their offset; of other calls, none
 pub record Placed : Type 0 where

@@ -9,7 +9,8 @@ use Rattle.outcome.specs.declared.Reply.{Reply}
 use Rattle.outcome.specs.declared.Reply.the-variants.{Refused, Accepted, Sent, Read, Torn, Reset, Heard, Sampled}
 use Rattle.outcome.specs.declared.Outcome.{Outcome}
 use Rattle.connection.specs.Connection.{coherentB, refusalOf}
-use Rattle.outcome.specs.Outcome.{refusedOf, outcomeOf, urgentOutcome, closedIf}
+use Rattle.outcome.specs.Outcome.{refusedOf}
+use Rattle.outcome.proofs.Goes.{By, by-test, by-refused, by-outcome, by-urgent, by-shut}
 use Rattle.transmit.specs.Transmit.{sendOf, sentOf, urgentOf, urgentSendOf}
 use Rattle.receive.specs.Receive.{placeOf, readOf, takeOf}
 use Rattle.hear.specs.Hear.{ruledOf, hearOf, abortedOf, followedOf, validatedOf, acceptedOf}
@@ -51,18 +52,14 @@ fair-torn (Heard moved state) f e = clash (cc)
 fair-torn Reset f e = clash (cc)
 fair-torn (Sampled q) f e = clash (cc)
 
-pub record Answers (o : Outcome) : Type 0 where
-  pub fair : Fair (o .reply)
+abbrev pub Answers : Outcome → Type 0
+Answers = By (λ r d. Fair r)
 
 module _ (n : ℕ) (active : Bool) (c : Record) (ok : coherentB n c ≡ true) where
-  by-test : (t : Bool) (o p : Outcome) → Answers o → Answers p → Answers (cond t o p)
-  by-test true o p h k = h
-  by-test false o p h k = k
-
   -- what is tested before all else is never 3
   first : (forbids : Bool) → Answers (refusedOf (refusalOf n active c forbids) c)
-  unfolding refusedOf refusalOf
-  first forbids = record { fair = rw ok (go active forbids) }
+  unfolding refusalOf
+  first forbids = by-refused _ _ c (rw ok (go active forbids))
     where
       go : (a f : Bool) → _≡_ {A = ℕ} (cond a (cond f 7 0) 6) 3 → ⊥
       go true true e = omega (arith, e)
@@ -70,59 +67,42 @@ module _ (n : ℕ) (active : Bool) (c : Record) (ok : coherentB n c ≡ true) wh
       go false f e = omega (arith, e)
 
   cursors : Answers (refusedOf 8 c)
-  unfolding refusedOf
-  cursors = record { fair = λ e. omega (arith, e) }
+  cursors = by-refused _ 8 c (λ e. omega (arith, e))
 
   number : Answers (refusedOf 16 c)
-  unfolding refusedOf
-  number = record { fair = λ e. omega (arith, e) }
+  number = by-refused _ 16 c (λ e. omega (arith, e))
 
   outside : Answers (refusedOf 9 c)
-  unfolding refusedOf
-  outside = record { fair = λ e. omega (arith, e) }
-
-  outcome : (r : Reply) (t : Bool) (d : Record) → Fair r → Answers (outcomeOf r t d)
-  unfolding outcomeOf
-  outcome r true d h = record { fair = h }
-  outcome r false d h = record { fair = h }
-
-  short : (r : Reply) (m : Message) (d : Record) → Fair r → Answers (urgentOutcome r m d)
-  unfolding urgentOutcome
-  short r m d h = record { fair = h }
-
-  shut : (t : Bool) (o : Outcome) → Answers o → Answers (closedIf t o)
-  unfolding closedIf
-  shut true o h = record { fair = h .fair }
-  shut false o h = h
+  outside = by-refused _ 9 c (λ e. omega (arith, e))
 
   pub send-answers : (k : ℕ) → Answers (sendOf n active c k)
   unfolding sendOf sentOf
-  send-answers k = search (by-test, first, outcome) depth 9
+  send-answers k = search (by-test, first, by-outcome) depth 9
 
   pub urgent-answers : (k : ℕ) → Answers (urgentSendOf n active c k)
   unfolding urgentSendOf urgentOf
-  urgent-answers k = search (by-test, first, outcome, short) depth 9
+  urgent-answers k = search (by-test, first, by-outcome, by-urgent) depth 9
 
   pub place-answers : (at k : ℕ) → Answers (placeOf n active c at k)
   unfolding placeOf
-  place-answers at k = search (by-test, first, outside, outcome) depth 9
+  place-answers at k = search (by-test, first, outside, by-outcome) depth 9
 
   pub read-answers : (k : ℕ) → Answers (readOf n active c true k)
   unfolding readOf takeOf
-  read-answers k = search (by-test, first, outcome) depth 9
+  read-answers k = search (by-test, first, by-outcome) depth 9
 
   pub hear-answers : (m : Message) → Answers (hearOf n active c m)
   unfolding hearOf abortedOf followedOf validatedOf ruledOf acceptedOf
-  hear-answers m = search (by-test, first, number, cursors, outcome, shut) depth 9
+  hear-answers m = search (by-test, first, number, cursors, by-outcome, by-shut) depth 9
 
   pub shutdown-answers : Answers (shutdownOf n active c)
   unfolding shutdownOf
-  shutdown-answers = search (by-test, first, outcome) depth 9
+  shutdown-answers = search (by-test, first, by-outcome) depth 9
 
   pub close-answers : Answers (closeOf n active c)
   unfolding closeOf resetOf closingOf
-  close-answers = search (by-test, first, outcome, shut) depth 9
+  close-answers = search (by-test, first, by-outcome, by-shut) depth 9
 
   pub abort-answers : Answers (abortOf n active c)
   unfolding abortOf
-  abort-answers = search (by-test, first, outcome) depth 9
+  abort-answers = search (by-test, first, by-outcome) depth 9

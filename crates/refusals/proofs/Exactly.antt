@@ -1,7 +1,7 @@
 -- `ExactlyWhen` of specs/Refusals: what a call's first failing test gives, walked test by test. Assumes nothing.
 use mathlib.Core.Path.{_≡_, refl, sym, ap, _∙_}
 use mathlib.Core.Bool.{Bool, true, false, _&&_, _||_, not, cond, and-true, and-false, and-assoc, or-false, or-assoc}
-use mathlib.Core.Option.{Option, some, none}
+use mathlib.Core.Option.{Option, some, none, Option·some-injective}
 use mathlib.Core.List.{List, [], _∷_, _++_}
 use Prim.Native.Nat.{ℕ, zero, suc, _+_, _-_, _*_, _≤_}
 use native.Mathlib.Omega.{arith}
@@ -10,7 +10,6 @@ use lib.ListN.{length, getD}
 use borrow.Author.Tests.{eqb-true, lt-ltb, le-ltb, le-leb, lt-leb, leb-true, leb-false, ne-eqb}
 use Rattle.cursor.specs.Cursor.{inRange, sameB, goodB, gapOf}
 use Rattle.cdc.specs.declared.Message.{Message}
-use Rattle.cdc.specs.declared.Decoded.{Decoded}
 use Rattle.cdc.specs.declared.Decoded.the-variants.{Good, Malformed}
 use Rattle.cdc.specs.Cdc.{fieldsOf, decodeOf}
 use Rattle.llc.specs.Llc.{between, classOf}
@@ -27,11 +26,10 @@ use Rattle.linkcalls.specs.Calls.{downB, optionalB, messageB, messageRefusal, h
 use Rattle.closing.specs.declared.Marks.{Marks}
 use Rattle.closing.specs.declared.State.{State}
 use Rattle.closing.specs.declared.State.the-variants.{PeerAbortWait}
-use Rattle.closing.specs.Closing.{marked, closeStateOf, stateOf, doneSent, closedSent, abortSent}
-use Rattle.outcome.specs.declared.Placings.the-variants.{Nowhere}
+use Rattle.closing.specs.Closing.{marked, closeStateOf, stateOf, doneSent, abortSent}
 use Rattle.connection.specs.declared.Record.{Record}
 use Rattle.outcome.specs.declared.Reply.{Reply}
-use Rattle.outcome.specs.declared.Reply.the-variants.{Accepted, Sent, Heard}
+use Rattle.outcome.specs.declared.Reply.the-variants.{Accepted, Heard}
 use Rattle.outcome.specs.declared.Outcome.{Outcome}
 use Rattle.connection.specs.Connection.{fitsB, remoteOk, coherentB, refusalOf, marksTo}
 use Rattle.outcome.specs.Outcome.{sequenceAfter, refusedOf, outcomeOf, urgentOutcome, closedIf}
@@ -50,53 +48,30 @@ use Rattle.table.specs.Table.{sizesB, slotB, openB, activeB, gaugeAt, findFrom,
 use Rattle.connection.specs.declared.Opening.{Opening}
 use Rattle.table.specs.Table.{linkIn}
 use Rattle.pieces.specs.Pieces.{piecesOf}
-use Rattle.rules.specs.Rules.{Group, Request, send, gather, urgent, place, read, shutdown, close, abort, openSlot, freeSlot, linkChange, linkMessage, linkSend, sample, Call, on, hear, manage, Says, refusal, accepted, sent, gathered, wasRead, torn, reset, heard, sampled, linkChanged, linkHeard, linkSent, saysOf, turnOf, requestTurn, hearTurn, Done, refuses, answer, sizesOk, recordOf, elementIn, linkOf, putTurn, onDoes, holderOf, hearAt, hearMessage, hearDoes, openRefusal, openDoes, freeRefusal, freeDoes, lentOk, linkRefusal, failsOver, linkDoes, linkMessageDoes, linkSendDoes, linksOf, withLinks, healthy, sampleRefusal, sampleDoes, does, badOpening}
-use Rattle.refusals.specs.Refusals.{outside, sizesWrong, lentWrong, slotOutside, slotClosed, incoherent, byteIs, malformedLink, tokenUnheld, connectionDown, linkDown, addedB, messageDown, stateForbids, aborting, notAborting, producerBroken, consumerBroken, byteFree, unplaceable, alreadyOpen, tokenHeld, zeroOrOut, linkOutside, actedOutside, heardFate, messageOutside, queueFull, sendable, sendingBarred, tooLong, Test, _when_, placeTest, tests, firstOf, Exactly, ExactlyWhen}
+use Rattle.rules.specs.Says.{saidIn}
+use Rattle.rules.proofs.Says.{says-refusal}
+use Rattle.rules.specs.Rules.{Group, Request, send, gather, urgent, place, read, shutdown, close, abort, openSlot, freeSlot, linkChange, linkMessage, linkSend, sample, Call, on, hear, manage, Says, refusal, sent, heard, saysOf, turnOf, requestTurn, hearTurn, Done, refuses, answer, sizesOk, recordOf, elementIn, linkOf, putTurn, onDoes, holderOf, hearAt, hearMessage, hearDoes, openRefusal, openDoes, freeRefusal, freeDoes, lentOk, linkRefusal, failsOver, linkDoes, linkMessageDoes, linkSendDoes, linksOf, withLinks, healthy, sampleRefusal, sampleDoes, does, badOpening}
+use Rattle.refusals.specs.Refusals.{outside, sizesWrong, lentWrong, slotOutside, slotClosed, incoherent, byteIs, malformedLink, tokenUnheld, connectionDown, linkDown, addedB, messageDown, stateForbids, aborting, notAborting, producerBroken, consumerBroken, byteFree, unplaceable, alreadyOpen, tokenHeld, zeroOrOut, linkOutside, actedOutside, heardFate, messageOutside, queueFull, sendable, sendingBarred, tooLong, Test, _when_, placeTest, tests, firstOf, ExactlyWhen}
 use Rattle.refusals.proofs.Answers.{clash}
 use Rattle.refusals.proofs.Gathered.{carried}
 
 -- the number of a refusal
 abbrev number : Says → Option ℕ
-number (refusal k) = some k
-number accepted = none
-number (sent n p) = none
-number (gathered n p) = none
-number (wasRead n) = none
-number torn = none
-number (heard moved state) = none
-number reset = none
-number (sampled q) = none
-number (linkChanged n) = none
-number (linkHeard f t u n) = none
-number (linkSent u n) = none
+number says = cond (saidIn says .refuses) (some (saidIn says .refused)) none
 
 number-is : (s : Says) (k : ℕ) → number s ≡ some k → s ≡ refusal k
-number-is (refusal j) k e = cc
-number-is accepted k e = cc
-number-is (sent n p) k e = cc
-number-is (gathered n p) k e = cc
-number-is (wasRead n) k e = cc
-number-is torn k e = cc
-number-is (heard moved state) k e = cc
-number-is reset k e = cc
-number-is (sampled q) k e = cc
-number-is (linkChanged n) k e = cc
-number-is (linkHeard f t u n) k e = cc
-number-is (linkSent u n) k e = cc
+number-is s k = go (saidIn s .refuses) refl
+  where
+    go : (t : Bool) → saidIn s .refuses ≡ t → cond t (some (saidIn s .refused)) none ≡ some k → s ≡ refusal k
+    go true r e = says-refusal s r ∙ ap refusal (Option·some-injective (saidIn s .refused) k e)
+    go false r e = cc
 
 unnumbered : (s : Says) → ((k : ℕ) → s ≡ refusal k → ⊥) → number s ≡ none
-unnumbered (refusal k) h = absurd (h k refl)
-unnumbered accepted h = refl
-unnumbered (sent n p) h = refl
-unnumbered (gathered n p) h = refl
-unnumbered (wasRead n) h = refl
-unnumbered torn h = refl
-unnumbered (heard moved state) h = refl
-unnumbered reset h = refl
-unnumbered (sampled q) h = refl
-unnumbered (linkChanged n) h = refl
-unnumbered (linkHeard f t u n) h = refl
-unnumbered (linkSent u n) h = refl
+unnumbered s h = go (saidIn s .refuses) refl
+  where
+    go : (t : Bool) → saidIn s .refuses ≡ t → cond t (some (saidIn s .refused)) none ≡ none
+    go true r = absurd (h (saidIn s .refused) (says-refusal s r))
+    go false r = refl
 
 -- TESTS. What F makes of the outcome of a test: where the test fails, its number; else what the tests after it give
 module _ {A : Type 0} (F : A → Option ℕ) (n : ℕ) (l : List Test) where

@@ -23,7 +23,8 @@ use Rattle.hear.specs.Hear.{ruledOf, hearOf, abortedOf, validatedOf, followedOf
 use Rattle.finish.specs.Finish.{resetOf, closingOf, shutdownOf, closeOf, abortOf}
 use Rattle.table.specs.Table.{recordAt, withRecord}
 use Rattle.pieces.specs.Pieces.{piecesOf}
-use Rattle.rules.specs.Rules.{Group, Request, send, gather, urgent, place, read, shutdown, close, abort, openSlot, freeSlot, linkChange, linkMessage, linkSend, sample, Call, on, hear, manage, Says, refusal, accepted, sent, gathered, wasRead, torn, reset, heard, sampled, linkChanged, linkHeard, linkSent, saysOf, answerInPieces, turnOf, placedIn, readInto, requestTurn, hearTurn, Done, refuses, recordOf, elementIn, linkOf, putTurn, outOf, onDoes, holderOf, hearAt, hearMessage, hearDoes, openDoes, freeDoes, failsOver, linkDoes, linkMessageDoes, linkSendDoes, sampleDoes, does}
+use Rattle.rules.specs.Says.{saidIn}
+use Rattle.rules.specs.Rules.{Group, Request, send, gather, urgent, place, read, shutdown, close, abort, openSlot, freeSlot, linkChange, linkMessage, linkSend, sample, Call, on, hear, manage, Says, refusal, saysOf, answerInPieces, turnOf, placedIn, readInto, requestTurn, hearTurn, Done, refuses, recordOf, elementIn, linkOf, putTurn, outOf, onDoes, holderOf, hearAt, hearMessage, hearDoes, openDoes, freeDoes, failsOver, linkDoes, linkMessageDoes, linkSendDoes, sampleDoes, does}
 use Rattle.refusals.specs.Refusals.{lentOut, RefusedKeeps}
 use Rattle.refusals.proofs.Gathered.{refused-in}
 
@@ -49,18 +50,7 @@ unfolding putTurn turnOf refusedOf refuses
 turn-back g j k out = rw (table-back (g .table) j, memory-back (g .memory) (g .N) j)
 
 abbrev refusalB : Says → Bool
-refusalB (refusal k) = true
-refusalB accepted = false
-refusalB (sent n p) = false
-refusalB (gathered n p) = false
-refusalB (wasRead n) = false
-refusalB torn = false
-refusalB (heard moved state) = false
-refusalB reset = false
-refusalB (sampled q) = false
-refusalB (linkChanged n) = false
-refusalB (linkHeard f t u n) = false
-refusalB (linkSent u n) = false
+refusalB says = saidIn says .refuses
 
 -- what x does, by F: where it refuses, it does no more than that
 module _ {A : Type 0} (g : Group) (out : List ℕ) (F : A → Done) where

@@ -17,7 +17,8 @@ use Rattle.connection.specs.declared.Record.{Record}
 use Rattle.connection.specs.Connection.{zeroRecord, openedRecord, marksTo}
 use Rattle.outcome.specs.declared.Reply.{Reply}
 use Rattle.outcome.specs.declared.Outcome.{Outcome}
-use Rattle.outcome.specs.Outcome.{refusedOf, outcomeOf, urgentOutcome, toldOf, usedIn, closedIf, sequenceAfter}
+use Rattle.outcome.specs.Outcome.{toldOf, usedIn, sequenceAfter}
+use Rattle.outcome.proofs.Goes.{By, by-test, by-refused, by-outcome, by-urgent, by-shut, by-left}
 use Rattle.transmit.specs.Transmit.{sendOf, sentOf, urgentOf, urgentSendOf}
 use Rattle.produced.specs.Produced.{producedOut, producedOf, urgedOut, urgedOf}
 use Rattle.receive.specs.Receive.{placeOf, readOf, takeOf, tornOf, consumedOf}
@@ -48,79 +49,65 @@ use Rattle.resilience.specs.Resilience.{oneMore, madeAfter, madeFrom, ma
 abbrev Uses : Record → Bool → Record → Type 0
 Uses c made d = (d ≡ zeroRecord) ⊎ (d .outbound .next ≡ cond made (sequenceAfter (c .outbound .next)) (c .outbound .next))
 
-record Leaves (c : Record) (o : Outcome) : Type 0 where
-  uses : Uses c (o .made) (o .after)
+abbrev Same : Record → Reply → Record → Type 0
+Same c r d = d .outbound .next ≡ c .outbound .next
 
-module _ (c : Record) where
-  by-test : (t : Bool) (o p : Outcome) → Leaves c o → Leaves c p → Leaves c (cond t o p)
-  by-test true o p h k = h
-  by-test false o p h k = k
+abbrev Leaves : Record → Outcome → Type 0
+Leaves c = By (Same c)
 
-  refused : (k : ℕ) → Leaves c (refusedOf k c)
-  unfolding refusedOf
-  refused k = record { uses = inr refl }
-
-  outcome : (r : Reply) (t : Bool) (d : Record) → d .outbound .next ≡ c .outbound .next → Leaves c (outcomeOf r t d)
-  unfolding outcomeOf toldOf usedIn
-  outcome r true d e = record { uses = inr (ap sequenceAfter e) }
-  outcome r false d e = record { uses = inr e }
-
-  short : (r : Reply) (m : Message) (d : Record) → d .outbound .next ≡ c .outbound .next → Leaves c (urgentOutcome r m d)
-  unfolding urgentOutcome toldOf usedIn
-  short r m d e = record { uses = inr (ap sequenceAfter e) }
-
-  shut : (t : Bool) (o : Outcome) → Leaves c o → Leaves c (closedIf t o)
-  unfolding closedIf
-  shut true o h = record { uses = inl refl }
-  shut false o h = h
+uses : (c : Record) (o : Outcome) → Leaves c o → Uses c (o .made) (o .after)
+unfolding toldOf usedIn
+uses c =
+    by-left (Same c) (λ r t d. d .outbound .next ≡ cond t (sequenceAfter (c .outbound .next)) (c .outbound .next)) (λ r d e. e)
+    (λ r d e. ap sequenceAfter e)
 
 module _ (n : ℕ) (a : Bool) (c : Record) where
   send-leaves : (k : ℕ) → Leaves c (sendOf n a c k)
   unfolding sendOf sentOf producedOf producedOut
-  send-leaves k = search (by-test, refused, outcome) depth 9
+  send-leaves k = search (by-test, by-refused, by-outcome) depth 9
 
   urgent-leaves : (k : ℕ) → Leaves c (urgentSendOf n a c k)
   unfolding urgentSendOf urgentOf urgedOf urgedOut producedOf producedOut
-  urgent-leaves k = search (by-test, refused, outcome, short) depth 9
+  urgent-leaves k = search (by-test, by-refused, by-outcome, by-urgent) depth 9
 
   place-leaves : (at k : ℕ) → Leaves c (placeOf n a c at k)
   unfolding placeOf
-  place-leaves at k = search (by-test, refused, outcome) depth 9
+  place-leaves at k = search (by-test, by-refused, by-outcome) depth 9
 
   read-leaves : (t : Bool) (k : ℕ) → Leaves c (readOf n a c t k)
   unfolding readOf takeOf tornOf consumedOf marksTo
-  read-leaves t k = search (by-test, refused, outcome) depth 9
+  read-leaves t k = search (by-test, by-refused, by-outcome) depth 9
 
   hear-leaves : (m : Message) → Leaves c (hearOf n a c m)
   unfolding hearOf abortedOf followedOf validatedOf ruledOf acceptedOf heardRecord heardOut marksTo
-  hear-leaves m = search (by-test, refused, outcome, shut) depth 9
+  hear-leaves m = search (by-test, by-refused, by-outcome, by-shut) depth 9
 
   shutdown-leaves : Leaves c (shutdownOf n a c)
   unfolding shutdownOf marksTo
-  shutdown-leaves = search (by-test, refused, outcome) depth 9
+  shutdown-leaves = search (by-test, by-refused, by-outcome) depth 9
 
   close-leaves : Leaves c (closeOf n a c)
   unfolding closeOf resetOf closingOf marksTo
-  close-leaves = search (by-test, refused, outcome, shut) depth 9
+  close-leaves = search (by-test, by-refused, by-outcome, by-shut) depth 9
 
   abort-leaves : Leaves c (abortOf n a c)
   unfolding abortOf marksTo
-  abort-leaves = search (by-test, refused, outcome) depth 9
+  abort-leaves = search (by-test, by-refused, by-outcome) depth 9
 
   request-uses : (e : List ℕ) (q : Request) → let t = requestTurn n a c e q in Uses c (t .answer .made) (t .after)
   unfolding requestTurn turnOf
-  request-uses e (send b) = send-leaves (length b) .uses
-  request-uses e (urgent b) = urgent-leaves (length b) .uses
-  request-uses e (gather h b) = send-leaves (length (h ++ b)) .uses
-  request-uses e (place at b) = place-leaves at (length b) .uses
-  request-uses e (read out) = read-leaves _ (length out) .uses
-  request-uses e shutdown = shutdown-leaves .uses
-  request-uses e close = close-leaves .uses
-  request-uses e abort = abort-leaves .uses
+  request-uses e (send b) = uses c _ (send-leaves (length b))
+  request-uses e (urgent b) = uses c _ (urgent-leaves (length b))
+  request-uses e (gather h b) = uses c _ (send-leaves (length (h ++ b)))
+  request-uses e (place at b) = uses c _ (place-leaves at (length b))
+  request-uses e (read out) = uses c _ (read-leaves _ (length out))
+  request-uses e shutdown = uses c _ (shutdown-leaves)
+  request-uses e close = uses c _ (close-leaves)
+  request-uses e abort = uses c _ (abort-leaves)
 
   hear-uses : (e : List ℕ) (m : Message) → let t = hearTurn n a c e m in Uses c (t .answer .made) (t .after)
   unfolding hearTurn turnOf
-  hear-uses e m = hear-leaves m .uses
+  hear-uses e m = uses c _ (hear-leaves m)
 
 -- ONE CALL ON
 abbrev Next : Group → ℕ → List (List ℕ) → Type 0

@@ -4,7 +4,7 @@ use mathlib.Core.Path.{_≡_, refl, sym, ap, _∙_, subst}
 use mathlib.Core.Bool.{Bool, true, false, false≢true, cond}
 use mathlib.Core.List.{List, [], _∷_, _++_, append-nil}
 use native.Mathlib.Omega.{arith}
-use lib.Dec.{eqb, eqb·suc-zero}
+use lib.Dec.{eqb}
 use lib.ListN.{length, length-append}
 use borrow.Author.Tests.{eq-eqb, eqb-true, ne-eqb}
 use Rattle.cdc.specs.declared.Message.{Message}
@@ -21,10 +21,11 @@ use Rattle.heard.specs.Heard.{nextB}
 use Rattle.hear.specs.Hear.{abortedOf, ruledOf, validatedOf, followedOf, hearOf}
 use Rattle.finish.specs.Finish.{abortOf}
 use Rattle.rules.specs.Rules.{Group, abort, on, hear, turnOf, requestTurn, hearTurn, Done, does, answer, putTurn, recordOf, elementIn}
-use Rattle.rules.specs.Rules.{linkOf, sizesOk, holderOf, onDoes, hearAt, hearMessage, hearDoes, refuses}
+use Rattle.rules.specs.Rules.{linkOf, sizesOk, holderOf}
 use Rattle.order.specs.Statement.{leaves}
 use Rattle.refusals.proofs.Refusals.{memory-back, table-back}
 use Rattle.safety.specs.Statement.{OpenAt}
+use Rattle.safety.proofs.OnSlot.{on-open, hear-open}
 use Rattle.safety.proofs.Invariant.{Sound, no-slot-0}
 use Rattle.safety.proofs.Sound.{sound-fresh, sound-leaves}
 use Rattle.safety.proofs.Theorem.{tokens-apart}
@@ -57,23 +58,6 @@ module _ (h : Group) (ok : sizesOk h ≡ true) (i : ℕ) (o : OpenAt h (suc i)) 
   abbrev k : ℕ
   k = suc i
 
-  heard-does : (b : List ℕ) (m : Message) → decodeOf b ≡ Good m → holderOf h (m .token) ≡ k
-      → does h (hear b) ≡ putTurn h k (hearTurn (h .N) (linkOf h k) (recordOf h k) (elementIn h k) m)
-  unfolding hearDoes hearAt
-  heard-does b m d e =
-      (λ z. cond (ok z) (hearMessage h (d z)) (refuses h 1 []))
-      ∙ ap (hearAt h m) e
-      ∙ ap (λ (t : Bool). cond t (refuses h 5 []) (putTurn h k (hearTurn (h .N) (linkOf h k) (recordOf h k) (elementIn h k) m)))
-      (eqb·suc-zero i)
-
-  on-does : does h (on k abort) ≡ putTurn h k (requestTurn (h .N) (linkOf h k) (recordOf h k) (elementIn h k) abort)
-  unfolding onDoes
-  on-does =
-      λ z.
-      cond (ok z)
-      (cond (o z) (putTurn h k (requestTurn (h .N) (linkOf h k) (recordOf h k) (elementIn h k) abort)) (refuses h 2 []))
-      (refuses h 1 [])
-
   abbrev put : Outcome → Done
   put x = putTurn h k (turnOf x (elementIn h k) [])
 
@@ -89,14 +73,14 @@ module _ (h : Group) (s : Sound h) (i : ℕ) (o : OpenAt h (suc i)) (a : recordO
   hear-is : does h (hear b) ≡ put h sizes i o (validatedOf c m)
   unfolding hearTurn
   hear-is =
-      heard-does h sizes i o b m d e
+      hear-open h sizes (suc i) o b m d e
       ∙ ap (λ (t : Bool). put h sizes i o (hearOf (h .N) t c m)) up
       ∙ ap (put h sizes i o) (validated (h .N) c m (s .coherent i o) a x f)
 
   abort-is : does h (on (suc i) abort) ≡ put h sizes i o (outcomeOf Accepts true (marksTo c (abortSent (c .marks))))
   unfolding requestTurn
   abort-is =
-      on-does h sizes i o
+      on-open h (suc i) abort sizes o
       ∙ ap (λ (t : Bool). put h sizes i o (abortOf (h .N) t c)) up
       ∙ ap (put h sizes i o) (aborts (h .N) c m (s .coherent i o) a)
 

@@ -20,8 +20,9 @@ use Rattle.connection.specs.declared.Record.{Record}
 use Rattle.connection.specs.Connection.{coherentB}
 use Rattle.table.specs.Table.{linkIn, activeB, openB}
 use Rattle.linktheorems.specs.Statements.{Call as LinkCall}
+use Rattle.rules.specs.Says.{saidIn}
 use Rattle.rules.specs.Rules.{Group, abort, openSlot, freeSlot, linkChange, linkMessage, linkSend, sample, Call, on, hear, manage, Says}
-use Rattle.rules.specs.Rules.{refusal, accepted, sent, gathered, wasRead, torn, reset, heard, sampled, linkChanged, linkHeard, linkSent}
+use Rattle.rules.specs.Rules.{refusal, accepted, sent, heard}
 use Rattle.rules.specs.Rules.{Answer, answer, next, recordOf, linkOf, holderOf, Fresh}
 use Rattle.order.specs.Statement.{leaves, At, hearer}
 use Rattle.safety.specs.Statement.{OpenAt, ownOf, acceptedB}
@@ -104,18 +105,7 @@ OnlyTheLink = (g : Group) (c : LinkCall) (b : List ℕ) → OnlyLinks g (next g 
 
 -- the count of an answer
 abbrev pub countIn : Says → ℕ
-countIn (refusal k) = 0
-countIn accepted = 0
-countIn (sent n p) = 0
-countIn (gathered n p) = 0
-countIn (wasRead n) = 0
-countIn torn = 0
-countIn (heard moved state) = 0
-countIn reset = 0
-countIn (sampled q) = 0
-countIn (linkChanged n) = n
-countIn (linkHeard f t u n) = n
-countIn (linkSent u n) = n
+countIn says = saidIn says .messages
 
 -- link send keeps all records, and its buffer
 abbrev pub SendKeeps : Type 0

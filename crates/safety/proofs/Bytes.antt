@@ -16,7 +16,7 @@ use Rattle.order.specs.Statement.{leaves}
 use Rattle.order.proofs.Slots.{element-long}
 use Rattle.safety.specs.Statement.{OpenAt, acceptedB, changedBy, heldAfter, Opens, Covers}
 use Rattle.refusals.proofs.Answers.{clash}
-use Rattle.safety.proofs.Accepted.{says-accepted}
+use Rattle.rules.proofs.Says.{says-accepted}
 use Rattle.safety.proofs.Invariant.{Sound, sizes}
 use Rattle.safety.proofs.Changed.{Changes, opens, places, stays, changes}
 use Rattle.safety.proofs.Calls.{Opening}

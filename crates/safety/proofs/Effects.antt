@@ -19,7 +19,7 @@ use Rattle.gauge.specs.Gauge.{mostMs, sampledOf}
 use Rattle.connection.specs.declared.Opening as Given
 use Rattle.connection.specs.Connection.{openedRecord}
 use Rattle.table.specs.Table.{linkIn}
-use Rattle.rules.specs.Rules.{plainTurn, badOpening, Group, Request, openSlot, freeSlot, linkChange, linkMessage, linkSend, sample, Call, on, hear, manage, Says, refusal, torn, linkChanged, linkHeard, linkSent, Turn, requestTurn, hearTurn, Done, does, answer, refuses, putTurn, recordOf, elementIn, linkOf, sizesOk, outOf, onDoes, holderOf, hearAt, hearMessage, hearDoes, plain, openRefusal, openDoes, freeRefusal, freeDoes, lentOk, linkRefusal, failsOver, linkDoes, linkMessageDoes, linkSendDoes, linksOf, withLinks, healthy, sampleRefusal, sampleDoes}
+use Rattle.rules.specs.Rules.{plainTurn, badOpening, Group, Request, openSlot, freeSlot, linkChange, linkMessage, linkSend, sample, Call, on, hear, manage, Says, refusal, torn, linkChanged, linkHeard, linkSent, Turn, requestTurn, hearTurn, Done, does, answer, refuses, putTurn, recordOf, elementIn, linkOf, sizesOk, outOf, onDoes, holderOf, hearAt, hearMessage, hearDoes, openRefusal, openDoes, freeRefusal, freeDoes, lentOk, linkRefusal, failsOver, linkDoes, linkMessageDoes, linkSendDoes, linksOf, withLinks, healthy, sampleRefusal, sampleDoes}
 use Rattle.table.specs.Table.{slotB, openB, activeB, gaugeAt, findFrom, gaugeSet}
 use Rattle.table.specs.declared.Links.{Links}
 use Rattle.llcfields.specs.declared.Kind.{Kind}
@@ -28,7 +28,6 @@ use Rattle.exchange.specs.declared.Said.{Said}
 use Rattle.exchange.specs.Exchange.{dueB}
 use Rattle.linkcalls.specs.declared.Heard.{Heard}
 use Rattle.linkcalls.specs.declared.Sent.{Sent}
-use Rattle.linkcalls.specs.declared.Settled.{Settled}
 use Rattle.linkcalls.specs.Calls.{noReply, unchanged, optionalB, messageRefusal, heardIn, fateNo, heardWork, nothingHeard, heardOf, sendRefusal, sentWork, sentIn, sentOf}
 use Rattle.linktheorems.specs.Statements as Link
 use Rattle.linktheorems.specs.Statements.{Call as LinkCall}
@@ -258,7 +257,7 @@ module _ (g : Group) where
   asked k q false o h p = refuses-it 1 (not3 1 refl) refl
 
   -- the slot that a token finds is open and has it
-  holder-open : (token i : ℕ) → holderOf g token ≡ suc i → OpenAt g (suc i) × (ownOf g (suc i) ≡ token)
+  pub holder-open : (token i : ℕ) → holderOf g token ≡ suc i → OpenAt g (suc i) × (ownOf g (suc i) ≡ token)
   holder-open token i e = go (eqb token 0) e
     where
       go : (z : Bool) → cond z 0 (findFrom (g .table) token (g .S)) ≡ suc i → OpenAt g (suc i) × (ownOf g (suc i) ≡ token)

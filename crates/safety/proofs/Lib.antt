@@ -1,9 +1,8 @@
--- Of any group: `Accepted`, what being accepted means; `Effects`, what each call does; `Links`, the claims of specs/Links.
+-- Of any group: `Effects`, what each call does; `Links`, the claims of specs/Links.
 -- Of groups that calls leave: the `Invariant`; `Changed`, `Turns`, `Calls`, what one call keeps of it; `Sound`, that all have it.
 -- `OnSlot`, `Held`, `Bytes`, `Reader`, `Own`: a call on a slot, what an element holds, where each byte came from, what a read hands out, whose
 -- bytes a call touches and sees. `Theorem`, `Progress`, `Dropped`: the claims of specs/Statement.
 pub mod Lists
-pub mod Accepted
 pub mod Effects
 pub mod Links
 pub mod Invariant

@@ -2,17 +2,21 @@
 use mathlib.Core.Path.{_≡_, refl, sym, ap, _∙_}
 use mathlib.Core.Bool.{Bool, true, false}
 use mathlib.Core.List.{List}
-use Prim.Native.Nat.{ℕ}
+use Prim.Native.Nat.{ℕ, zero, suc}
+use lib.Dec.{eqb·suc-zero}
 use lib.ListN.{length}
+use Rattle.cdc.specs.declared.Message.{Message}
+use Rattle.cdc.specs.declared.Decoded.the-variants.{Good}
+use Rattle.cdc.specs.Cdc.{decodeOf}
 use Rattle.outcome.specs.declared.Reply.{Reply}
 use Rattle.outcome.specs.declared.Reply.the-variants.{Refused, Accepted, Sent, Read, Torn, Reset, Heard, Sampled}
 use Rattle.receive.specs.Receive.{placeOf}
 use Rattle.receive.proofs.Laws.{Placeable, place-accepted}
 use Rattle.table.specs.Table.{openB}
-use Rattle.rules.specs.Rules.{Group, Request, place, on, refusal, accepted, saysOf, turnOf, requestTurn, Done, does, answer, refuses, putTurn, onDoes, outOf, recordOf, elementIn, linkOf, sizesOk}
+use Rattle.rules.specs.Rules.{Group, Request, place, on, hear, refusal, accepted, saysOf, turnOf, requestTurn, hearTurn, Done, does, answer, refuses, putTurn, onDoes, hearDoes, hearAt, outOf, recordOf, elementIn, linkOf, holderOf, sizesOk}
 use Rattle.safety.specs.Statement.{OpenAt}
 use Rattle.refusals.proofs.Answers.{clash}
-use Rattle.safety.proofs.Invariant.{Sound, sizes}
+use Rattle.safety.proofs.Invariant.{Sound, sizes, no-slot-0}
 
 module _ (g : Group) (k : ℕ) (q : Request) (ok : sizesOk g ≡ true) where
   pub on-open : OpenAt g k → does g (on k q) ≡ putTurn g k (requestTurn (g .N) (linkOf g k) (recordOf g k) (elementIn g k) q)
@@ -35,6 +39,13 @@ module _ (g : Group) (k : ℕ) (q : Request) (ok : sizesOk g ≡ true) where
   pub on-answer : OpenAt g k → answer g (on k q) ≡ requestTurn (g .N) (linkOf g k) (recordOf g k) (elementIn g k) q .answer
   unfolding putTurn
   on-answer o = ap (λ (x : Done). x .answer) (on-open o)
+
+-- a message with the token of an open slot
+pub hear-open : (g : Group) → sizesOk g ≡ true → (k : ℕ) → OpenAt g k → (b : List ℕ) (m : Message) → decodeOf b ≡ Good m
+    → holderOf g (m .token) ≡ k → does g (hear b) ≡ putTurn g k (hearTurn (g .N) (linkOf g k) (recordOf g k) (elementIn g k) m)
+unfolding hearDoes hearAt
+hear-open g ok zero o b m d e = absurd (no-slot-0 g o)
+hear-open g ok (suc i) o b m d e = rw (ok, d, e, eqb·suc-zero i)
 
 accepted-is : (r : Reply) → saysOf r ≡ accepted → r ≡ Accepted
 accepted-is (Refused k) e = clash (cc)

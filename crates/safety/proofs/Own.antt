@@ -24,7 +24,7 @@ use Rattle.safety.specs.Statement.{acceptedB, changedBy, heldAfter, Open
 use Rattle.safety.proofs.Invariant.{no-slot-0, Sound, sizes}
 use Rattle.safety.proofs.Changed.{Changes, opens, places, stays, changes}
 use Rattle.refusals.proofs.Answers.{clash}
-use Rattle.safety.proofs.Accepted.{says-accepted}
+use Rattle.rules.proofs.Says.{says-accepted}
 use Rattle.safety.proofs.Held.{held-next}
 use Rattle.safety.proofs.OnSlot.{placed-inside, on-open, on-closed, on-answer}
 use Rattle.safety.proofs.Lists.{same-byte, splice-none}

@@ -1,5 +1,5 @@
 -- The claims of specs/Statement over lists of calls. Assumes nothing.
-use mathlib.Core.Path.{_≡_, refl, sym, ap, _∙_, subst₂}
+use mathlib.Core.Path.{_≡_, sym, ap, _∙_, subst₂}
 use mathlib.Core.Logic.{_⊎_, inl, inr}
 use mathlib.Core.Bool.{true, false≢true}
 use mathlib.Core.List.{List, _++_}
@@ -11,15 +11,13 @@ use Rattle.element.specs.Element.{intactB, ringFrom}
 use Rattle.connection.specs.Connection.{coherentB}
 use Rattle.connection.proofs.Laws.{coherent-facts}
 use Rattle.table.specs.Table.{slotB}
-use Rattle.rules.specs.Rules.{Group, read, Call, on, wasRead, answer, recordOf, elementIn, linkOf, holderOf, Fresh}
+use Rattle.rules.specs.Rules.{Group, read, Call, on, wasRead, answer, recordOf, elementIn, holderOf, Fresh}
 use Rattle.order.specs.Statement.{leaves}
 use Rattle.order.proofs.Slots.{slot-in, open-in, found-open, open-found}
 use Rattle.safety.specs.Statement.{OpenAt, ownOf, offsetC, Apart, TokensApart, AlwaysCoherent, AlwaysIntact, held, heldFrom, Stored, Unstored, offsetFrom, Handed, NoStaleBytes, NobodyElses}
-use Rattle.refusals.proofs.Answers.{clash}
 use Rattle.safety.proofs.Invariant.{no-slot-0, Sound}
 use Rattle.safety.proofs.Calls.{call-does}
 use Rattle.safety.proofs.Sound.{sound-fresh, sound-leaves, leaves-sizes}
-use Rattle.safety.proofs.OnSlot.{on-was-open}
 use Rattle.safety.proofs.Held.{held-leaves, fresh-zeros}
 use Rattle.safety.proofs.Bytes.{unstored, stored, From, unopened, since-open, from-calls, still-closed}
 use Rattle.safety.proofs.Own.{own-touched, own-seen}
@@ -38,7 +36,7 @@ module _ (h : Group) (s : Sound h) where
   no-two (suc i) zero o p e = absurd (no-slot-0 h p)
   no-two (suc i) (suc j) o p e = ap suc (s .good .apart i j o p e)
 
-  the-only : (i token : ℕ) → OpenAt h (suc i) → ownOf h (suc i) ≡ token → holderOf h token ≡ suc i
+  pub the-only : (i token : ℕ) → OpenAt h (suc i) → ownOf h (suc i) ≡ token → holderOf h token ≡ suc i
   the-only i token o e =
       let f = coherent-facts (h .N) (recordOf h (suc i)) (s .coherent i o) in
       let w = open-found (h .S) (h .table) i o in

@@ -25,7 +25,7 @@ use Rattle.hear.proofs.Laws.{hear-coherent}
 use Rattle.finish.specs.Finish.{shutdownOf, closeOf, abortOf}
 use Rattle.finish.proofs.Laws.{shutdown-coherent, close-coherent, abort-coherent}
 use Rattle.pieces.specs.Pieces.{piecesOf}
-use Rattle.rules.specs.Rules.{Request, send, gather, urgent, place, read, shutdown, close, abort, refusal, torn, reset, saysOf, inPieces, Turn, turnOf, requestTurn, hearTurn, placedIn}
+use Rattle.rules.specs.Rules.{Request, send, gather, urgent, place, read, shutdown, close, abort, refusal, torn, saysOf, inPieces, Turn, turnOf, requestTurn, hearTurn, placedIn}
 use Rattle.safety.specs.Statement.{acceptedB, placedBy}
 use Rattle.refusals.proofs.Answers.{Answers, fair-3, fair-torn, send-answers, urgent-answers, place-answers, read-answers, hear-answers, shutdown-answers, close-answers, abort-answers}
 use Rattle.safety.proofs.Lists.{splice-none}
@@ -53,8 +53,8 @@ still n e o out eye a h =
       kept-record = h;
       kept-eye = eye;
       kept-held = sym (same (acceptedB (saysOf (o .reply))) e);
-      not-3 = fair-3 (o .reply) (a .fair);
-      not-torn = fair-torn (o .reply) (a .fair);
+      not-3 = fair-3 (o .reply) (a .stands);
+      not-torn = fair-torn (o .reply) (a .stands);
     }
 
 module _ (n : ℕ) (a : Bool) (c : Record) (e : List ℕ) (long : length e ≡ n) (ok : coherentB n c ≡ true) (eye : intactB e ≡ true) where
@@ -92,7 +92,7 @@ module _ (n : ℕ) (a : Bool) (c : Record) (e : List ℕ) (long : length e ≡ n
   request (gather h b) =
       let o = sendOf n a c (length (h ++ b)) in
       let f = piecesOf c h b in
-      let w = send-answers n a c ok (length (h ++ b)) .fair in
+      let w = send-answers n a c ok (length (h ++ b)) .stands in
       record {
         kept-record = inr (send-coherent n a c (length (h ++ b)) ok);
         kept-eye = eye;
@@ -102,7 +102,7 @@ module _ (n : ℕ) (a : Bool) (c : Record) (e : List ℕ) (long : length e ≡ n
       }
   request (place at b) =
       let o = placeOf n a c at (length b) in
-      let f = place-answers n a c ok at (length b) .fair in
+      let f = place-answers n a c ok at (length b) .stands in
       record {
         kept-record = inr (place-coherent n a c at (length b) ok);
         kept-eye = placed-eye (o .reply) at b (place-accepted n a c at (length b));

@@ -18,7 +18,8 @@ use Rattle.transmit.specs.Transmit.{Within}
 use Rattle.produced.specs.Produced.{sendForbids}
 use Rattle.receive.specs.Receive.{readForbids, unreadOf}
 use Rattle.table.specs.Table.{slotB, openB}
-use Rattle.rules.specs.Rules.{Group, Request, send, gather, urgent, place, read, shutdown, close, abort, openSlot, freeSlot, linkChange, linkMessage, linkSend, sample, Call, on, hear, manage, Says, refusal, accepted, sent, gathered, wasRead, torn, reset, heard, sampled, linkChanged, linkHeard, linkSent, Answer, answer, next, sizesOk, recordOf, elementIn, linkOf, holderOf, Fresh}
+use Rattle.rules.specs.Says.{saidIn}
+use Rattle.rules.specs.Rules.{Group, Request, send, gather, urgent, place, read, shutdown, close, abort, openSlot, freeSlot, linkChange, linkMessage, linkSend, sample, Call, on, hear, manage, Says, refusal, accepted, sent, wasRead, torn, reset, Answer, answer, next, sizesOk, recordOf, elementIn, linkOf, holderOf, Fresh}
 use Rattle.order.specs.Statement.{leaves, At}
 
 -- whatever calls are made of a fresh group, this holds of the group that they leave
@@ -62,18 +63,7 @@ AlwaysIntact = Always AllIntact
 -- 4. NO STALE BYTES. What slot k's element must hold, by the calls alone. An open of slot k that is accepted makes it the eye catcher and
 -- zeros; a place on slot k that is accepted puts its bytes at its offset, and every other byte stays; nothing else changes it.
 abbrev pub acceptedB : Says → Bool
-acceptedB (refusal k) = false
-acceptedB accepted = true
-acceptedB (sent n p) = false
-acceptedB (gathered n p) = false
-acceptedB (wasRead n) = false
-acceptedB torn = false
-acceptedB (heard moved state) = false
-acceptedB reset = false
-acceptedB (sampled q) = false
-acceptedB (linkChanged n) = false
-acceptedB (linkHeard f t u n) = false
-acceptedB (linkSent u n) = false
+acceptedB says = saidIn says .accepts
 
 abbrev pub placedBy : Request → List ℕ → List ℕ
 placedBy (send b) e = e

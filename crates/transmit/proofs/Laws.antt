@@ -15,7 +15,7 @@ use Rattle.cursor.proofs.Laws.{range-is, good-most, step-range, step-none, step
 use Rattle.flow.specs.declared.Stretch.{Stretch}
 use Rattle.flow.specs.declared.Stretches.{Stretches}
 use Rattle.flow.specs.declared.Stretches.the-variants as Parts
-use Rattle.flow.specs.Flow.{roomOf, takenOf, stretchesOf, stretchesTotal, Placed, allPlaced}
+use Rattle.flow.specs.Flow.{roomOf, stretchesOf, stretchesTotal, Placed, allPlaced}
 use Rattle.flow.proofs.Laws.{taken-most, taken-len, taken-some, room-most, room-rest, stretches-none, stretches-total, stretches-placed}
 use Rattle.cdc.specs.declared.Message.{Message}
 use Rattle.connection.specs.declared.RToken.{RToken}
@@ -30,6 +30,7 @@ use Rattle.connection.specs.Connection.{mostAddress, fitsB, remoteOk, coherentB
 use Rattle.outcome.specs.Outcome.{refusedOf, messageOf, pendingOf, outcomeOf, urgentOutcome}
 use Rattle.connection.proofs.Laws.{fits-facts, remote-facts, Coherent, coherent-facts, coherent-from, place-new, place-further, refusal-none, refusal-0}
 use Rattle.outcome.proofs.Laws.{told-coherent, urgent-reply, urgent-after, refused-reply, refused-after, outcome-reply, outcome-made, outcome-id, outcome-remote, outcome-q, outcome-r, outcome-coherent}
+use Rattle.outcome.proofs.Goes.{pick}
 use Rattle.produced.specs.Produced.{sendForbids, nOf, producedOut, producedOf, tellsOf, urgedOut, urgedOf, waitsB}
 use Rattle.produced.proofs.Laws.{tells-some}
 use Rattle.transmit.specs.Transmit.{rtokenOf, elementStart, placingOf, placingsOf, placingsTotal, Within, allWithin, sentReply, sentOf, urgentOf, nothingSent, sendOf, urgentSendOf}
@@ -243,35 +244,40 @@ module _ (n : ℕ) (rec : Record) (k len : ℕ) (f : Coherent n rec) (h : k ≤ 
       in
       search needs
 
+-- it may send: no test refuses it, and nothing stands in its way
+pub record MaySend (n : ℕ) (rec : Record) (len : ℕ) : Type 0 where
+  pub coherent : coherentB n rec ≡ true
+  pub may : sendForbids (rec .marks) ≡ false
+  pub free : waitsB rec len ≡ false
+
 -- the tests of both sends, walked once: what holds of each outcome that they lead to holds of theirs
 module _ (n : ℕ) (active : Bool) (rec : Record) (len : ℕ) (P : Outcome → Type 0) where
-  pick : (b : Bool) (x y : Outcome) → (b ≡ true → P x) → (b ≡ false → P y) → P (cond b x y)
-  pick true x y f g = f refl
-  pick false x y f g = g refl
-
-  offered : (x : Outcome) → ((k : ℕ) → P (refusedOf k rec)) → P (nothingSent rec) → (coherentB n rec ≡ true → waitsB rec len ≡ false → P x)
+  offered : (x : Outcome) → ((k : ℕ) → P (refusedOf k rec)) → (waitsB rec len ≡ true → P (nothingSent rec)) → (MaySend n rec len → P x)
       → let no = refusalOf n active rec (sendForbids (rec .marks)) in
       P (cond (eqb no 0) (cond (waitsB rec len) (nothingSent rec) x) (refusedOf no rec))
   offered x refused none sent =
       let no = refusalOf n active rec (sendForbids (rec .marks)) in
-      pick (eqb no 0) _ _
-      (λ e. pick (waitsB rec len) _ _ (λ z. none)
-      (sent (refusal-none n active rec (sendForbids (rec .marks)) (eqb-true no 0 e) .0)))
+      pick P (eqb no 0) _ _
+      (λ e.
+      let ok = refusal-none n active rec (sendForbids (rec .marks)) (eqb-true no 0 e) in
+      pick P (waitsB rec len) _ _ none (λ w. sent (record { coherent = ok .0; may = ok .2; free = w })))
       (λ e. refused no)
 
-  pub send-cases : ((k : ℕ) → P (refusedOf k rec)) → P (nothingSent rec)
-      → (coherentB n rec ≡ true → waitsB rec len ≡ false → P (sentOf rec len)) → P (sendOf n active rec len)
+  pub send-cases : ((k : ℕ) → P (refusedOf k rec)) → (waitsB rec len ≡ true → P (nothingSent rec))
+      → (MaySend n rec len → P (sentOf rec len)) → P (sendOf n active rec len)
   unfolding sendOf
   send-cases refused none sent = offered (sentOf rec len) refused none sent
 
   -- an urgent send is cut short, or taken whole
-  pub urgent-cases : ((k : ℕ) → P (refusedOf k rec)) → P (nothingSent rec)
-      → (coherentB n rec ≡ true → nOf rec len < len → P (shortOf rec len))
-      → (coherentB n rec ≡ true → 0 < len → nOf rec len ≡ len → P (wholeOf rec len)) → P (urgentSendOf n active rec len)
+  pub urgent-cases : ((k : ℕ) → P (refusedOf k rec)) → (waitsB rec len ≡ true → P (nothingSent rec))
+      → (MaySend n rec len → nOf rec len < len → P (shortOf rec len))
+      → (MaySend n rec len → 0 < len → nOf rec len ≡ len → P (wholeOf rec len)) → P (urgentSendOf n active rec len)
   unfolding urgentSendOf urgentOf waitsB
   urgent-cases refused none short whole =
       offered (urgentOf rec len) refused none
-      (λ e w. pick (ltb (nOf rec len) len) _ _ (λ s. short e (ltb-true (nOf rec len) len s)) (λ s. whole e (offers w) (omega (arith, n-len rec len, ltb-false (nOf rec len) len s))))
+      (λ m.
+      pick P (ltb (nOf rec len) len) _ _ (λ s. short m (ltb-true (nOf rec len) len s))
+      (λ s. whole m (offers (m .free)) (omega (arith, n-len rec len, ltb-false (nOf rec len) len s))))
     where
       offers : rec .outbound .urgent .standing || eqb len 0 ≡ false → 0 < len
       offers w = go (rec .outbound .urgent .standing) (eqb len 0) refl w
@@ -322,8 +328,8 @@ pub send-coherent : (n : ℕ) (active : Bool) (rec : Record) (len : ℕ) → coh
 send-coherent n active rec len e =
     send-cases n active rec len (λ o. coherentB n (o .after) ≡ true)
     (λ k. rw (refused-after k rec) e)
-    (outcome-coherent n rec (Sent 0 Nowhere) false e)
-    (λ k w. sent-coherent rec len n k)
+    (λ w. outcome-coherent n rec (Sent 0 Nowhere) false e)
+    (λ m. sent-coherent rec len n e)
 
 -- and so does an urgent send
 pub urgent-coherent : (n : ℕ) (active : Bool) (rec : Record) (len : ℕ) → coherentB n rec ≡ true
@@ -331,7 +337,7 @@ pub urgent-coherent : (n : ℕ) (active : Bool) (rec : Record) (len : ℕ) → c
 urgent-coherent n active rec len e =
     urgent-cases n active rec len (λ o. coherentB n (o .after) ≡ true)
     (λ k. rw (refused-after k rec) e)
-    (outcome-coherent n rec (Sent 0 Nowhere) false e)
+    (λ w. outcome-coherent n rec (Sent 0 Nowhere) false e)
     (λ k l. told _ _ next (produced-facts n rec (nOf rec len) len f (n-room rec len)))
     (λ k some all. told _ _ (urgedOf next) (urged-facts n rec (nOf rec len) len f (n-room rec len) (omega arith)))
   where
@@ -349,8 +355,8 @@ pub send-keeps-id : (n : ℕ) (active : Bool) (rec : Record) (len : ℕ) → sen
 send-keeps-id n active rec len =
     send-cases n active rec len (λ o. o .after .id ≡ rec .id)
     (λ k. ap (λ (w : Record). w .id) (refused-after k rec))
-    (outcome-id (Sent 0 Nowhere) false rec)
-    (λ e w. sent-id rec len)
+    (λ w. outcome-id (Sent 0 Nowhere) false rec)
+    (λ m. sent-id rec len)
 
 -- nothing forbids it and bytes are offered
 pub send-accepts : (n : ℕ) (active : Bool) (rec : Record) (len : ℕ) → coherentB n rec ≡ true → active ≡ true
@@ -400,8 +406,8 @@ module _ (n : ℕ) (active : Bool) (rec : Record) (len k : ℕ) (p : Placings) (
   pub send-takes : (k ≤ roomIn rec) × (k ≤ len) × (placingsTotal p ≡ k)
   send-takes =
       send-cases n active rec len (λ o. o .reply ≡ Sent k p → (k ≤ roomIn rec) × (k ≤ len) × (placingsTotal p ≡ k)) not-refused
-      (λ r. let a = none-is r in (omega arith, omega arith, rw (← (a .1)) (a .0)))
-      (λ g w r.
+      (λ z r. let a = none-is r in (omega arith, omega arith, rw (← (a .1)) (a .0)))
+      (λ g r.
       let a = some-is r in
       let total =
       placings-total rec (stretchesIn rec (nOf rec len))
@@ -412,15 +418,15 @@ module _ (n : ℕ) (active : Bool) (rec : Record) (len k : ℕ) (p : Placings) (
 
   pub send-within : allWithin rec p
   send-within =
-      send-cases n active rec len (λ o. o .reply ≡ Sent k p → allWithin rec p) not-refused (λ r. rw (← (none-is r .1)) tt)
-      (λ g w r. rw (← (some-is r .1)) (n-within rec len n g))
+      send-cases n active rec len (λ o. o .reply ≡ Sent k p → allWithin rec p) not-refused (λ z r. rw (← (none-is r .1)) tt)
+      (λ g r. rw (← (some-is r .1)) (n-within rec len n (g .coherent)))
       e
 
   pub send-moves : gapRQ (sendOf n active rec len .after) ≡ gapRQ rec + k
   send-moves =
       send-cases n active rec len (λ o. o .reply ≡ Sent k p → gapRQ (o .after) ≡ gapRQ rec + k) (λ j r. not-refused j r)
-      (λ r. let a = none-is r in omega (arith, outcome-gap (Sent 0 Nowhere) false rec))
-      (λ g w r. rw (← (some-is r .0)) (sent-gap rec len n (coherent-facts n rec g)))
+      (λ z r. let a = none-is r in omega (arith, outcome-gap (Sent 0 Nowhere) false rec))
+      (λ g r. rw (← (some-is r .0)) (sent-gap rec len n (coherent-facts n rec (g .coherent))))
       e
 
   -- so the record was coherent, p is where k bytes go from Q on, and Q moves by k
@@ -428,7 +434,7 @@ module _ (n : ℕ) (active : Bool) (rec : Record) (len k : ℕ) (p : Placings) (
   unfolding sendOf
   send-was-coherent =
       let no = refusalOf n active rec (sendForbids (rec .marks)) in
-      pick n active rec len (λ o. o .reply ≡ Sent k p → coherentB n rec ≡ true) (eqb no 0) _ _
+      pick (λ (o : Outcome). o .reply ≡ Sent k p → coherentB n rec ≡ true) (eqb no 0) _ _
       (λ z r. refusal-none n active rec (sendForbids (rec .marks)) (eqb-true no 0 z) .0)
       (λ z r. not-refused no r)
       e
@@ -436,12 +442,12 @@ module _ (n : ℕ) (active : Bool) (rec : Record) (len k : ℕ) (p : Placings) (
   pub send-places : p ≡ placingsOf rec (stretchesIn rec k)
   send-places =
       send-cases n active rec len (λ o. o .reply ≡ Sent k p → p ≡ placingsOf rec (stretchesIn rec k)) (λ j r. not-refused j r)
-      (λ r.
+      (λ z r.
       let a = none-is r in
       sym (a .1)
       ∙ ap (placingsOf rec) (sym (stretches-none (rec .remote .size) (rec .outbound .producer)))
       ∙ ap (λ (x : ℕ). placingsOf rec (stretchesIn rec x)) (a .0))
-      (λ g w r. let a = some-is r in sym (a .1) ∙ ap (λ (x : ℕ). placingsOf rec (stretchesIn rec x)) (a .0))
+      (λ g r. let a = some-is r in sym (a .1) ∙ ap (λ (x : ℕ). placingsOf rec (stretchesIn rec x)) (a .0))
       e
 
   pub send-steps : sendOf n active rec len .after .outbound .producer ≡ stepOf (rec .remote .size) (rec .outbound .producer) k
@@ -449,9 +455,9 @@ module _ (n : ℕ) (active : Bool) (rec : Record) (len k : ℕ) (p : Placings) (
   send-steps =
       let Q : ℕ → Cursor = λ x. stepOf (rec .remote .size) (rec .outbound .producer) x in
       send-cases n active rec len (λ o. o .reply ≡ Sent k p → o .after .outbound .producer ≡ Q k) (λ j r. not-refused j r)
-      (λ r.
+      (λ z r.
       outcome-q (Sent 0 Nowhere) false rec ∙ sym (step-none (rec .remote .size) (rec .outbound .producer)) ∙ ap Q (none-is r .0))
-      (λ g w r.
+      (λ g r.
       ap (λ (o : Outcome). o .after .outbound .producer) (sent-is rec len)
       ∙ outcome-q (answer rec len) (tellsOf rec (nOf rec len) len) (producedOf rec (nOf rec len) len)
       ∙ ap Q (some-is r .0))
@@ -463,12 +469,12 @@ pub urgent-within : (n : ℕ) (active : Bool) (rec : Record) (len k : ℕ) (p : 
 urgent-within n active rec len k p =
     urgent-cases n active rec len (λ o. o .reply ≡ Sent k p → allWithin rec p)
     (λ j r. let bad : _≡_ {A = ℕ} 0 1 = cc (refused-reply j rec) in absurd (omega arith))
-    (λ r.
+    (λ z r.
     let s : Sent 0 Nowhere ≡ Sent k p = sym (outcome-reply (Sent 0 Nowhere) false rec) ∙ r in
-    let z : Nowhere ≡ p = cc in
-    rw (← z) tt)
-    (λ g l r. named g (sym (urgent-reply _ _ _) ∙ r))
-    (λ g some all r. named g (sym (urgent-reply _ _ _) ∙ r))
+    let y : Nowhere ≡ p = cc in
+    rw (← y) tt)
+    (λ g l r. named (g .coherent) (sym (urgent-reply _ _ _) ∙ r))
+    (λ g some all r. named (g .coherent) (sym (urgent-reply _ _ _) ∙ r))
   where
     named : coherentB n rec ≡ true → sentReply rec (nOf rec len) ≡ Sent k p → allWithin rec p
     named g s = let z : placingsOf rec (stretchesIn rec (nOf rec len)) ≡ p = cc in rw (← z) (n-within rec len n g)

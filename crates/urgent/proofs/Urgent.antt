@@ -8,15 +8,13 @@ use native.Mathlib.Omega.{arith}
 use native.Mathlib.Decide.{ℕ-discrete}
 use lib.Dec.{ltb, eqb}
 use lib.ListN.{length}
-use borrow.Author.Needs.{needs}
-use Rattle.cursor.specs.declared.Cursor.{Cursor}
 use Rattle.cdc.specs.declared.Message.{Message}
 use Rattle.connection.specs.declared.Urgent.{Urgent}
 use Rattle.connection.specs.declared.Record.{Record}
-use Rattle.outcome.specs.declared.Reply.{Reply}
 use Rattle.outcome.specs.declared.Outcome.{Outcome}
 use Rattle.connection.specs.Connection.{noPlace, zeroRecord, openedRecord, reachedB, passedBy, refusalOf, marksTo}
-use Rattle.outcome.specs.Outcome.{refusedOf, outcomeOf, urgentOutcome, toldOf, usedIn, closedIf}
+use Rattle.outcome.specs.Outcome.{refusedOf, outcomeOf, toldOf, usedIn}
+use Rattle.outcome.proofs.Goes.{By, by-test, by-refused, by-outcome, by-urgent, by-shut, by-left}
 use Rattle.transmit.specs.Transmit.{nothingSent, sendOf, sentOf, urgentOf, urgentSendOf}
 use Rattle.produced.specs.Produced.{sendForbids, nOf, producedOf, producedOut, urgedOut, urgedOf, waitsB}
 use Rattle.receive.specs.Receive.{placeOf, readOf, takeOf, tornOf, consumedOf}
@@ -24,7 +22,7 @@ use Rattle.hear.specs.Hear.{hearOf, abortedOf, followedOf, validatedOf, ruledOf
 use Rattle.heard.specs.Heard.{heardRecord, heardOut}
 use Rattle.finish.specs.Finish.{resetOf, closingOf, shutdownOf, closeOf, abortOf}
 use Rattle.table.specs.Table.{recordAt, openB}
-use Rattle.rules.specs.Rules.{Group, Request, send, urgent, gather, place, read, shutdown, close, abort, Call, on, refusal, sent, Turn, turnOf, requestTurn, hearTurn, Done, does, answer, next, refuses, putTurn, onDoes, outOf, recordOf, elementIn, linkOf, sizesOk}
+use Rattle.rules.specs.Rules.{Group, Request, send, urgent, gather, place, read, shutdown, close, abort, Call, on, refusal, Turn, turnOf, requestTurn, hearTurn, Done, does, answer, next, refuses, putTurn, onDoes, outOf, recordOf, elementIn, linkOf, sizesOk}
 use Rattle.order.proofs.Near.{enough}
 use Rattle.order.specs.Statement.{leaves}
 use Rattle.order.proofs.Slots.{slot-in, open-in, open-is, open-there, record-same}
@@ -48,14 +46,14 @@ record Holds (c d : Record) : Type 0 where
 abbrev Kept : Record → Record → Type 0
 Kept c d = (d ≡ zeroRecord) ⊎ Holds c d
 
-record Keeps (c : Record) (o : Outcome) : Type 0 where
-  kept : Kept c (o .after)
+abbrev Keeps : Record → Outcome → Type 0
+Keeps c = By (λ r d. Holds c d)
+
+kept-by : (c : Record) (o : Outcome) → Keeps c o → Kept c (o .after)
+unfolding toldOf usedIn
+kept-by c = by-left _ (λ r t d. Holds c d) (λ r d h. h) (λ r d h. record { still = h .still; at-Q = h .at-Q })
 
 module _ (c : Record) where
-  by-test : (t : Bool) (o p : Outcome) → (t ≡ true → Keeps c o) → (t ≡ false → Keeps c p) → Keeps c (cond t o p)
-  by-test true o p h k = h refl
-  by-test false o p h k = k refl
-
   -- Q and the place are as they were
   same : (d : Record) → d .outbound .producer ≡ c .outbound .producer → d .outbound .urgent ≡ c .outbound .urgent → Holds c d
   same d q u =
@@ -65,43 +63,28 @@ module _ (c : Record) where
       }
 
   refused : (k : ℕ) → Keeps c (refusedOf k c)
-  unfolding refusedOf
-  refused k = record { kept = inr (same c refl refl) }
-
-  told : (r : Reply) (t : Bool) (d : Record) → Holds c d → Keeps c (outcomeOf r t d)
-  unfolding outcomeOf toldOf usedIn
-  told r true d h = record { kept = inr (record { still = h .still; at-Q = h .at-Q }) }
-  told r false d h = record { kept = inr h }
-
-  outcome : (r : Reply) (t : Bool) (d : Record) → d .outbound .producer ≡ c .outbound .producer → d .outbound .urgent ≡ c .outbound .urgent
-      → Keeps c (outcomeOf r t d)
-  outcome r t d q u = told r t d (same d q u)
-
-  shut : (t : Bool) (o : Outcome) → Keeps c o → Keeps c (closedIf t o)
-  unfolding closedIf
-  shut true o h = record { kept = inl refl }
-  shut false o h = h
+  refused k = by-refused _ k c (same c refl refl)
 
   module _ (n : ℕ) (a : Bool) where
     place-keeps : (at k : ℕ) → Keeps c (placeOf n a c at k)
     unfolding placeOf
-    place-keeps at k = search (by-test, refused, outcome) depth 9
+    place-keeps at k = search (by-test, refused, by-outcome, same) depth 9
 
     read-keeps : (t : Bool) (k : ℕ) → Keeps c (readOf n a c t k)
     unfolding readOf takeOf tornOf consumedOf marksTo
-    read-keeps t k = search (by-test, refused, outcome) depth 9
+    read-keeps t k = search (by-test, refused, by-outcome, same) depth 9
 
     shutdown-keeps : Keeps c (shutdownOf n a c)
     unfolding shutdownOf marksTo
-    shutdown-keeps = search (by-test, refused, outcome) depth 9
+    shutdown-keeps = search (by-test, refused, by-outcome, same) depth 9
 
     close-keeps : Keeps c (closeOf n a c)
     unfolding closeOf resetOf closingOf marksTo
-    close-keeps = search (by-test, refused, outcome, shut) depth 9
+    close-keeps = search (by-test, refused, by-outcome, same, by-shut) depth 9
 
     abort-keeps : Keeps c (abortOf n a c)
     unfolding abortOf marksTo
-    abort-keeps = search (by-test, refused, outcome) depth 9
+    abort-keeps = search (by-test, refused, by-outcome, same) depth 9
 
     -- hear clears the place, or leaves it
     heard-holds : (m : Message) → Holds c (heardRecord n c m)
@@ -119,7 +102,7 @@ module _ (c : Record) where
 
     hear-keeps : (m : Message) → Keeps c (hearOf n a c m)
     unfolding hearOf abortedOf followedOf validatedOf ruledOf acceptedOf marksTo
-    hear-keeps m = search (by-test, refused, outcome, told, heard-holds, shut) depth 9
+    hear-keeps m = search (by-test, refused, by-outcome, same, heard-holds, by-shut) depth 9
 
     -- a send goes on only where no place stands
     module _ (len : ℕ) (w : waitsB c len ≡ false) where
@@ -136,11 +119,7 @@ module _ (c : Record) where
 
       sent-keeps : Keeps c (sentOf c len)
       unfolding sentOf producedOf producedOut
-      sent-keeps = told _ _ _ (moved _ refl)
-
-      short : (r : Reply) (m : Message) (d : Record) → Holds c d → Keeps c (urgentOutcome r m d)
-      unfolding urgentOutcome toldOf usedIn
-      short r m d h = record { kept = inr (record { still = h .still; at-Q = h .at-Q }) }
+      sent-keeps = by-outcome _ _ _ _ (moved _ refl)
 
       urged : (d : Record) → Holds c (urgedOf d)
       unfolding urgedOf urgedOut
@@ -148,30 +127,30 @@ module _ (c : Record) where
 
       urgent-keeps : Keeps c (urgentOf c len)
       unfolding urgentOf producedOf producedOut
-      urgent-keeps = by-test (ltb (nOf c len) len) _ _ (λ e. short _ _ _ (moved _ refl)) (λ e. short _ _ _ (urged _))
+      urgent-keeps = by-test _ (ltb (nOf c len) len) _ _ (λ e. by-urgent _ _ _ _ (moved _ refl)) (λ e. by-urgent _ _ _ _ (urged _))
 
     send-keeps : (len : ℕ) → Keeps c (sendOf n a c len)
     unfolding sendOf
-    send-keeps len = search (by-test, refused, outcome, sent-keeps) depth 9
+    send-keeps len = search (by-test, refused, by-outcome, same, sent-keeps) depth 9
 
     urgent-send-keeps : (len : ℕ) → Keeps c (urgentSendOf n a c len)
     unfolding urgentSendOf
-    urgent-send-keeps len = search (by-test, refused, outcome, urgent-keeps) depth 9
+    urgent-send-keeps len = search (by-test, refused, by-outcome, same, urgent-keeps) depth 9
 
     request-kept : (e : List ℕ) (q : Request) → Kept c (requestTurn n a c e q .after)
     unfolding requestTurn turnOf
-    request-kept e (send b) = send-keeps (length b) .kept
-    request-kept e (urgent b) = urgent-send-keeps (length b) .kept
-    request-kept e (gather head body) = send-keeps (length (head ++ body)) .kept
-    request-kept e (place at b) = place-keeps at (length b) .kept
-    request-kept e (read out) = read-keeps _ (length out) .kept
-    request-kept e shutdown = shutdown-keeps .kept
-    request-kept e close = close-keeps .kept
-    request-kept e abort = abort-keeps .kept
+    request-kept e (send b) = kept-by c _ (send-keeps (length b))
+    request-kept e (urgent b) = kept-by c _ (urgent-send-keeps (length b))
+    request-kept e (gather head body) = kept-by c _ (send-keeps (length (head ++ body)))
+    request-kept e (place at b) = kept-by c _ (place-keeps at (length b))
+    request-kept e (read out) = kept-by c _ (read-keeps _ (length out))
+    request-kept e shutdown = kept-by c _ (shutdown-keeps)
+    request-kept e close = kept-by c _ (close-keeps)
+    request-kept e abort = kept-by c _ (abort-keeps)
 
     hear-kept : (e : List ℕ) (m : Message) → Kept c (hearTurn n a c e m .after)
     unfolding hearTurn turnOf
-    hear-kept e m = hear-keeps m .kept
+    hear-kept e m = kept-by c _ (hear-keeps m)
 
 as-was : {c d : Record} → d ≡ c → ButLink c d
 as-was {c} e =
@@ -206,21 +185,21 @@ module _ (g : Group) (c : Call) (i : ℕ) (there : i < length (g .table)) where
       go x q (puts-turn k t s a e) = turned k t (q ∙ e) s a (ℕ-discrete (suc i) k)
 
   -- a slot that is open after it keeps both claims, or was opened
-  abbrev Goes : Type 0
-  Goes = (OpenAt g (suc i) × Holds (recordOf g (suc i)) now) ⊎ ((recordOf g (suc i) .id .opened ≡ false) × PlaceIsQ now)
+  abbrev After : Type 0
+  After = (OpenAt g (suc i) × Holds (recordOf g (suc i)) now) ⊎ ((recordOf g (suc i) .id .opened ≡ false) × PlaceIsQ now)
 
-  record-goes : OpenAt (next g c) (suc i) → Goes
+  record-after : OpenAt (next g c) (suc i) → After
   unfolding zeroRecord openedRecord
-  record-goes o = go record-left
+  record-after o = go record-left
     where
       open-now : now .id .opened ≡ true
       open-now = open-in (next g c .S) (next g c .table) (suc i) o .is-open
 
-      kept : (t : Turn) → now ≡ t .after → OpenAt g (suc i) → Kept (recordOf g (suc i)) (t .after) → Goes
+      kept : (t : Turn) → now ≡ t .after → OpenAt g (suc i) → Kept (recordOf g (suc i)) (t .after) → After
       kept t e was (inl z) = absurd (false≢true (sym (ap (λ (r : Record). r .id .opened) (e ∙ z)) ∙ open-now))
       kept t e was (inr h) = inl (was, rw e h)
 
-      acted : (t : Turn) → now ≡ t .after → Acts g c (suc i) t → Goes
+      acted : (t : Turn) → now ≡ t .after → Acts g c (suc i) t → After
       acted t e (asks q p was r) =
           kept t e was (rw r (request-kept (recordOf g (suc i)) (g .N) (linkOf g (suc i)) (elementIn g (suc i)) q))
       acted t e (hears b m p d h was w r) =
@@ -231,7 +210,7 @@ module _ (g : Group) (c : Call) (i : ℕ) (there : i < length (g .table)) where
       acted t e (frees p n r) =
           absurd (false≢true (sym (ap (λ (r : Record). r .id .opened) (e ∙ ap (λ (t : Turn). t .after) r)) ∙ open-now))
 
-      go : Left → Goes
+      go : Left → After
       go (inl e) =
           let v = open-in (next g c .S) (next g c .table) (suc i) o in
           let was = open-is (g .S) (g .table) (suc i) (rw (one-record g c .same-S) at (v .slot)) (sym (e .opened) ∙ v .is-open) in
@@ -241,7 +220,7 @@ module _ (g : Group) (c : Call) (i : ℕ) (there : i < length (g .table)) where
 pub Q-stays : QStays
 unfolding recordAt
 Q-stays g c zero o h w = absurd (no-slot-0 g o)
-Q-stays g c (suc i) o h w = go (record-goes g c i there h)
+Q-stays g c (suc i) o h w = go (record-after g c i there h)
   where
     was : recordOf g (suc i) .id .opened ≡ true
     was = open-in (g .S) (g .table) (suc i) o .is-open
@@ -249,7 +228,7 @@ Q-stays g c (suc i) o h w = go (record-goes g c i there h)
     there : i < length (g .table)
     there = open-there (g .table) i was
 
-    go : Goes g c i there → recordOf (next g c) (suc i) .outbound .producer ≡ recordOf g (suc i) .outbound .producer
+    go : After g c i there → recordOf (next g c) (suc i) .outbound .producer ≡ recordOf g (suc i) .outbound .producer
     go (inl k) = k .1 .still w
     go (inr k) = absurd (false≢true (sym (k .0) ∙ was))
 
@@ -319,14 +298,14 @@ at-Q-next g s q c = record { every-open = each }
   where
     each : (k : ℕ) → OpenAt (next g c) k → PlaceIsQ (recordOf (next g c) k)
     each zero o = absurd (no-slot-0 (next g c) o)
-    each (suc i) o = go (record-goes g c i there o)
+    each (suc i) o = go (record-after g c i there o)
       where
         there : i < length (g .table)
         there =
             let v = slot-in (g .S) (suc i) (rw (one-record g c .same-S) at (open-in (next g c .S) (next g c .table) (suc i) o .slot)) in
             omega (arith, enough g (s .good), v .1)
 
-        go : Goes g c i there → PlaceIsQ (recordOf (next g c) (suc i))
+        go : After g c i there → PlaceIsQ (recordOf (next g c) (suc i))
         go (inl k) = k .1 .at-Q (q .every-open (suc i) (k .0))
         go (inr k) = k .1
 

@@ -1,45 +1,43 @@
 -- The claims of specs/Urgent about the two ends of a connection. Assumes nothing.
-use mathlib.Core.Path.{_≡_, refl, sym, ap, _∙_, subst}
+use mathlib.Core.Path.{_≡_, refl, sym, ap, _∙_}
 use mathlib.Core.Bool.{Bool, true, false, false≢true, _&&_, _||_, cond, or-true}
 use mathlib.Core.Logic.{_⊎_, inl, inr}
 use mathlib.Core.List.{List, [], _∷_}
-use Prim.Native.Nat.{ℕ, _+_, _-_, _≤_, _<_, min}
+use Prim.Native.Nat.{ℕ, _+_, _-_, _≤_, _<_}
 use native.Mathlib.Omega.{arith}
 use native.Mathlib.Decide.{decLe}
 use lib.Dec.{ltb, leb, eqb}
-use borrow.Author.Tests.{eqb-true, lt-ltb, le-leb, lt-leb}
+use borrow.Author.Tests.{lt-ltb, le-leb, lt-leb}
 use Rattle.cursor.specs.declared.Cursor.{Cursor}
-use Rattle.cursor.specs.Cursor.{inRange, goodB, gapOf, stepOf}
+use Rattle.cursor.specs.Cursor.{goodB, gapOf, stepOf}
 use Rattle.cursor.proofs.Laws.{gap-self, step-gap}
 use Rattle.cdc.specs.declared.Message.{Message}
 use Rattle.cdc.specs.declared.Decoded.the-variants.{Good}
 use Rattle.cdc.specs.Cdc.{encodeOf, decodeOf}
 use Rattle.cdc.proofs.RoundTrip.{reads-back}
 use Rattle.closing.specs.Closing.{marksHeard}
-use Rattle.flow.specs.Flow.{roomOf, takenOf, updateDue}
+use Rattle.flow.specs.Flow.{roomOf, takenOf}
 use Rattle.flow.proofs.Laws.{room-most}
 use Rattle.connection.specs.declared.Inbound.{Inbound}
 use Rattle.connection.specs.declared.Urgent.{Urgent}
 use Rattle.connection.specs.declared.Record.{Record}
 use Rattle.outcome.specs.declared.Placings.{Placings}
 use Rattle.outcome.specs.declared.Placings.the-variants.{Nowhere}
-use Rattle.outcome.specs.declared.Reply.{Reply}
-use Rattle.outcome.specs.declared.Reply.the-variants.{Refused, Sent, Read}
+use Rattle.outcome.specs.declared.Reply.the-variants.{Sent, Read}
 use Rattle.outcome.specs.declared.Outcome.{Outcome}
 use Rattle.connection.specs.Connection.{noPlace, placeAt, zeroRecord, coherentB, placeOk, reachedB, passedBy, refusalOf, marksTo}
 use Rattle.outcome.specs.Outcome.{refusedOf, outcomeOf, messageOf, noMessage, pendingOf, toldOf, toldIn, usedIn}
-use Rattle.connection.proofs.Laws.{Coherent, coherent-facts, and-left, and-right, place-facts, remote-facts, refusal-0}
+use Rattle.connection.proofs.Laws.{Coherent, coherent-facts, place-facts, remote-facts, refusal-0}
 use Rattle.outcome.proofs.Laws.{refused-reply, outcome-reply, outcome-made, outcome-message, outcome-after, urgent-reply, urgent-message, urgent-after}
-use Rattle.transmit.specs.Transmit.{sentReply, nothingSent, urgentSendOf}
+use Rattle.transmit.specs.Transmit.{sentReply, urgentSendOf}
 use Rattle.produced.specs.Produced.{nOf, producedOf, producedOut, urgedOf, urgedOut}
 use Rattle.transmit.proofs.Laws.{wholeRecord, wholeOf, n-room, urgent-cases, urgent-coherent}
-use Rattle.receive.specs.Receive.{readForbids, unreadOf, consumedIn, clearedIn, consumedOf, updateOf, takeOf, readOf}
+use Rattle.receive.specs.Receive.{readForbids, unreadOf, consumedIn, clearedIn, consumedOf, updateOf, readOf}
 use Rattle.receive.proofs.Laws.{gapCP, taking, taking-most, left, tells, take-is, consumed-cp, read-coherent}
 use Rattle.hear.specs.Hear.{acceptedOf, ruledOf, followedOf, validatedOf, hearOf}
 use Rattle.heard.specs.Heard.{producerB, consumerB, movedBy, urgesB, urgentIn, heardIn, heardOut, heardRecord, answersB, nextB}
-use Rattle.hear.proofs.Laws.{shutBy, repliedTo, heardOutcome, accepted-shut, accepted-open, hear-coherent}
-use Rattle.heard.proofs.Laws.{Produces, Consumes, producer-rules, consumer-rules}
-use Rattle.urgent.specs.Urgent.{Hears, Ends, Pending, Announced, UrgentHeard, readNow, TellsAll, Tells, here, later, sumOf, UrgentRead, Free, UrgentPassed}
+use Rattle.hear.proofs.Laws.{shutBy, heardOutcome, accepted-shut, accepted-open, hear-coherent}
+use Rattle.urgent.specs.Urgent.{Hears, Pending, UrgentHeard, readNow, Tells, here, later, UrgentRead, Free, UrgentPassed}
 use Rattle.refusals.proofs.Answers.{clash}
 
 -- A MESSAGE THAT IS HEARD, and leaves the slot open, leaves the record with what it says
@@ -113,7 +111,7 @@ module _ (M : ℕ) (a : Record) (len : ℕ) (p : Placings) (some : 0 < len) (who
   is-whole =
       urgent-cases M true a len (λ o. o .reply ≡ Sent len p → (o ≡ wholeOf a len) × (nOf a len ≡ len))
       (λ k e. let z = sym (refused-reply k a) ∙ e in clash (cc))
-      (λ e. let z : 0 ≡ len = let y = sym (outcome-reply (Sent 0 Nowhere) false a) ∙ e in cc in absurd (omega arith))
+      (λ w e. let z : 0 ≡ len = let y = sym (outcome-reply (Sent 0 Nowhere) false a) ∙ e in cc in absurd (omega arith))
       (λ k l e.
       let next = producedOf a (nOf a len) len in
       let z : nOf a len ≡ len = let y = sym (urgent-reply (sentReply a (nOf a len)) (pendingOf (messageOf next)) next) ∙ e in cc in

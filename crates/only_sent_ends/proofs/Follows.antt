@@ -1,19 +1,20 @@
--- Every call on a connection is a record before telling (c1), and then a message, if one is made, that carries its cursors; and perhaps the
--- slot closes. Assumes nothing.
+-- What a call on a connection keeps of its record, and the record of an open one in positions. Assumes nothing.
 use mathlib.Core.Path.{_≡_, refl, sym}
 use mathlib.Core.Logic.{_⊎_, inl, inr}
-use mathlib.Core.Bool.{Bool, true, false, _||_, cond, false≢true}
-use mathlib.Core.List.{List}
+use mathlib.Core.Bool.{Bool, true, false, _||_, false≢true}
 use Prim.Native.Nat.{ℕ, _+_, _≤_, _<_}
+use mathlib.Core.List.{List}
 use Rattle.cdc.specs.declared.Message.{Message}
 use Rattle.cdc.specs.Cdc.{encodeOf}
 use Rattle.closing.specs.declared.Marks.{Marks}
 use Rattle.closing.specs.Closing.{marked}
 use Rattle.connection.specs.declared.Record.{Record}
-use Rattle.connection.specs.Connection.{zeroRecord, coherentB}
+use Rattle.connection.specs.Connection.{coherentB}
 use Rattle.outcome.specs.declared.Reply.{Reply}
+use Rattle.outcome.specs.declared.Reply.the-variants.{Refused}
 use Rattle.outcome.specs.declared.Outcome.{Outcome}
-use Rattle.outcome.specs.Outcome.{messageOf, pendingOf, outcomeOf, urgentOutcome, refusedOf, toldOf, closedIf}
+use Rattle.outcome.specs.Outcome.{messageOf, pendingOf, outcomeOf, urgentOutcome, refusedOf, closedIf}
+use Rattle.outcome.proofs.Goes.{Goes, outcome-goes, urgent-goes, shut-goes}
 use Rattle.only_sent.specs.Plain.{Outward, Inward, OutwardIs, InwardIs}
 
 -- D, C or A was sent
@@ -45,11 +46,15 @@ pub record Kept (c c1 : Record) : Type 0 where
   pub abort-up : c .marks .abort ≡ true → c1 .marks .abort ≡ true
   pub sent-up : marked (c .marks .sent) ≡ true → marked (c1 .marks .sent) ≡ true
 
-pub record Goes (c c1 : Record) (o : Outcome) : Type 0 where
-  pub kept : Kept c c1
-  pub left : (o .after ≡ zeroRecord) ⊎ (o .after ≡ cond (o .made) (toldOf c1) c1)
+-- a call on c whose record before telling is c1; where no message is made the marks stay
+pub record Follows (c c1 : Record) (o : Outcome) : Type 0 where
+  pub goes : Goes c1 o
   pub tells : o .made ≡ true → Told c1 (o .message)
+  pub kept : Kept c c1
   pub quiet : o .made ≡ false → (c1 .marks .abort ≡ c .marks .abort) × (c1 .marks .sent ≡ c .marks .sent)
+
+pub kept-self : (c : Record) → Kept c c
+kept-self c = search
 
 pub alike-own : (c : Record) → Alike (messageOf c) c
 unfolding messageOf
@@ -59,32 +64,27 @@ pub alike-pending : (c : Record) → Alike (pendingOf (messageOf c)) c
 unfolding messageOf pendingOf
 alike-pending c = search
 
-pub kept-self : (c : Record) → Kept c c
-kept-self c = search
-
-module _ {c c1 : Record} (k : Kept c c1) where
-  pub outcome-goes : (r : Reply) (t : Bool) → (t ≡ false → (c1 .marks .abort ≡ c .marks .abort) × (c1 .marks .sent ≡ c .marks .sent))
-      → Goes c c1 (outcomeOf r t c1)
-  unfolding outcomeOf
-  outcome-goes r true q =
-      let told : Told c1 (encodeOf (messageOf c1)) = record { m = messageOf c1; is = refl; alike = alike-own c1 } in
-      record { kept = k; left = inr refl; tells = λ e. told; quiet = λ e. absurd (false≢true (sym e)) }
-  outcome-goes r false q = record { kept = k; left = inr refl; tells = λ e. absurd (false≢true e); quiet = λ e. q refl }
-
-  pub urgent-goes : (r : Reply) (m : Message) → Alike m c1 → Goes c c1 (urgentOutcome r m c1)
+module _ {c c1 : Record} (k : Kept c c1) (r : Reply) where
+  pub urgent-follows : (m : Message) → Alike m c1 → Follows c c1 (urgentOutcome r m c1)
   unfolding urgentOutcome
-  urgent-goes r m a =
+  urgent-follows m a =
       let told : Told c1 (encodeOf m) = record { m = m; is = refl; alike = a } in
-      record { kept = k; left = inr refl; tells = λ e. told; quiet = λ e. absurd (false≢true (sym e)) }
+      record { goes = urgent-goes r m c1; tells = λ e. told; kept = k; quiet = λ e. absurd (false≢true (sym e)) }
 
-pub shut-goes : {c c1 : Record} {o : Outcome} (t : Bool) → Goes c c1 o → Goes c c1 (closedIf t o)
+  pub outcome-follows : (t : Bool) → (t ≡ false → (c1 .marks .abort ≡ c .marks .abort) × (c1 .marks .sent ≡ c .marks .sent))
+      → Follows c c1 (outcomeOf r t c1)
+  unfolding outcomeOf urgentOutcome
+  outcome-follows true q = urgent-follows (messageOf c1) (alike-own c1)
+  outcome-follows false q = record { goes = outcome-goes r false c1; tells = λ e. absurd (false≢true e); kept = k; quiet = λ e. q refl }
+
+pub shut-follows : {c c1 : Record} {o : Outcome} (t : Bool) → Follows c c1 o → Follows c c1 (closedIf t o)
 unfolding closedIf
-shut-goes true g = record { kept = g .kept; left = inl refl; tells = g .tells; quiet = g .quiet }
-shut-goes false g = g
+shut-follows true f = record { goes = shut-goes true (f .goes); tells = f .tells; kept = f .kept; quiet = f .quiet }
+shut-follows false f = f
 
-pub refused-goes : (c : Record) (k : ℕ) → Goes c c (refusedOf k c)
-unfolding refusedOf
-refused-goes c k = record { kept = kept-self c; left = inr refl; tells = λ e. absurd (false≢true e); quiet = λ e. (refl, refl) }
+pub refused-follows : (c : Record) (k : ℕ) → Follows c c (refusedOf k c)
+unfolding refusedOf outcomeOf
+refused-follows c k = outcome-follows (kept-self c) (Refused k) false (λ e. (refl, refl))
 
 -- THE RECORD OF AN OPEN CONNECTION, in positions: d data bytes in its element, d' in the peer's
 pub record Held (d d' : ℕ) (c : Record) (o : Outward) (i : Inward) : Type 0 where
@@ -101,10 +101,6 @@ pub record Held (d d' : ℕ) (c : Record) (o : Outward) (i : Inward) : Type 0 wh
   pub W-P : i .W ≤ i .P
 
 -- tests
-pub pick : {A : Type 0} (P : A → Type 0) (b : Bool) (x y : A) → (b ≡ true → P x) → (b ≡ false → P y) → P (cond b x y)
-pick P true x y f g = f refl
-pick P false x y f g = g refl
-
 pub or-none : (x y : Bool) → x || y ≡ false → (x ≡ false) × (y ≡ false)
 or-none true y e = absurd (false≢true (sym e))
 or-none false y e = (refl, e)
