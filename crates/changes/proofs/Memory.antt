@@ -16,7 +16,6 @@ use Rattle.outcome.specs.declared.Reply.{Reply}
 use Rattle.outcome.specs.declared.Reply.the-variants.{Refused, Accepted, Sent, Read, Torn, Reset, Heard, Sampled}
 use Rattle.receive.specs.Receive.{placeOf}
 use Rattle.receive.proofs.Laws.{Placeable, place-accepted}
-use Rattle.outcome.specs.Outcome.{effectOf}
 use Rattle.rules.specs.Rules.{Group, Request, send, gather, urgent, place, read, shutdown, close, abort, Call, on, accepted, Turn, turnOf, requestTurn, hearTurn, saysOf, placedIn, Done, does, answer, refuses, putTurn, recordOf, elementIn, linkOf, sizesOk}
 use Rattle.order.proofs.Slots.{slot-in, element-long, Sizes, sizes-in}
 use Rattle.changes.specs.Changes.{InElement, MayChange, by-place, by-open, BytesByPlaceAndOpen}
@@ -42,7 +41,7 @@ module _ (n : ℕ) (a : Bool) (c : Record) (e : List ℕ) where
   puts-in (place at b) = go (placeOf n a c at (length b) .reply) (place-accepted n a c at (length b))
     where
       go : (r : Reply) → (r ≡ Accepted → Placeable n (c .inbound) at (length b))
-          → (placedIn (effectOf r) e at b ≡ e) ⊎ PutIn n c e (place at b)
+          → (placedIn r e at b ≡ e) ⊎ PutIn n c e (place at b)
           (record {
             answer =
                 record {
@@ -52,7 +51,7 @@ module _ (n : ℕ) (a : Bool) (c : Record) (e : List ℕ) where
                   out = [];
                 };
             after = placeOf n a c at (length b) .after;
-            element = placedIn (effectOf r) e at b;
+            element = placedIn r e at b;
           })
       go (Refused k) h = inl refl
       go Accepted h = inr (record { at = at; bytes = b; is = refl; took = refl; now = refl; may = h refl })

@@ -11,7 +11,6 @@ use Rattle.connection.specs.declared.Record.{Record}
 use Rattle.outcome.specs.declared.Reply.the-variants.{Refused, Accepted}
 use Rattle.outcome.specs.declared.Outcome.{Outcome}
 use Rattle.connection.specs.Connection.{zeroRecord}
-use Rattle.outcome.specs.Outcome.{effectOf}
 use Rattle.receive.specs.Receive.{placeOf}
 use Rattle.table.specs.declared.Links.{Links}
 use Rattle.table.specs.declared.Turned.{Turned}
@@ -50,7 +49,7 @@ says-is : (z : Bool) (r : ℕ) → cond z Rules.accepted (Rules.refusal r) ≡ s
 says-is true r = refl
 says-is false r = refl
 
-stores-is : (b : Bool) (r : ℕ) → storesB (effectOf (cond b Accepted (Refused r))) ≡ b
+stores-is : (b : Bool) (r : ℕ) → storesB (cond b Accepted (Refused r)) ≡ b
 stores-is true r = refl
 stores-is false r = refl
 
@@ -85,9 +84,9 @@ module _
         ∙ ap (λ (x : ℕ). keptBy (recordAt t k) (answeredBy x ls))
         (sym (er ∙ ap (λ (x : ℕ). placingOf n (recordAt t k) x at (length b)) held-is))
 
-    stores-as : storesB (effectOf (a .answer .reply)) ≡ eqb r 0
+    stores-as : storesB (a .answer .reply) ≡ eqb r 0
     unfolding keptBy replyBy
-    stores-as = ap (λ (x : Turned). storesB (effectOf (x .answer .reply))) same ∙ stores-is (eqb r 0) r
+    stores-as = ap (λ (x : Turned). storesB (x .answer .reply)) same ∙ stores-is (eqb r 0) r
 
     up : active ≡ activeB (ls .active) (recordAt t k .id .link)
     up = ap (λ (x : List Bool). activeB x (recordAt t k .id .link)) (sym ea)

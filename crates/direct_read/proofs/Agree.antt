@@ -17,7 +17,7 @@ use Rattle.connection.specs.declared.Record.{Record}
 use Rattle.outcome.specs.declared.Reply.the-variants.{Read}
 use Rattle.outcome.specs.declared.Outcome.{Outcome}
 use Rattle.connection.specs.Connection.{noPlace, cTo, urgentInTo, inboundTo, marksTo, reachedB, passedBy, coherentB, refusalOf}
-use Rattle.outcome.specs.Outcome.{noMessage, toldIn, usedIn, toldOf, messageOf, outcomeOf, refusedOf, effectOf}
+use Rattle.outcome.specs.Outcome.{noMessage, toldIn, usedIn, toldOf, messageOf, outcomeOf, refusedOf}
 use Rattle.connection.proofs.Laws.{coherent-facts, refusal-3, refusal-6, refusal-7, refusal-0}
 use Rattle.receive.specs.Receive.{readForbids, unreadOf, consumedIn, clearedIn, consumedOf, updateOf, tornOf, takeOf, readOf}
 use Rattle.receive.proofs.Laws.{take-is}
@@ -40,7 +40,7 @@ pub record Agrees (rec : Record) (t : Reading) (a : Turned) : Type 0 where
   pub says : saysIn (t .said) ≡ saysOf (a .answer .reply)
   pub message : a .answer .message ≡ cond (t .said .made) (encodeOf (messageOf (movedOf rec t))) noMessage
   pub after : a .after ≡ cond (eqb (t .said .refusal) 0) (recordLeft rec t) rec
-  pub copied : copiedOf (effectOf (a .answer .reply)) ≡ t .said .count
+  pub copied : copiedOf (a .answer .reply) ≡ t .said .count
   pub from-is : t .from ≡ rec .inbound .consumer .offset
   pub silent : (t .said .refusal ≡ 0 → ⊥) → (t .said .made ≡ false) × (t .said .count ≡ 0)
 

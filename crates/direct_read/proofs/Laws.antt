@@ -12,7 +12,7 @@ use Rattle.element.specs.Element as Element
 use Rattle.connection.specs.declared.Record.{Record}
 use Rattle.outcome.specs.declared.Outcome.{Outcome}
 use Rattle.connection.specs.Connection.{zeroRecord, marksTo}
-use Rattle.outcome.specs.Outcome.{noMessage, messageOf, effectOf}
+use Rattle.outcome.specs.Outcome.{noMessage, messageOf}
 use Rattle.receive.specs.Receive.{readForbids, readOf}
 use Rattle.table.specs.declared.Links.{Links}
 use Rattle.table.specs.declared.Turned.{Turned}

@@ -6,8 +6,9 @@ use mathlib.Core.List.{List, [], _∷_}
 use lib.ListN.{getD, set, replicate}
 use lib.Dec.{leb, ltb, eqb}
 use Rattle.llcfields.specs.declared.Kind.{Kind}
-use Rattle.llcfields.specs.declared.Kind.the-variants.{ConfirmLink, AddLink, AddLinkContinuation, DeleteLink, ConfirmRkey, TestLink, ConfirmRkeyContinuation, DeleteRkey}
 use Rattle.llcfields.specs.Layouts.{codeOf}
+use Rattle.llcfields.specs.Names.{rowOf}
+use Rattle.llcfields.specs.Names.Name.{R, Z, A, link, num, mtu}
 use Rattle.exchange.specs.declared.Role.{Role}
 use Rattle.exchange.specs.declared.Role.the-variants.{Client, Server}
 use Rattle.exchange.specs.declared.Exchange.{Exchange}
@@ -18,23 +19,13 @@ use Rattle.exchange.specs.declared.Touch.the-variants.{Nothing, Up, Down
 use Rattle.exchange.specs.declared.Places.{Places}
 use Rattle.exchange.specs.declared.Said.{Said}
 
--- WHAT A MESSAGE SAYS: its kind, and those of its values that the rules look at. Where each kind has Z, A, its link, num and mtu: the row's
+-- WHAT A MESSAGE SAYS: its kind, and those of its values that the rules look at. Where a kind has Z, A, its link, num and mtu: the row's
 -- number, from 0
 abbrev pub nowhere : ℕ
 nowhere = 12
 
-abbrev places : ℕ → ℕ → ℕ → ℕ → ℕ → Places
-places z a link num mtu = record { 0 = z; 1 = a; 2 = link; 3 = num; 4 = mtu }
-
 abbrev pub placesOf : Kind → Places
-placesOf ConfirmLink = places nowhere nowhere 5 nowhere nowhere
-placesOf AddLink = places 1 nowhere 7 nowhere 8
-placesOf AddLinkContinuation = places nowhere nowhere 1 nowhere nowhere
-placesOf DeleteLink = places nowhere 1 3 nowhere nowhere
-placesOf ConfirmRkey = places 1 nowhere nowhere 3 nowhere
-placesOf TestLink = places nowhere nowhere nowhere nowhere nowhere
-placesOf ConfirmRkeyContinuation = places 1 nowhere nowhere 2 nowhere
-placesOf DeleteRkey = places 1 nowhere nowhere nowhere nowhere
+placesOf k = record { 0 = rowOf k Z; 1 = rowOf k A; 2 = rowOf k link; 3 = rowOf k num; 4 = rowOf k mtu }
 
 -- a flag, and a row of a byte or less; 0 where there is none
 unfoldable pub flagAt : List ℕ → ℕ → Bool
@@ -54,7 +45,7 @@ saidOf r heard k vs =
       kind = codeOf k;
       heard = heard;
       client = heard && not (clientB r) || (not heard && clientB r);
-      reply = flagAt vs 0;
+      reply = flagAt vs (rowOf k R);
       z = flagAt vs (placesOf k .0);
       a = flagAt vs (placesOf k .1);
       link = byteAt vs (placesOf k .2);

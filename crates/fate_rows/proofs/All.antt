@@ -14,7 +14,7 @@ use Rattle.connection.specs.Connection.{zeroRecord, coherentB}
 use Rattle.table.specs.Table.{sizesB, activeB, gaugeAt, withLink, withGauge, linkSet}
 use Rattle.failover.specs.Failover.{targetOf, planOf, goneB, movesB, tellsB, movedOf, toldOf, movedAll, messagesOf, countOf, bufferLeft}
 use Rattle.linkcalls.specs.Calls.{noFields, fieldsIn, touched, upTaken, noneUp, takenUp, settledOf, unchanged, changeTouch, changedOf}
-use Rattle.linkcalls.specs.Calls.{downB, optionalB, messageB, messageRefusal, repliesB, replyValues, messageWork, noReply, heardWork}
+use Rattle.linkcalls.specs.Calls.{downB, optionalB, messageB, messageRefusal, replies, repliesB, named, replyValues, messageWork, noReply, heardWork}
 use Rattle.linkcalls.specs.Calls.{nothingHeard, heardOf, sendRefusal, sentWork, sentOf}
 use Rattle.rules.specs.Rules.{refuses, linkRefusal, failsOver, linkDoes, linkMessageDoes, linkSendDoes, sampleRefusal, sampleDoes}
 use Rattle.fate_rows.specs.Example.{played, example, expected, turns, inTurn, tests, tested}
@@ -35,7 +35,7 @@ unfolding bitsOf numberOf spread gather layOut writtenOf numberAt classOf
     zeroRecord coherentB sizesB activeB withLink withGauge linkSet
     targetOf planOf goneB movesB tellsB movedOf toldOf movedAll messagesOf countOf bufferLeft
     noFields fieldsIn touched upTaken noneUp takenUp settledOf unchanged changeTouch changedOf downB optionalB messageB messageRefusal
-    repliesB replyValues messageWork noReply heardWork nothingHeard heardOf sendRefusal sentWork sentOf
+    replies repliesB named replyValues messageWork noReply heardWork nothingHeard heardOf sendRefusal sentWork sentOf
     refuses linkRefusal failsOver linkDoes linkMessageDoes linkSendDoes
     played example expected turns inTurn tests tested Fates.rows Stages.rows
 heard-right = record { example = refl; turns = refl; test = refl; fates = refl; stages = refl }
@@ -48,7 +48,7 @@ unfolding bitsOf numberOf spread gather layOut writtenOf numberAt classOf
     zeroRecord coherentB sizesB activeB withLink withGauge linkSet
     targetOf planOf goneB movesB tellsB movedOf toldOf movedAll messagesOf countOf bufferLeft
     noFields fieldsIn touched upTaken noneUp takenUp settledOf unchanged changeTouch changedOf downB optionalB messageB messageRefusal
-    repliesB replyValues messageWork noReply heardWork nothingHeard heardOf sendRefusal sentWork sentOf
+    replies repliesB named replyValues messageWork noReply heardWork nothingHeard heardOf sendRefusal sentWork sentOf
     refuses linkRefusal failsOver linkDoes linkMessageDoes linkSendDoes
     Sends.rows Refused.rows Waiting.rows Downs.rows
 rest-right = record { sends = refl; refused = refl; waiting = refl; downs = refl }

@@ -2,13 +2,15 @@
 -- Assumes nothing.
 use Prim.Native.Nat.{ℕ}
 use mathlib.Core.Bool.{Bool, true, false, _&&_, _||_, not, cond}
-use mathlib.Core.List.{List}
+use mathlib.Core.List.{List, [], _∷_}
 use lib.ListN.{length, getD, set, replicate}
 use lib.Dec.{ltb, eqb}
 use Rattle.llc.specs.Llc.{classOf, optional}
 use Rattle.llcfields.specs.declared.Kind.{Kind}
 use Rattle.llcfields.specs.declared.Kind.the-variants.{ConfirmLink}
 use Rattle.llcfields.specs.Layouts.{codeOf, mark, kindOf, namedB, readOf, reducedOf, encodeOf, mostRows}
+use Rattle.llcfields.specs.Names.{Name, rowOf}
+use Rattle.llcfields.specs.Names.Name.{R, Z, C, reason, mask}
 use Rattle.exchange.specs.declared.Role.{Role}
 use Rattle.exchange.specs.declared.Fate.{Fate}
 use Rattle.exchange.specs.declared.Fate.the-variants.{Taken, Queued, Denied, Dropped}
@@ -19,7 +21,7 @@ use Rattle.exchange.specs.declared.Touch.{Touch}
 use Rattle.exchange.specs.declared.Touch.the-variants.{Nothing, Up, Down, All}
 use Rattle.exchange.specs.declared.Said.{Said}
 use Rattle.exchange.specs.Exchange.{clientB, saidOf, noExchange, addingB, dueB, wentOn, dueTouch, emptyQueue, fullB, queued, oldest, withoutOldest, endsB}
-use Rattle.exchange.specs.Fates.{arrivingOf, fateOf, fateNumber, fateNamed, outsideB, takenExchange, takenTouch, maySend, sentExchange, sentTouch}
+use Rattle.exchange.specs.Fates.{fateOf, fateNumber, fateNamed, outsideB, takenExchange, takenTouch, maySend, sentExchange, sentTouch}
 use Rattle.table.specs.declared.Links.{Links}
 use Rattle.table.specs.Table.{linkIn, activeB, linkSet, exchangeSet}
 use Rattle.linkcalls.specs.declared.Fields.{Fields}
@@ -118,30 +120,97 @@ messageRefusal g l b m f =
     (cond ((eqb f (fateNumber Taken) || eqb f (fateNumber Queued)) && outsideB m) 14
     (cond (eqb f (fateNumber Queued) && fullB (g .queue)) 15 0))))))
 
--- THE REPLY. down: the link that it names is down
-unfoldable pub repliesB : Said → ℕ → Bool → Bool
-repliesB m f down =
-    eqb (arrivingOf m) 2 && eqb f (fateNumber Denied)
-    || (eqb f (fateNumber Taken) && (eqb (arrivingOf m) 3 && down || (eqb (arrivingOf m) 4 || eqb (arrivingOf m) 8))
-    || ((eqb (arrivingOf m) 6 || eqb (arrivingOf m) 7) && (eqb f (fateNumber Taken) || eqb f (fateNumber Denied))
-    || eqb (arrivingOf m) 9 && not (m .reply)))
+-- THE REPLY. "A reply is the fields heard with R 1 and what is named". A line: what arrives, its fate, the reply
+pub data Sender : Type 0 where
+  client : Sender
+  server : Sender
+  anyone : Sender
+
+pub data Arriving : Type 0 where
+  request : ℕ → Sender → Arriving
+  withoutA : ℕ → Sender → Arriving
+  withA : ℕ → Arriving
+  reply : ℕ → Arriving
+
+infix 68 _is_
+pub data Named : Type 0 where
+  _is_ : Name → ℕ → Named
+
+-- a reply may be by the link that the message names: only if it is down; or one if it is active, another if it is down
+pub data Reply : Type 0 where
+  none : Reply
+  naming : List Named → Reply
+  onlyDown : List Named → Reply
+  byLink : List Named → List Named → Reply
+
+pub data Line : Type 0 where
+  line : List Arriving → Fate → Reply → Line
 
 -- unknown link, "reason 00100000"
 abbrev pub unknownLink : ℕ
 unknownLink = 0x00100000
 
-abbrev pub bit : Bool → ℕ
-bit b = cond b 1 0
+unfoldable pub replies : List Line
+replies =
+    line (request 0x02 server ∷ []) Taken none
+    ∷ line (request 0x02 server ∷ []) Denied (naming (Z is 1 ∷ reason is 2 ∷ []))
+    ∷ line (request 0x02 client ∷ reply 0x07 ∷ []) Taken none
+    ∷ line (withoutA 0x04 client ∷ []) Taken (onlyDown (reason is unknownLink ∷ []))
+    ∷ line (withoutA 0x04 server ∷ []) Taken (byLink (reason is 0 ∷ []) (reason is unknownLink ∷ []))
+    ∷ line (withA 0x04 ∷ []) Taken none
+    ∷ line (request 0x06 anyone ∷ request 0x08 anyone ∷ []) Taken (naming (Z is 0 ∷ C is 0 ∷ []))
+    ∷ line (request 0x06 anyone ∷ request 0x08 anyone ∷ []) Denied (naming (Z is 1 ∷ C is 1 ∷ []))
+    ∷ line (request 0x09 anyone ∷ []) Taken (naming (Z is 0 ∷ mask is 0 ∷ []))
+    ∷ line (request 0x07 anyone ∷ []) Taken (naming [])  -- as it is
+    ∷ []
 
--- "the fields heard with R 1 and what is named"
+abbrev senderB : Said → Sender → Bool
+senderB m client = m .client
+senderB m server = not (m .client)
+senderB m anyone = true
+
+abbrev arrivesB : Said → Arriving → Bool
+arrivesB m (request k s) = senderB m s && (not (m .reply) && eqb (m .kind) k)
+arrivesB m (withoutA k s) = senderB m s && (not (m .a) && (not (m .reply) && eqb (m .kind) k))
+arrivesB m (withA k) = m .a && (not (m .reply) && eqb (m .kind) k)
+arrivesB m (reply k) = m .reply && eqb (m .kind) k
+
+abbrev someB : {A : Type 0} → (A → Bool) → List A → Bool
+someB q [] = false
+someB q (x ∷ []) = q x
+someB q (x ∷ y ∷ l) = q x || someB q (y ∷ l)
+
+-- down: the link that the message names is down
+abbrev madeB : Bool → Reply → Bool
+madeB down none = false
+madeB down (naming ns) = true
+madeB down (onlyDown ns) = down
+madeB down (byLink up dn) = true
+
+abbrev answersB : Said → ℕ → Bool → Line → Bool
+answersB m f down (line ms fate r) = madeB down r && (someB (arrivesB m) ms && eqb f (fateNumber fate))
+
+-- f: the fate's number
+unfoldable pub repliesB : Said → ℕ → Bool → Bool
+repliesB m f down = someB (answersB m f down) replies
+
+abbrev namedIn : Bool → Reply → List Named
+namedIn down none = []
+namedIn down (naming ns) = ns
+namedIn down (onlyDown ns) = ns
+namedIn down (byLink up dn) = cond down dn up
+
+abbrev namedBy : Said → ℕ → Bool → List Line → List Named
+namedBy m f down [] = []
+namedBy m f down (line ms fate r ∷ ls) = cond (answersB m f down (line ms fate r)) (namedIn down r) (namedBy m f down ls)
+
+-- what a kind has no row for is not set: 08 has no C
+unfoldable pub named : Kind → List Named → List ℕ → List ℕ
+named k [] vs = vs
+named k (n is v ∷ ns) vs = named k ns (cond (ltb (rowOf k n) mostRows) (set vs (rowOf k n) v) vs)
+
 unfoldable pub replyValues : Said → ℕ → Bool → List ℕ → List ℕ
-replyValues m f down vs =
-    let r = set vs 0 1 in
-    let denied = bit (eqb f (fateNumber Denied)) in
-    cond (eqb (arrivingOf m) 2) (set (set r 1 1) 2 2)
-    (cond (eqb (arrivingOf m) 3 || eqb (arrivingOf m) 4) (set r 4 (cond down unknownLink 0))
-    (cond (eqb (arrivingOf m) 6 || eqb (arrivingOf m) 7) (cond (eqb (m .kind) 0x06) (set (set r 1 denied) 2 denied) (set r 1 denied))
-    (cond (eqb (arrivingOf m) 8) (set (set r 1 0) 3 0) r)))
+replyValues m f down vs = named (kindOf (m .kind)) (R is 1 ∷ namedBy m f down replies) vs
 
 -- "Due: the stage goes on as its line says. Queued: L and the bytes are put into the queue. Dropped: nothing. Taken or denied: as follows"
 unfoldable pub messageWork : Links → ℕ → List ℕ → Said → Bool → ℕ → Settled

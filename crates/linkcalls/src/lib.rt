@@ -287,14 +287,21 @@ fn message_refusal(g: Links, link: u8, s: &[u8], m: Said, f: u8) -> u8
     either(!known, 13, no_6)
 }
 
-// Whether a message that is not due is replied to. k: the table's line; down: the link that it names is down.
+// Whether a message that is not due is replied to, line after line of the page. down: the link that it names is down.
 fn replies(m: Said, f: u8, down: bool) -> bool
     ensures { λ r. ⌜ r ≡ repliesB m f down ⌝ }
 {
-    let k = exchange::arriving(m);
-    ((k == 2) & (f == 2))
-        | (((f == 0) & (((k == 3) & down) | ((k == 4) | (k == 8))))
-            | ((((k == 6) | (k == 7)) & ((f == 0) | (f == 2))) | ((k == 9) & !m.reply)))
+    let add = !m.client & (!m.reply & (m.kind == 2));
+    let asked = m.client & (!m.a & (!m.reply & (m.kind == 4)));
+    let delete = !m.client & (!m.a & (!m.reply & (m.kind == 4)));
+    let rkey = (!m.reply & (m.kind == 6)) | (!m.reply & (m.kind == 8));
+    let keys = !m.reply & (m.kind == 9);
+    let test = !m.reply & (m.kind == 7);
+    (add & (f == 2))
+        | ((down & (asked & (f == 0)))
+            | ((delete & (f == 0))
+                | ((rkey & (f == 0))
+                    | ((rkey & (f == 2)) | ((keys & (f == 0)) | (test & (f == 0)))))))
 }
 
 fn either_value(b: bool, x: u64, y: u64) -> u64
@@ -307,28 +314,36 @@ fn either_value(b: bool, x: u64, y: u64) -> u64
 fn reply_values(m: Said, f: u8, down: bool, vs: [u64; 12]) -> [u64; 12]
     ensures { λ r. ⌜ r ≡ replyValues m f down vs ⌝ }
 {
-    let k = exchange::arriving(m);
+    let add = !m.client & (!m.reply & (m.kind == 2));
+    let asked = m.client & (!m.a & (!m.reply & (m.kind == 4)));
+    let delete = !m.client & (!m.a & (!m.reply & (m.kind == 4)));
+    let rkey = (!m.reply & (m.kind == 6)) | (!m.reply & (m.kind == 8));
+    let keys = !m.reply & (m.kind == 9);
     let denied = either_value(f == 2, 1, 0);
     let reason = either_value(down, 1048576, 0);
     let mut r = vs;
     r[0] = 1;
-    let mut add = r;
-    add[1] = 1;
-    add[2] = 2;
-    let mut delete = r;
-    delete[4] = reason;
+    let mut added = r;
+    added[1] = 1;
+    added[2] = 2;
+    let mut deleted = r;
+    deleted[4] = reason;
     let mut more = r;
     more[1] = denied;
     let mut confirm = more;
     confirm[2] = denied;
-    let mut keys = r;
-    keys[1] = 0;
-    keys[3] = 0;
-    let rkey = either_values(m.kind == 6, confirm, more);
-    let at_8 = either_values(k == 8, keys, r);
-    let at_6 = either_values((k == 6) | (k == 7), rkey, at_8);
-    let at_3 = either_values((k == 3) | (k == 4), delete, at_6);
-    either_values(k == 2, add, at_3)
+    let mut dropped = r;
+    dropped[1] = 0;
+    dropped[3] = 0;
+    let of_rkey = either_values(m.kind == 6, confirm, more);
+    let at_9 = either_values(keys & (f == 0), dropped, r);
+    let at_6 = either_values((rkey & (f == 0)) | (rkey & (f == 2)), of_rkey, at_9);
+    let at_4 = either_values(
+        (down & (asked & (f == 0))) | (delete & (f == 0)),
+        deleted,
+        at_6,
+    );
+    either_values(add & (f == 2), added, at_4)
 }
 
 // What a message does.

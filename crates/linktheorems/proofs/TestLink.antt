@@ -12,6 +12,8 @@ use Rattle.layout.proofs.Bits.{and-left, and-right, bytes-at, spread-length, sp
 use Rattle.layout.proofs.Places.{number-at, number-none, number-next, append-bytes}
 use Rattle.llc.specs.Llc.{classOf}
 use Rattle.llcfields.specs.declared.Kind.the-variants.{TestLink}
+use Rattle.llcfields.specs.Names.{rowOf}
+use Rattle.llcfields.specs.Names.Name.{R}
 use Rattle.llcfields.specs.Layouts.{codeOf, kindOf, namedB, mark, tableOf, valueAt, valuesIn, reduced, filled, readOf, laidRows, rowsOf, nums, encodeOf}
 use Rattle.llcfields.proofs.RoundTrip.{written-again}
 use Rattle.exchange.specs.declared.Exchange.{Exchange}
@@ -23,7 +25,7 @@ use Rattle.table.specs.declared.Links.{Links}
 use Rattle.table.specs.Table.{linkIn, activeB}
 use Rattle.linkcalls.specs.declared.Fields.{Fields}
 use Rattle.linkcalls.specs.declared.Heard.{Heard}
-use Rattle.linkcalls.specs.Calls.{first, fieldsIn, touched, settledOf, unchanged, downB, optionalB, messageB, heardIn, messageRefusal, repliesB, replyValues, messageWork, noReply, heardWork, heardOf}
+use Rattle.linkcalls.specs.Calls.{first, fieldsIn, touched, settledOf, unchanged, downB, optionalB, messageB, heardIn, messageRefusal, replies, Named, repliesB, named, replyValues, messageWork, noReply, heardWork, heardOf}
 use Rattle.linktheorems.specs.TestLink.{IsTestLink, replyBit, userBytes, replyWith, TestLinkAnswered}
 
 -- BYTES that are cut out of bytes
@@ -147,6 +149,14 @@ and-false : (a : Bool) → (a && false) ≡ false
 and-false true = refl
 and-false false = refl
 
+and-true : (a : Bool) → (a && true) ≡ a
+and-true true = refl
+and-true false = refl
+
+either-same : (a : Bool) → _≡_ {A = List Named} (cond a [] []) []
+either-same true = refl
+either-same false = refl
+
 arrives : (m : Said) → m .kind ≡ 0x07 → arrivingOf m ≡ 9
 unfolding arrivingOf
 arrives m k = simp k
@@ -175,12 +185,12 @@ unfolding outsideB actsB
 inside m k = simp k
 
 replies-are : (m : Said) (down : Bool) → m .kind ≡ 0x07 → repliesB m 0 down ≡ not (m .reply)
-unfolding repliesB
-replies-are m down k = simp (arrives m k)
+unfolding repliesB replies
+replies-are m down k = simp (k, and-false, and-true)
 
 values-are : (m : Said) (down : Bool) (vs : List ℕ) → m .kind ≡ 0x07 → replyValues m 0 down vs ≡ set vs 0 1
-unfolding replyValues
-values-are m down vs k = simp (arrives m k)
+unfolding replyValues replies named kindOf
+values-are m down vs k = simp (k, and-false, and-true, either-same)
 
 nothing-done : (g : Links) (l : ℕ) (b : List ℕ) (m : Said) → m .kind ≡ 0x07 → messageWork g l b m false 0 ≡ unchanged g
 unfolding messageWork takenExchange takenTouch settledOf unchanged touched endsB
@@ -198,7 +208,7 @@ module _ (g : Links) (l : ℕ) (b : List ℕ) (t : IsTestLink b) (known : linkIn
   said-reply : m .reply ≡ replyBit b
   unfolding saidOf flagAt readOf filled valuesIn valueAt tableOf
   said-reply =
-      ap (λ (f : Fields). flagAt (f .values) 0) (fields-are b t) ∙ ap (λ (n : ℕ). eqb (n / 2 ^ 7 % 2 ^ 1) 1) (byte3 b t)
+      ap (λ (f : Fields). flagAt (f .values) (rowOf (f .kind) R)) (fields-are b t) ∙ ap (λ (n : ℕ). eqb (n / 2 ^ 7 % 2 ^ 1) 1) (byte3 b t)
 
   is-up : downB g l (first b) ≡ false
   unfolding downB

@@ -6,7 +6,7 @@ use Rattle.llcfields.specs.Layouts.{kindOf, namedB, tableOf, valueAt, valuesIn,
 use Rattle.exchange.specs.Exchange.{flagAt, byteAt, saidOf, sortOf, addingB, stages, dueB, nextStage, wentOn, dueTouch, emptyQueue, fullB, queued, oldest, withoutOldest, runsOver, endsB}
 use Rattle.exchange.specs.Fates.{arrivingOf, fates, fateAt, fateNamed, badMtu, fateOf, actsB, outsideB, takenExchange, takenTouch, maySend, sentExchange, sentTouch}
 use Rattle.table.specs.Table.{activeB, withLink, linkSet}
-use Rattle.linkcalls.specs.Calls.{noFields, fieldsIn, touched, upTaken, noneUp, takenUp, settledOf, unchanged, downB, optionalB, messageB, messageRefusal, repliesB, replyValues, messageWork, noReply, heardWork, nothingHeard, heardOf, sendRefusal, sentWork, sentOf}
+use Rattle.linkcalls.specs.Calls.{noFields, fieldsIn, touched, upTaken, noneUp, takenUp, settledOf, unchanged, downB, optionalB, messageB, messageRefusal, replies, repliesB, named, replyValues, messageWork, noReply, heardWork, nothingHeard, heardOf, sendRefusal, sentWork, sentOf}
 use Rattle.linkvectors.specs.Vectors.{played, server, example, expected, ExampleRight, client, edges, EdgesRight, TestLinkRight}
 
 pub example-right : ExampleRight
@@ -15,8 +15,8 @@ unfolding bitsOf numberOf spread gather layOut writtenOf numberAt classOf
     flagAt byteAt saidOf sortOf addingB stages dueB nextStage wentOn dueTouch emptyQueue fullB queued oldest withoutOldest
     activeB withLink linkSet touched runsOver endsB
     arrivingOf fates fateAt fateNamed badMtu fateOf actsB outsideB takenExchange takenTouch maySend sentExchange sentTouch
-    noFields fieldsIn upTaken noneUp takenUp settledOf unchanged downB optionalB messageB messageRefusal repliesB replyValues messageWork
-    noReply heardWork nothingHeard heardOf sendRefusal sentWork sentOf
+    noFields fieldsIn upTaken noneUp takenUp settledOf unchanged downB optionalB messageB messageRefusal replies
+    repliesB named replyValues messageWork noReply heardWork nothingHeard heardOf sendRefusal sentWork sentOf
     played server example expected
 example-right = refl
 
@@ -26,8 +26,8 @@ unfolding bitsOf numberOf spread gather layOut writtenOf numberAt classOf
     flagAt byteAt saidOf sortOf addingB stages dueB nextStage wentOn dueTouch emptyQueue fullB queued oldest withoutOldest
     activeB withLink linkSet touched runsOver endsB
     arrivingOf fates fateAt fateNamed badMtu fateOf actsB outsideB takenExchange takenTouch maySend sentExchange sentTouch
-    noFields fieldsIn upTaken noneUp takenUp settledOf unchanged downB optionalB messageB messageRefusal repliesB replyValues messageWork
-    noReply heardWork nothingHeard heardOf sendRefusal sentWork sentOf
+    noFields fieldsIn upTaken noneUp takenUp settledOf unchanged downB optionalB messageB messageRefusal replies
+    repliesB named replyValues messageWork noReply heardWork nothingHeard heardOf sendRefusal sentWork sentOf
     client edges
 edges-right = refl
 
@@ -37,7 +37,7 @@ unfolding bitsOf numberOf spread gather layOut writtenOf numberAt classOf
     flagAt byteAt saidOf sortOf addingB stages dueB nextStage wentOn dueTouch emptyQueue fullB queued oldest withoutOldest
     activeB withLink linkSet touched runsOver endsB
     arrivingOf fates fateAt fateNamed badMtu fateOf actsB outsideB takenExchange takenTouch maySend sentExchange sentTouch
-    noFields fieldsIn upTaken noneUp takenUp settledOf unchanged downB optionalB messageB messageRefusal repliesB replyValues messageWork
-    noReply heardWork nothingHeard heardOf sendRefusal sentWork sentOf
+    noFields fieldsIn upTaken noneUp takenUp settledOf unchanged downB optionalB messageB messageRefusal replies
+    repliesB named replyValues messageWork noReply heardWork nothingHeard heardOf sendRefusal sentWork sentOf
     client
 test-link-right = refl

@@ -34,7 +34,7 @@ use Rattle.element.specs.Element.{splice, allFree}
 use Rattle.element.proofs.Others.{splice-below, splice-above}
 use Rattle.flow.specs.Flow.{windowOf}
 use Rattle.outcome.specs.declared.Reply.{Reply}
-use Rattle.outcome.specs.Outcome.{effectOf, toldOf, outcomeOf}
+use Rattle.outcome.specs.Outcome.{toldOf, outcomeOf}
 use Rattle.receive.specs.Receive.{placeForbids}
 use Rattle.receive.proofs.Laws.{Placeable}
 use Rattle.safety.proofs.Lists.{splice-at, splice-none}
@@ -328,7 +328,7 @@ module _ (a : Act) (at : ℕ) (b : List ℕ) (owed-all : EachOwed (a .n) (a .e) 
       none-left false z y = y
 
   pub places-event : {o : Outcome} → Follows (recOf a) (recOf a) o → PlaceStep (recOf a) o
-      → recordOf (nextOf a) (n .slot) ≡ o .after → elementIn (nextOf a) (n .slot) ≡ placedIn (effectOf (o .reply)) (elemOf a) at b
+      → recordOf (nextOf a) (n .slot) ≡ o .after → elementIn (nextOf a) (n .slot) ≡ placedIn (o .reply) (elemOf a) at b
       → After a (record { says = saysOf (o .reply); made = o .made; message = o .message; out = [] }) (places at b)
   places-event {o} follows step record-is element-is =
       finished a
@@ -337,7 +337,7 @@ module _ (a : Act) (at : ℕ) (b : List ℕ) (owed-all : EachOwed (a .n) (a .e) 
       (no-items a e p h (pair .to-f)) (to-e step))
       opened record-is
     where
-      at-end : (r : Reply) → o .reply ≡ r → Placed (placed (acceptedB (saysOf r)) (placedIn (effectOf r) (elemOf a) at b))
+      at-end : (r : Reply) → o .reply ≡ r → Placed (placed (acceptedB (saysOf r)) (placedIn r (elemOf a) at b))
           → Dir d d' n (outOf f q k)
           (inPlace (inOf n e p h) (placed (acceptedB (saysOf (o .reply))) (elementIn (nextOf a) (n .slot)))
           (map (performs n (e .group .N) at (length b)) (e .coming)))
@@ -345,7 +345,7 @@ module _ (a : Act) (at : ℕ) (b : List ℕ) (owed-all : EachOwed (a .n) (a .e) 
           subst (Dir d d' n (outOf f q k))
           (λ i.
           inPlace (inOf n e p h)
-          (placed (acceptedB (saysOf (sym z i))) ((ap (λ (y : Reply). placedIn (effectOf y) (elemOf a) at b) (sym z) ∙ sym element-is) i))
+          (placed (acceptedB (saysOf (sym z i))) ((ap (λ (y : Reply). placedIn y (elemOf a) at b) (sym z) ∙ sym element-is) i))
           (map (performs n (sym (pair .at-e .N-is) i) at (length b)) (e .coming)))
 
       to-e : PlaceStep (recOf a) o

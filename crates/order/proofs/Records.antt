@@ -21,7 +21,7 @@ use Rattle.outcome.specs.declared.Reply.{Reply}
 use Rattle.outcome.specs.declared.Reply.the-variants.{Accepted}
 use Rattle.outcome.specs.declared.Outcome.{Outcome}
 use Rattle.connection.specs.Connection.{zeroRecord, refusalOf, marksTo}
-use Rattle.outcome.specs.Outcome.{effectOf, refusedOf, outcomeOf, toldOf}
+use Rattle.outcome.specs.Outcome.{refusedOf, outcomeOf, toldOf}
 use Rattle.outcome.proofs.Goes.{By, by-test, by-refused, by-outcome, by-urgent, by-shut, by-left}
 use Rattle.transmit.specs.Transmit.{sendOf, sentOf, urgentOf, urgentSendOf}
 use Rattle.produced.specs.Produced.{producedOf, urgedOf}
@@ -89,7 +89,7 @@ and-both true b h = (refl, h)
 and-both false b h = absurd (false≢true h)
 
 module _ (n : ℕ) (a : Bool) (c : Record) (e : List ℕ) (long : length e ≡ n) where
-  place-length : (at : ℕ) (b : List ℕ) → length (placedIn (effectOf ((placeOf n a c at (length b)) .reply)) e at b) ≡ n
+  place-length : (at : ℕ) (b : List ℕ) → length (placedIn ((placeOf n a c at (length b)) .reply) e at b) ≡ n
   unfolding placeOf refusedOf outcomeOf mayPlace
   place-length at b = go (eqb (refusalOf n a c (placeForbids (c .marks))) 0) (mayPlace n (c .inbound) at (length b)) refl
     where
@@ -99,7 +99,7 @@ module _ (n : ℕ) (a : Bool) (c : Record) (e : List ℕ) (long : length e ≡ n
       inside (inr h) = inr (omega (arith, leb-true (at + length b) n ((and-both (leb 4 at) (leb (at + length b) n) ((and-both (inData n at (length b)) _ h) .0)) .1)))
 
       go : (t u : Bool) → mayPlace n (c .inbound) at (length b) ≡ u
-          → length (placedIn (effectOf ((cond t (cond u (outcomeOf Accepted false c) (refusedOf 9 c)) (refusedOf (refusalOf n a c (placeForbids (c .marks))) c)) .reply)) e at b) ≡ n
+          → length (placedIn ((cond t (cond u (outcomeOf Accepted false c) (refusedOf 9 c)) (refusedOf (refusalOf n a c (placeForbids (c .marks))) c)) .reply) e at b) ≡ n
       go true true h = splice-keeps e b at (inside (either (eqb (length b) 0) _ h)) ∙ long
       go true false h = long
       go false u h = long

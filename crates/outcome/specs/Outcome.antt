@@ -12,8 +12,6 @@ use Rattle.connection.specs.declared.Record.{Record}
 use Rattle.connection.specs.Connection.{zeroRecord, tTo, nextTo, inboundTo, outboundTo}
 use Rattle.outcome.specs.declared.Reply.{Reply}
 use Rattle.outcome.specs.declared.Reply.the-variants.{Refused, Accepted, Sent, Read, Torn, Heard, Reset, Sampled}
-use Rattle.outcome.specs.declared.Effect.{Effect}
-use Rattle.outcome.specs.declared.Effect.the-variants.{Nothing, Stores, Copies}
 use Rattle.outcome.specs.declared.Outcome.{Outcome}
 
 -- each message carries the peer token, Q, C, our present B, P and U while an urgent place of our own stands, and D, C or A for the marks
@@ -100,15 +98,3 @@ refusedOf k rec = silentOf (Refused k) rec
 unfoldable pub closedIf : Bool → Outcome → Outcome
 closedIf shut o =
     cond shut (record { reply = o .reply; made = o .made; message = o .message; after = zeroRecord }) o
-
--- What a reply does with the bytes that the call was lent: a place that is accepted stores its bytes, a read of n copies n bytes to the
--- out buffer, every other reply touches none. (Calls that are lent no bytes to store answer `Accepted` too: only a place looks at it.)
-abbrev pub effectOf : Reply → Effect
-effectOf (Refused k) = Nothing
-effectOf Accepted = Stores
-effectOf (Sent n p) = Nothing
-effectOf (Read n) = Copies n
-effectOf Torn = Nothing
-effectOf (Heard moved state) = Nothing
-effectOf Reset = Nothing
-effectOf (Sampled h) = Nothing

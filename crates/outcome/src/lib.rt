@@ -2,7 +2,7 @@
 ghost use mathlib.Core.Path.{_≡_};
 ghost use mathlib.Core.Bool.{Bool};
 ghost use Rattle.outcome.specs.Outcome.{messageOf, pendingOf, toldIn, usedIn, toldOf, silentOf, outcomeOf, urgentOutcome, refusedOf};
-ghost use Rattle.outcome.specs.Outcome.{closedIf, effectOf};
+ghost use Rattle.outcome.specs.Outcome.{closedIf};
 use cdc::Flags;
 use cdc::Message;
 use closing::State;
@@ -40,15 +40,6 @@ pub enum Reply {
     Reset,
     // a sample: the health of its link
     Sampled(Health),
-}
-
-// What a reply does with the bytes that the call was lent.
-pub enum Effect {
-    Nothing,
-    // a place's bytes are stored in the element
-    Stores,
-    // so many bytes are copied to a read's out buffer
-    Copies(u32),
 }
 
 // What a call on one record answers and leaves: the message's bytes where one was made, else zeros.
@@ -181,20 +172,4 @@ pub fn closed_if(shut: bool, o: Outcome) -> Outcome
         next.after = z;
     }
     next
-}
-
-// What the reply does with the bytes that the call was lent.
-pub fn effect_of(reply: Reply) -> Effect
-    ensures { λ r. ⌜ r ≡ effectOf reply ⌝ }
-{
-    match reply {
-        Reply::Refused(_) => Effect::Nothing,
-        Reply::Accepted => Effect::Stores,
-        Reply::Sent(_, _) => Effect::Nothing,
-        Reply::Read(n) => Effect::Copies(n),
-        Reply::Torn => Effect::Nothing,
-        Reply::Heard(_, _) => Effect::Nothing,
-        Reply::Reset => Effect::Nothing,
-        Reply::Sampled(_) => Effect::Nothing,
-    }
 }

@@ -14,7 +14,7 @@ use borrow.Author.Tests.{eqb-true, eq-eqb, ne-eqb, le-ltb}
 use Rattle.receive.proofs.Laws.{Placeable, place-accepted}
 use Rattle.connection.specs.declared.Opening as Given
 use Rattle.connection.specs.Connection.{openedRecord}
-use Rattle.outcome.specs.Outcome.{effectOf, noMessage}
+use Rattle.outcome.specs.Outcome.{noMessage}
 use Rattle.rules.specs.Rules.{accepted, Group, Request, read, on, turnOf, requestTurn, Done, answer, next, refuses, putTurn, recordOf, elementIn, linkOf, send, gather, urgent, place, shutdown, close, abort, Says, saysOf, hearTurn, refusal, Call, Turn, does, openSlot, freeSlot, linkChange, linkMessage, linkSend, sample, hear, manage, sizesOk, placedIn, Answer}
 use Rattle.safety.specs.Statement.{acceptedB, OpenAt, ownOf}
 use Rattle.safety.proofs.Invariant.{Sound, sizes}
@@ -92,7 +92,7 @@ module _ (n : ℕ) (a : Bool) (c : Record) (e : List ℕ) where
   request-stores (place at b) = go (placeOf n a c at (length b) .reply) (place-accepted n a c at (length b))
     where
       go : (r : Reply) → (r ≡ Accepted → Placeable n (c .inbound) at (length b))
-          → Storing n c e (record { at = at; bytes = b }) (saysOf r) (placedIn (effectOf r) e at b)
+          → Storing n c e (record { at = at; bytes = b }) (saysOf r) (placedIn r e at b)
       go (Refused k) h = keeps-all (λ x. refl) refl
       go Accepted h = stores-all refl refl (h refl)
       go (Sent k p) h = keeps-all (λ x. refl) refl

@@ -18,10 +18,7 @@ use Rattle.element.proofs.Calls.{Readable, stored-in, stored-out, read-in}
 use Rattle.connection.specs.declared.Record.{Record}
 use Rattle.outcome.specs.declared.Reply.{Reply}
 use Rattle.outcome.specs.declared.Reply.the-variants.{Refused, Accepted, Sent, Read, Torn, Reset, Heard, Sampled}
-use Rattle.outcome.specs.declared.Effect.{Effect}
-use Rattle.outcome.specs.declared.Effect.the-variants.{Nothing, Stores, Copies}
 use Rattle.connection.specs.Connection.{coherentB, marksTo}
-use Rattle.outcome.specs.Outcome.{effectOf}
 use Rattle.connection.proofs.Laws.{coherent-facts}
 use Rattle.outcome.proofs.Laws.{refused-reply, outcome-reply}
 use Rattle.receive.specs.Receive.{readOf, unreadOf, tornOf}
@@ -64,7 +61,7 @@ store-in m (x ∷ b) base n at inside most (inr h) =
     stored-in m (base + at) (x ∷ b) (omega arith) (omega arith) ∙ splice-part m (x ∷ b) base n at inside high
 
 -- what stores bytes is accepted
-pub stores-is : (r : Reply) → storesB (effectOf r) ≡ true → r ≡ Accepted
+pub stores-is : (r : Reply) → storesB r ≡ true → r ≡ Accepted
 stores-is (Refused k) e = cc
 stores-is Accepted e = refl
 stores-is (Sent n p) e = cc
@@ -74,10 +71,15 @@ stores-is (Heard moved state) e = cc
 stores-is Reset e = cc
 stores-is (Sampled q) e = cc
 
-pub placed-not : (x : Effect) (e : List ℕ) (at : ℕ) (b : List ℕ) → storesB x ≡ false → placedIn x e at b ≡ e
-placed-not Nothing e at b h = refl
-placed-not Stores e at b h = cc
-placed-not (Copies n) e at b h = refl
+pub placed-not : (r : Reply) (e : List ℕ) (at : ℕ) (b : List ℕ) → storesB r ≡ false → placedIn r e at b ≡ e
+placed-not (Refused k) e at b h = refl
+placed-not Accepted e at b h = cc
+placed-not (Sent k p) e at b h = refl
+placed-not (Read n) e at b h = refl
+placed-not Torn e at b h = refl
+placed-not (Heard moved state) e at b h = refl
+placed-not Reset e at b h = refl
+placed-not (Sampled q) e at b h = refl
 
 -- A RING READ. A count of 0 leaves out as it was
 same-ways : {A : Type 0} (z : Bool) (x : A) → cond z x x ≡ x
@@ -88,27 +90,17 @@ pub read-none : (m : List ℕ) (base size at : ℕ) (out : List ℕ) → Element
 unfolding Element.readOf unread
 read-none m base size at out = same-ways (Element.reads m base size at 0 out) out
 
--- what copies n bytes read n
-copies-is : (r : Reply) (n : ℕ) → effectOf r ≡ Copies n → r ≡ Read n
-copies-is (Refused k) n e = cc
-copies-is Accepted n e = cc
-copies-is (Sent k p) n e = cc
-copies-is (Read k) n e = cc
-copies-is Torn n e = cc
-copies-is (Heard moved state) n e = cc
-copies-is Reset n e = cc
-copies-is (Sampled q) n e = cc
-
 pub read-into : (r : Reply) (cur : Cursor) (m : List ℕ) (base n : ℕ) (out : List ℕ)
     → ((j : ℕ) → r ≡ Read j → Readable m base n (cur .offset) j out)
-    → Element.readOf m base n (cur .offset) (copiedOf (effectOf r)) out ≡ readInto (effectOf r) cur (part m base n) out
-read-into r cur m base n out h = go (effectOf r) (λ j e. h j (copies-is r j e))
-  where
-    go : (x : Effect) → ((j : ℕ) → x ≡ Copies j → Readable m base n (cur .offset) j out)
-        → Element.readOf m base n (cur .offset) (copiedOf x) out ≡ readInto x cur (part m base n) out
-    go Nothing k = read-none m base n (cur .offset) out
-    go Stores k = read-none m base n (cur .offset) out
-    go (Copies j) k = read-in m base n (cur .offset) j out (k j refl)
+    → Element.readOf m base n (cur .offset) (copiedOf r) out ≡ readInto r cur (part m base n) out
+read-into (Refused k) cur m base n out h = read-none m base n (cur .offset) out
+read-into Accepted cur m base n out h = read-none m base n (cur .offset) out
+read-into (Sent k p) cur m base n out h = read-none m base n (cur .offset) out
+read-into (Read j) cur m base n out h = read-in m base n (cur .offset) j out (h j refl)
+read-into Torn cur m base n out h = read-none m base n (cur .offset) out
+read-into (Heard moved state) cur m base n out h = read-none m base n (cur .offset) out
+read-into Reset cur m base n out h = read-none m base n (cur .offset) out
+read-into (Sampled q) cur m base n out h = read-none m base n (cur .offset) out
 
 -- what a read names is of a coherent record
 read-coherent : (n : ℕ) (active : Bool) (c : Record) (intact : Bool) (room j : ℕ) → readOf n active c intact room .reply ≡ Read j

@@ -1,16 +1,27 @@
--- What an answer has done to the bytes. Assumes nothing.
+-- What a place and a read ask of their own reply. Assumes nothing.
 use Prim.Native.Nat.{ℕ}
 use mathlib.Core.Bool.{Bool, true, false}
-use Rattle.outcome.specs.declared.Effect.{Effect}
-use Rattle.outcome.specs.declared.Effect.the-variants.{Nothing, Stores, Copies}
+use Rattle.outcome.specs.declared.Reply.{Reply}
+use Rattle.outcome.specs.declared.Reply.the-variants.{Refused, Accepted, Sent, Read, Torn, Heard, Reset, Sampled}
 
--- whether a place's bytes are stored, and how many bytes of a read are copied
-abbrev pub storesB : Effect → Bool
-storesB Nothing = false
-storesB Stores = true
-storesB (Copies n) = false
+-- whether a place was accepted, and its bytes are stored
+abbrev pub storesB : Reply → Bool
+storesB (Refused k) = false
+storesB Accepted = true
+storesB (Sent k p) = false
+storesB (Read n) = false
+storesB Torn = false
+storesB (Heard moved state) = false
+storesB Reset = false
+storesB (Sampled h) = false
 
-abbrev pub copiedOf : Effect → ℕ
-copiedOf Nothing = 0
-copiedOf Stores = 0
-copiedOf (Copies n) = n
+-- how many bytes of a read are copied
+abbrev pub copiedOf : Reply → ℕ
+copiedOf (Refused k) = 0
+copiedOf Accepted = 0
+copiedOf (Sent k p) = 0
+copiedOf (Read n) = n
+copiedOf Torn = 0
+copiedOf (Heard moved state) = 0
+copiedOf Reset = 0
+copiedOf (Sampled h) = 0

@@ -2,26 +2,29 @@
 // crate `calls`.
 ghost use mathlib.Core.Path.{_≡_};
 ghost use mathlib.Core.List.{[]};
-ghost use Rattle.outcome.specs.Outcome.{effectOf};
 ghost use Rattle.rules.specs.Rules as Rules;
 ghost use Rattle.rules.specs.Promises.{shownBy, onRecord};
 ghost use Rattle.receiving.specs.Receiving.{storesB, copiedOf};
 use connection::Record;
-use outcome::Effect;
+use outcome::Reply;
 use table::Links;
 use table::Turned;
 
-// Whether what was answered has a place's bytes stored.
+// Whether a place was accepted, by what was answered.
 fn stores(d: Turned) -> bool
-    ensures { λ r. ⌜ r ≡ storesB (effectOf (d .answer .reply)) ⌝ }
+    ensures { λ r. ⌜ r ≡ storesB (d .answer .reply) ⌝ }
 {
     let answer = d.answer;
     let reply = answer.reply;
-    let what = outcome::effect_of(reply);
-    match what {
-        Effect::Nothing => false,
-        Effect::Stores => true,
-        Effect::Copies(_) => false,
+    match reply {
+        Reply::Refused(_) => false,
+        Reply::Accepted => true,
+        Reply::Sent(_, _) => false,
+        Reply::Read(_) => false,
+        Reply::Torn => false,
+        Reply::Heard(_, _) => false,
+        Reply::Reset => false,
+        Reply::Sampled(_) => false,
     }
 }
 
@@ -51,17 +54,21 @@ pub fn place(
     d
 }
 
-// How many bytes what was answered has copied to a read's out buffer.
+// How many bytes a read copies, by what was answered.
 fn copied(d: Turned) -> u32
-    ensures { λ r. ⌜ r ≡ copiedOf (effectOf (d .answer .reply)) ⌝ }
+    ensures { λ r. ⌜ r ≡ copiedOf (d .answer .reply) ⌝ }
 {
     let answer = d.answer;
     let reply = answer.reply;
-    let what = outcome::effect_of(reply);
-    match what {
-        Effect::Nothing => 0,
-        Effect::Stores => 0,
-        Effect::Copies(n) => n,
+    match reply {
+        Reply::Refused(_) => 0,
+        Reply::Accepted => 0,
+        Reply::Sent(_, _) => 0,
+        Reply::Read(n) => n,
+        Reply::Torn => 0,
+        Reply::Heard(_, _) => 0,
+        Reply::Reset => 0,
+        Reply::Sampled(_) => 0,
     }
 }
 

@@ -15,7 +15,7 @@ use Rattle.outcome.specs.declared.Reply.{Reply}
 use Rattle.outcome.specs.declared.Reply.the-variants.{Refused}
 use Rattle.outcome.specs.declared.Outcome.{Outcome}
 use Rattle.connection.specs.Connection.{zeroRecord}
-use Rattle.outcome.specs.Outcome.{effectOf, refusedOf, outcomeOf, urgentOutcome, closedIf}
+use Rattle.outcome.specs.Outcome.{refusedOf, outcomeOf, urgentOutcome, closedIf}
 use Rattle.outcome.proofs.Laws.{outcome-reply, urgent-reply, closed-reply}
 use Rattle.transmit.specs.Transmit.{sendOf, sentOf, urgentOf, urgentSendOf}
 use Rattle.receive.specs.Receive.{placeOf, readOf, takeOf, tornOf}
@@ -126,9 +126,9 @@ module _ (g : Group) (j : ℕ) where
   request (send b) = quiet _ (search walk depth 9)
   request (urgent b) = quiet _ (search walk depth 9)
   request (gather h b) = joined h b (quiet _ (search walk depth 9))
-  request (place at b) = settled g j [] (λ r. placedIn (effectOf r) e at b) (λ r. []) (λ k. (refl, refl)) _ (search walk depth 9)
+  request (place at b) = settled g j [] (λ r. placedIn r e at b) (λ r. []) (λ k. (refl, refl)) _ (search walk depth 9)
   request (read out) =
-      settled g j out (λ r. e) (λ r. readInto (effectOf r) (recordOf g j .inbound .consumer) e out) (λ k. (refl, refl)) _ (search walk depth 9)
+      settled g j out (λ r. e) (λ r. readInto r (recordOf g j .inbound .consumer) e out) (λ k. (refl, refl)) _ (search walk depth 9)
   request shutdown = quiet _ (search walk depth 9)
   request close = quiet _ (search walk depth 9)
   request abort = quiet _ (search walk depth 9)

@@ -30,11 +30,9 @@ use Rattle.outcome.specs.declared.Placings.{Placings}
 use Rattle.outcome.specs.declared.Placings.the-variants.{Nowhere, One, Two}
 use Rattle.outcome.specs.declared.Reply.{Reply}
 use Rattle.outcome.specs.declared.Reply.the-variants.{Refused, Accepted, Sent, Read, Torn, Reset, Heard, Sampled}
-use Rattle.outcome.specs.declared.Effect.{Effect}
-use Rattle.outcome.specs.declared.Effect.the-variants.{Nothing, Stores, Copies}
 use Rattle.outcome.specs.declared.Outcome.{Outcome}
 use Rattle.connection.specs.Connection.{zeroRecord, openedRecord, remoteOk, coherentB}
-use Rattle.outcome.specs.Outcome.{noMessage, effectOf}
+use Rattle.outcome.specs.Outcome.{noMessage}
 use Rattle.transmit.specs.Transmit.{sendOf, urgentSendOf}
 use Rattle.pieces.specs.Pieces.{Piece, piecesOf}
 use Rattle.receive.specs.Receive.{placeOf, readOf}
@@ -176,16 +174,26 @@ turnOf o e out =
     }
 
 -- the bytes are stored where place is accepted, and nothing else
-abbrev pub placedIn : Effect → List ℕ → ℕ → List ℕ → List ℕ
-placedIn Nothing e at b = e
-placedIn Stores e at b = splice e at b
-placedIn (Copies n) e at b = e
+abbrev pub placedIn : Reply → List ℕ → ℕ → List ℕ → List ℕ
+placedIn (Refused k) e at b = e
+placedIn Accepted e at b = splice e at b
+placedIn (Sent k p) e at b = e
+placedIn (Read n) e at b = e
+placedIn Torn e at b = e
+placedIn (Heard moved state) e at b = e
+placedIn Reset e at b = e
+placedIn (Sampled h) e at b = e
 
 -- the first n unread bytes from C are copied to out where n are read; else out is untouched
-abbrev pub readInto : Effect → Cursor → List ℕ → List ℕ → List ℕ
-readInto Nothing c e out = out
-readInto Stores c e out = out
-readInto (Copies n) c e out = intoOut e (c .offset) n out
+abbrev pub readInto : Reply → Cursor → List ℕ → List ℕ → List ℕ
+readInto (Refused k) c e out = out
+readInto Accepted c e out = out
+readInto (Sent k p) c e out = out
+readInto (Read n) c e out = intoOut e (c .offset) n out
+readInto Torn c e out = out
+readInto (Heard moved state) c e out = out
+readInto Reset c e out = out
+readInto (Sampled h) c e out = out
 
 -- Gather: refusals, n, record and message are those of a send of the joined bytes, head first; where that names placings, it names pieces
 abbrev pub inPieces : (ℕ → List Piece) → Says → Says
@@ -218,9 +226,9 @@ requestTurn n active c e (send b) = sendTurn n active c e b
 requestTurn n active c e (urgent b) = turnOf (urgentSendOf n active c (length b)) e []
 requestTurn n active c e (gather head body) = gatherTurn n active c e head body
 requestTurn n active c e (place at b) =
-    let o = placeOf n active c at (length b) in turnOf o (placedIn (effectOf (o .reply)) e at b) []
+    let o = placeOf n active c at (length b) in turnOf o (placedIn (o .reply) e at b) []
 requestTurn n active c e (read out) =
-    let o = readOf n active c (intactB e) (length out) in turnOf o e (readInto (effectOf (o .reply)) (c .inbound .consumer) e out)
+    let o = readOf n active c (intactB e) (length out) in turnOf o e (readInto (o .reply) (c .inbound .consumer) e out)
 requestTurn n active c e shutdown = turnOf (shutdownOf n active c) e []
 requestTurn n active c e close = turnOf (closeOf n active c) e []
 requestTurn n active c e abort = turnOf (abortOf n active c) e []

@@ -16,7 +16,6 @@ use Rattle.outcome.specs.declared.Reply.{Reply}
 use Rattle.outcome.specs.declared.Reply.the-variants.{Refused, Accepted, Sent, Read, Torn, Reset, Heard, Sampled}
 use Rattle.outcome.specs.declared.Outcome.{Outcome}
 use Rattle.connection.specs.Connection.{coherentB}
-use Rattle.outcome.specs.Outcome.{effectOf}
 use Rattle.connection.proofs.Laws.{refusal-0}
 use Rattle.outcome.proofs.Laws.{outcome-reply}
 use Rattle.transmit.specs.Transmit.{sendOf, placingsTotal, allWithin}
@@ -114,5 +113,5 @@ one-read h k out sizes o ok may whole up =
       n = min (unreadOf (h .N) (c .inbound)) (length out);
       smaller = refl;
       says = ap (λ (x : Answer). x .says) a ∙ ap saysOf r;
-      bytes = ap (λ (x : Answer). x .out) a ∙ ap (λ (s : Reply). readInto (effectOf s) (c .inbound .consumer) e out) r;
+      bytes = ap (λ (x : Answer). x .out) a ∙ ap (λ (s : Reply). readInto s (c .inbound .consumer) e out) r;
     }

@@ -14,7 +14,6 @@ use Rattle.outcome.specs.declared.Reply.the-variants.{Refused, Accepted, Sent, 
 use Rattle.connection.proofs.Laws.{Coherent, coherent-facts}
 use Rattle.receive.specs.Receive.{readOf, unreadOf}
 use Rattle.receive.proofs.Laws.{read-most}
-use Rattle.outcome.specs.Outcome.{effectOf}
 use Rattle.rules.specs.Rules.{Group, read, on, wasRead, saysOf, readInto, turnOf, requestTurn, answer, recordOf, elementIn, linkOf}
 use Rattle.order.proofs.Slots.{open-in, element-long}
 use Rattle.safety.specs.Statement.{OpenAt, offsetC, offsetFrom}
@@ -59,7 +58,7 @@ module _ (h : Group) (s : Sound h) (j n : ℕ) (out : List ℕ) (says : answer h
   unfolding requestTurn turnOf unread
   read-out =
       ap (λ a. a .out) (on-answer h (suc j) (read out) (s .good .sizes) read-open)
-      ∙ ap (λ r. readInto (effectOf r) (recordOf h (suc j) .inbound .consumer) e out) replied
+      ∙ ap (λ r. readInto r (recordOf h (suc j) .inbound .consumer) e out) replied
 
   facts : Coherent (h .N) (recordOf h (suc j))
   facts = coherent-facts (h .N) (recordOf h (suc j)) (s .coherent j read-open)

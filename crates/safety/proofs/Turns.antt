@@ -15,7 +15,6 @@ use Rattle.outcome.specs.declared.Reply.{Reply}
 use Rattle.outcome.specs.declared.Reply.the-variants.{Refused, Accepted, Sent, Read, Torn, Reset, Heard, Sampled}
 use Rattle.outcome.specs.declared.Outcome.{Outcome}
 use Rattle.connection.specs.Connection.{coherentB, zeroRecord}
-use Rattle.outcome.specs.Outcome.{effectOf}
 use Rattle.transmit.specs.Transmit.{sendOf, urgentSendOf}
 use Rattle.transmit.proofs.Laws.{send-coherent, urgent-coherent}
 use Rattle.receive.specs.Receive.{placeOf, readOf}
@@ -59,7 +58,7 @@ still n e o out eye a h =
 
 module _ (n : ℕ) (a : Bool) (c : Record) (e : List ℕ) (long : length e ≡ n) (ok : coherentB n c ≡ true) (eye : intactB e ≡ true) where
   -- the bytes of a place stand where they may, or are none
-  placed-held : (r : Reply) (at : ℕ) (b : List ℕ) → placedIn (effectOf r) e at b ≡ cond (acceptedB (saysOf r)) (splice e at b) e
+  placed-held : (r : Reply) (at : ℕ) (b : List ℕ) → placedIn r e at b ≡ cond (acceptedB (saysOf r)) (splice e at b) e
   placed-held (Refused k) at b = refl
   placed-held Accepted at b = refl
   placed-held (Sent k p) at b = refl
@@ -70,7 +69,7 @@ module _ (n : ℕ) (a : Bool) (c : Record) (e : List ℕ) (long : length e ≡ n
   placed-held (Sampled q) at b = refl
 
   placed-eye : (r : Reply) (at : ℕ) (b : List ℕ) → (r ≡ Accepted → Placeable n (c .inbound) at (length b))
-      → intactB (placedIn (effectOf r) e at b) ≡ true
+      → intactB (placedIn r e at b) ≡ true
   placed-eye (Refused k) at b h = eye
   placed-eye Accepted at b h = go (h refl)
     where
