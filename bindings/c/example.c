@@ -155,8 +155,8 @@ static void carry(struct end *peer, struct fordlinnet_answer a, const uint8_t *b
     }
 }
 
-/* A send, and the send with a small answer on a copy of the table before: it says and leaves the same. */
-static struct fordlinnet_answer send(struct end *me, const char *bytes) {
+/* A send or an urgent send by its number, and the one with a small answer on a copy of the table before: it says and leaves the same. */
+static struct fordlinnet_answer sent(struct end *me, uint32_t number, const char *bytes) {
     struct fordlinnet_group copy = me->group;
     struct fordlinnet_record table[SLOTS];
     uint8_t message[44] = {0};
@@ -164,14 +164,17 @@ static struct fordlinnet_answer send(struct end *me, const char *bytes) {
     struct fordlinnet_answer a;
     memcpy(table, me->table, sizeof table);
     copy.table = table;
-    r = fordlinnet_send_direct(&copy, SLOT, (const uint8_t *)bytes, strlen(bytes), message);
-    a = fordlinnet_send(&me->group, SLOT, (const uint8_t *)bytes, strlen(bytes));
+    r = (number == FORDLINNET_SEND ? fordlinnet_send_direct : fordlinnet_urgent_send)(&copy, SLOT, (const uint8_t *)bytes, strlen(bytes),
+                                                                                      message);
+    a = fordlinnet_call(&me->group, fordlinnet_command_of(number, SLOT), (const uint8_t *)bytes, strlen(bytes), 0, 0);
     expect(r.refusal == a.refusal && r.made == a.made && r.n == a.n && r.placings == a.placings, "the small answer says the same");
     expect(r.first.key == a.first.key && r.first.address == a.first.address && r.first.start == a.first.start, "the same placing");
     expect(r.first.len == a.first.len && r.second.address == a.second.address && r.second.len == a.second.len, "the same placings");
     expect(memcmp(message, a.message, sizeof message) == 0 && same_table(table, me->table), "the same message and record");
     return a;
 }
+
+static struct fordlinnet_answer send(struct end *me, const char *bytes) { return sent(me, FORDLINNET_SEND, bytes); }
 
 /* The read with a small answer, on a copy of the table: it says and leaves the same. */
 static void read_again(const struct end *me, struct fordlinnet_record before, struct fordlinnet_answer a, const uint8_t *wanted) {
@@ -204,21 +207,23 @@ static void read_all(struct end *me, const char *wanted) {
 
 static const uint8_t *text(const char *s) { return (const uint8_t *)s; }
 
-/* A head and a body as if joined; the pieces are asked for one at a time. */
+/* A head and a body as if joined. */
 static void gather(struct end *me, struct end *peer, const char *head, const char *body) {
-    struct fordlinnet_gathered g = fordlinnet_gather(&me->group, SLOT, text(head), strlen(head), text(body), strlen(body));
-    uint32_t k = 0, count = 0;
-    expect(g.answer.said == FORDLINNET_GATHERED && g.answer.n == strlen(head) + strlen(body), "all bytes are taken");
-    for (;;) {
-        struct fordlinnet_piece p =
-            fordlinnet_next_piece(text(head), strlen(head), text(body), strlen(body), g.found, g.answer.n, k);
-        if (p.len == 0) break;
+    uint8_t message[FORDLINNET_MESSAGE_LENGTH] = {0};
+    struct fordlinnet_gather_answer g =
+        fordlinnet_gather(&me->group, SLOT, text(head), strlen(head), text(body), strlen(body), message);
+    struct fordlinnet_answer a = {.made = g.made};
+    uint32_t k = 0;
+    int i;
+    expect(g.refusal == 0 && g.n == strlen(head) + strlen(body), "all bytes are taken");
+    for (i = 0; i < 3 && g.pieces[i].len; i++) {
+        struct fordlinnet_piece p = g.pieces[i];
         place(peer, p.key, p.address, text(p.buffer == FORDLINNET_HEAD ? head : body) + p.start, p.len);
         k += p.len;
-        count++;
     }
-    expect(k == g.answer.n && count <= 3, "the pieces are n bytes, in three pieces at most");
-    carry(peer, g.answer, text(""));
+    expect(k == g.n, "the pieces are n bytes");
+    memcpy(a.message, message, sizeof message);
+    carry(peer, a, text(""));
 }
 
 static void pool_and_gauge(void) {
@@ -401,7 +406,7 @@ int main(void) {
     gather(&left, &right, "a wrap in the head, ", "an end");
     read_all(&right, "a wrap in the head, an end");
 
-    a = fordlinnet_urgent_send(&right.group, SLOT, text("!"), 1);
+    a = sent(&right, FORDLINNET_URGENT_SEND, "!");
     expect(a.said == FORDLINNET_SENT && a.n == 1, "an urgent byte");
     carry(&left, a, text("!"));
     read_all(&left, "!");

@@ -48,8 +48,8 @@ extern "C" {
 #endif
 
 /* The number of what follows, and the archive's word for it: see the head. */
-#define FORDLINNET_ABI 1
-extern const uint32_t fordlinnet_abi_1;
+#define FORDLINNET_ABI 2
+extern const uint32_t fordlinnet_abi_2;
 
 /* THE NUMBERS */
 
@@ -89,7 +89,7 @@ enum {
     FORDLINNET_REFUSED = 1,   /* refusal */
     FORDLINNET_ACCEPTED = 2,  /* nothing beside the message, where one is made */
     FORDLINNET_SENT = 3,      /* n bytes taken; placings: 0, 1 or 2 of first and second */
-    FORDLINNET_GATHERED = 4,  /* n bytes taken; ask fordlinnet_next_piece for the pieces */
+    FORDLINNET_GATHERED = 4,  /* n bytes taken: what a tracer is told of a gather */
     FORDLINNET_WAS_READ = 5,  /* n bytes now stand at the front of out */
     FORDLINNET_TORN = 6,      /* read: the eye catcher is damaged; an abort message is made */
     FORDLINNET_HEARD = 7,     /* moved: how far the peer's producer moved; state */
@@ -475,12 +475,6 @@ struct fordlinnet_link_answer {
     struct fordlinnet_links links;
 };
 
-/* The answer of a gather, and the record as the call found it, by which fordlinnet_next_piece cuts the pieces. */
-struct fordlinnet_gathered {
-    struct fordlinnet_answer answer;
-    struct fordlinnet_record found;
-};
-
 /* A piece for the card to write: `len` bytes from `start` of the head or of the body, to a key and an address. */
 struct fordlinnet_piece {
     uint32_t buffer;
@@ -585,7 +579,7 @@ struct fordlinnet_read_answer {
     uint32_t n;      /* so many bytes were read */
 };
 
-/* What a send on the table itself answers. */
+/* What a send or an urgent send on the table itself answers. */
 struct fordlinnet_send_answer {
     uint8_t refusal;  /* the refusal's number, or 0 */
     bool made;        /* a message was made */
@@ -593,6 +587,15 @@ struct fordlinnet_send_answer {
     uint32_t n;       /* so many of the bytes were taken */
     struct fordlinnet_placing first;
     struct fordlinnet_placing second;
+};
+
+/* What a gather answers. The pieces stand in their order, at most three; all zeros, len == 0, where there is none. */
+struct fordlinnet_gather_answer {
+    uint8_t refusal; /* the refusal's number, or 0 */
+    bool made;       /* a message was made */
+    uint32_t n;      /* so many of the joined bytes were taken */
+    struct fordlinnet_piece pieces[3];
+    struct fordlinnet_placing last; /* an empty placing where Q is after the call; all zeros where it is refused */
 };
 
 /* What a hear on the table itself answers. */
@@ -630,11 +633,15 @@ uint8_t fordlinnet_make_place(uint32_t s, uint32_t n, uint8_t *memory, size_t me
                               size_t table_length, struct fordlinnet_link_states links, uint32_t slot, uint32_t offset,
                               const uint8_t *bytes, size_t bytes_length);
 
-/* Sends, likewise. */
+/* Sends, likewise; and sends urgent bytes. */
 struct fordlinnet_send_answer fordlinnet_make_send(uint32_t s, uint32_t n, const uint8_t *memory, size_t memory_length,
                                                    struct fordlinnet_record *table, size_t table_length,
                                                    struct fordlinnet_link_states links, uint32_t slot, const uint8_t *bytes,
                                                    size_t bytes_length, uint8_t message[FORDLINNET_MESSAGE_LENGTH]);
+struct fordlinnet_send_answer fordlinnet_make_urgent_send(uint32_t s, uint32_t n, const uint8_t *memory, size_t memory_length,
+                                                          struct fordlinnet_record *table, size_t table_length,
+                                                          struct fordlinnet_link_states links, uint32_t slot, const uint8_t *bytes,
+                                                          size_t bytes_length, uint8_t message[FORDLINNET_MESSAGE_LENGTH]);
 
 /* Hears, likewise. */
 struct fordlinnet_hear_answer fordlinnet_make_hear(uint32_t s, uint32_t n, const uint8_t *memory, size_t memory_length,
@@ -653,16 +660,12 @@ struct fordlinnet_finish_answer fordlinnet_make_abort(uint32_t s, uint32_t n, co
                                                       struct fordlinnet_record *table, size_t table_length,
                                                       struct fordlinnet_link_states links, uint32_t slot, uint8_t *message);
 
-/* Sends a head and a body as if joined, head first. */
-struct fordlinnet_gathered fordlinnet_make_gather(uint32_t s, uint32_t n, const uint8_t *memory, size_t memory_length,
-                                                  struct fordlinnet_record *table, size_t table_length, struct fordlinnet_links links,
-                                                  uint32_t slot, const uint8_t *head, size_t head_length, const uint8_t *body,
-                                                  size_t body_length);
-
-/* The next piece of a gather that took n bytes and found `found`, where the pieces before it held k bytes. After the last comes one with
- * len == 0, at the new Q. Ask with k = 0 first, then add each piece's len. */
-struct fordlinnet_piece fordlinnet_next_piece(const uint8_t *head, size_t head_length, const uint8_t *body, size_t body_length,
-                                              struct fordlinnet_record found, uint32_t n, uint32_t k);
+/* Sends a head and a body as if joined, head first, likewise. */
+struct fordlinnet_gather_answer fordlinnet_make_gather(uint32_t s, uint32_t n, const uint8_t *memory, size_t memory_length,
+                                                       struct fordlinnet_record *table, size_t table_length,
+                                                       struct fordlinnet_link_states links, uint32_t slot, const uint8_t *head,
+                                                       size_t head_length, const uint8_t *body, size_t body_length,
+                                                       uint8_t message[FORDLINNET_MESSAGE_LENGTH]);
 
 /* Makes the call on the links that the command names. Of the table it changes at most the links of records; of the memory only the length
  * is looked at. The messages with F go to the front of out; its other bytes stay. */
@@ -698,13 +701,12 @@ struct fordlinnet_command fordlinnet_shape_command(void);
 struct fordlinnet_link_command fordlinnet_shape_link_command(uint32_t one);
 struct fordlinnet_answer fordlinnet_shape_answer(uint32_t one);
 struct fordlinnet_link_answer fordlinnet_shape_link_answer(uint32_t one);
-struct fordlinnet_gathered fordlinnet_shape_gathered(uint32_t one);
 struct fordlinnet_link_states fordlinnet_shape_link_states(uint32_t one);
 struct fordlinnet_read_answer fordlinnet_shape_read_answer(uint32_t one);
 struct fordlinnet_send_answer fordlinnet_shape_send_answer(uint32_t one);
 struct fordlinnet_hear_answer fordlinnet_shape_hear_answer(uint32_t one);
 struct fordlinnet_finish_answer fordlinnet_shape_finish_answer(uint32_t one);
-struct fordlinnet_piece fordlinnet_shape_piece(void);
+struct fordlinnet_gather_answer fordlinnet_shape_gather_answer(uint32_t one);
 struct fordlinnet_view fordlinnet_shape_view(void);
 struct fordlinnet_pool_answer fordlinnet_shape_pool_answer(void);
 struct fordlinnet_settings fordlinnet_shape_settings(uint32_t one);
@@ -722,7 +724,7 @@ FORDLINNET_HAS(command, 112);
 FORDLINNET_HAS(answer, 440);
 FORDLINNET_HAS(link_command, 112);
 FORDLINNET_HAS(link_answer, 584);
-FORDLINNET_HAS(gathered, 608);
+FORDLINNET_HAS(gather_answer, 104);
 FORDLINNET_HAS(piece, 24);
 FORDLINNET_HAS(view, 24);
 FORDLINNET_HAS(pool_answer, 76);
@@ -740,7 +742,7 @@ FORDLINNET_HAS(setup_answer, 304);
 struct fordlinnet_group;
 
 /* A call as a tracer sees it: the command, of one kind or the other, and what it is lent; after the call, its answer. A gather has the
- * number FORDLINNET_GATHER, its head in `bytes`. */
+ * number FORDLINNET_GATHER, its head in `bytes`, and says FORDLINNET_GATHERED. */
 enum { FORDLINNET_GATHER = 15 };
 struct fordlinnet_seen {
     const struct fordlinnet_command *command;           /* or null */
@@ -753,7 +755,7 @@ struct fordlinnet_seen {
     size_t room;
     const struct fordlinnet_answer *answer;           /* null before the call, and of a call on links */
     const struct fordlinnet_link_answer *link_answer; /* null before the call, and of any other */
-    const struct fordlinnet_record *found;            /* a gather's, after the call */
+    const struct fordlinnet_gather_answer *gathered;  /* a gather's, after the call */
 };
 
 /* Who is told of each call of a group, before it and after it. fordlinnet_trace.h has one that writes the calls down for `replay`. */
@@ -779,7 +781,7 @@ struct fordlinnet_group {
  * false, with nothing done. */
 static inline bool fordlinnet_fresh(struct fordlinnet_group *g, bool server) {
     size_t i;
-    if (fordlinnet_abi_1 != FORDLINNET_ABI) return false;
+    if (fordlinnet_abi_2 != FORDLINNET_ABI) return false;
     for (i = 0; i < g->table_length; i++) g->table[i] = fordlinnet_closed_record();
     for (i = 0; i < g->memory_length; i++) g->memory[i] = 0;
     g->links = fordlinnet_links_down(server);
@@ -836,7 +838,7 @@ static inline struct fordlinnet_answer fordlinnet_free_when_no_write_can_arrive(
 
 /* The calls on the links. Each is lent a buffer of at least FORDLINNET_MESSAGE_LENGTH x S bytes, apart from memory and table, or is refused
  * with 1; what `count` says of it is sent over the new link as the head of this file has it: after all writes on the old link are done or
- * were put again in order, else the peer aborts the connection; before any later message. Pieces of a gather found before the call still
+ * were put again in order, else the peer aborts the connection; before any later message. Pieces of a gather answered before the call still
  * name the old link, as placings handed out before it do. */
 
 static inline struct fordlinnet_link_command fordlinnet_link_command_of(uint32_t number, uint8_t link) {
@@ -904,29 +906,6 @@ static inline struct fordlinnet_answer fordlinnet_send(struct fordlinnet_group *
     return fordlinnet_call(g, fordlinnet_command_of(FORDLINNET_SEND, slot), bytes, length, 0, 0);
 }
 
-/* A send whose end is the urgent place if all bytes are taken. Refused as a send. */
-static inline struct fordlinnet_answer fordlinnet_urgent_send(struct fordlinnet_group *g, uint32_t slot, const uint8_t *bytes,
-                                                              size_t length) {
-    return fordlinnet_call(g, fordlinnet_command_of(FORDLINNET_URGENT_SEND, slot), bytes, length, 0, 0);
-}
-
-/* Sends a head and a body as if joined. Refused as a send of the joined bytes. */
-static inline struct fordlinnet_gathered fordlinnet_gather(struct fordlinnet_group *g, uint32_t slot, const uint8_t *head,
-                                                           size_t head_length, const uint8_t *body, size_t body_length) {
-    uint8_t none[1] = {0};
-    struct fordlinnet_command c = fordlinnet_command_of(FORDLINNET_GATHER, slot);
-    struct fordlinnet_seen seen = {&c, 0, head, head_length, body, body_length, 0, 0, 0, 0, 0};
-    struct fordlinnet_gathered a;
-    if (g->tracer) g->tracer->before(g->tracer, g, &seen);
-    a = fordlinnet_make_gather(g->s, g->n, g->memory, g->memory_length, g->table, g->table_length, g->links, slot,
-                               head_length ? head : none, head_length, body_length ? body : none, body_length);
-    g->links = a.answer.links;
-    seen.answer = &a.answer;
-    seen.found = &a.found;
-    if (g->tracer) g->tracer->after(g->tracer, g, &seen);
-    return a;
-}
-
 /* What the card does for the peer: stores bytes at an offset of the element. Refused with 1, 2, 3, 6, 7, 9. */
 static inline struct fordlinnet_answer fordlinnet_place(struct fordlinnet_group *g, uint32_t slot, uint32_t offset, const uint8_t *bytes,
                                                         size_t length) {
@@ -971,9 +950,10 @@ static inline void fordlinnet_message_to(uint8_t *message, const struct fordlinn
     for (i = 0; a->made && i < FORDLINNET_MESSAGE_LENGTH; i++) message[i] = a->message[i];
 }
 
-static FORDLINNET_COLD struct fordlinnet_send_answer fordlinnet_send_traced(struct fordlinnet_group *g, uint32_t slot, const uint8_t *bytes,
-                                                                            size_t length, uint8_t *message) {
-    struct fordlinnet_answer a = fordlinnet_send(g, slot, bytes, length);
+/* A traced send or urgent send is made by its number, which answers the same. */
+static FORDLINNET_COLD struct fordlinnet_send_answer fordlinnet_send_traced(struct fordlinnet_group *g, uint32_t number, uint32_t slot,
+                                                                            const uint8_t *bytes, size_t length, uint8_t *message) {
+    struct fordlinnet_answer a = fordlinnet_call(g, fordlinnet_command_of(number, slot), bytes, length, 0, 0);
     struct fordlinnet_send_answer r;
     r.refusal = (uint8_t)a.refusal;
     r.made = a.made;
@@ -989,9 +969,58 @@ static FORDLINNET_COLD struct fordlinnet_send_answer fordlinnet_send_traced(stru
 static inline struct fordlinnet_send_answer fordlinnet_send_direct(struct fordlinnet_group *g, uint32_t slot, const uint8_t *bytes,
                                                                    size_t length, uint8_t *message) {
     uint8_t none[1] = {0};
-    if (g->tracer) return fordlinnet_send_traced(g, slot, bytes, length, message);
+    if (g->tracer) return fordlinnet_send_traced(g, FORDLINNET_SEND, slot, bytes, length, message);
     return fordlinnet_make_send(g->s, g->n, g->memory, g->memory_length, g->table, g->table_length, fordlinnet_states_of(g), slot,
                                 length ? bytes : none, length, message);
+}
+
+/* A send whose end is the urgent place if all bytes are taken. Refused as a send; its message is written to `message`, which has 44
+ * bytes. */
+static inline struct fordlinnet_send_answer fordlinnet_urgent_send(struct fordlinnet_group *g, uint32_t slot, const uint8_t *bytes,
+                                                                   size_t length, uint8_t *message) {
+    uint8_t none[1] = {0};
+    if (g->tracer) return fordlinnet_send_traced(g, FORDLINNET_URGENT_SEND, slot, bytes, length, message);
+    return fordlinnet_make_urgent_send(g->s, g->n, g->memory, g->memory_length, g->table, g->table_length, fordlinnet_states_of(g), slot,
+                                       length ? bytes : none, length, message);
+}
+
+/* A traced gather: the tracer is told its answer as any other call's. */
+static FORDLINNET_COLD struct fordlinnet_gather_answer fordlinnet_gather_traced(struct fordlinnet_group *g, uint32_t slot,
+                                                                                const uint8_t *head, size_t head_length,
+                                                                                const uint8_t *body, size_t body_length,
+                                                                                uint8_t *message) {
+    uint8_t none[1] = {0};
+    struct fordlinnet_command c = fordlinnet_command_of(FORDLINNET_GATHER, slot);
+    struct fordlinnet_seen seen = {&c, 0, head, head_length, body, body_length, 0, 0, 0, 0, 0};
+    struct fordlinnet_gather_answer r;
+    struct fordlinnet_answer a;
+    unsigned char *p = (unsigned char *)&a;
+    size_t i;
+    g->tracer->before(g->tracer, g, &seen);
+    r = fordlinnet_make_gather(g->s, g->n, g->memory, g->memory_length, g->table, g->table_length, fordlinnet_states_of(g), slot,
+                               head_length ? head : none, head_length, body_length ? body : none, body_length, message);
+    for (i = 0; i < sizeof a; i++) p[i] = 0;
+    a.said = r.refusal ? FORDLINNET_REFUSED : FORDLINNET_GATHERED;
+    a.refusal = r.refusal;
+    a.n = r.n;
+    a.made = r.made;
+    for (i = 0; a.made && i < FORDLINNET_MESSAGE_LENGTH; i++) a.message[i] = message[i];
+    a.links = g->links;
+    seen.answer = &a;
+    seen.gathered = &r;
+    g->tracer->after(g->tracer, g, &seen);
+    return r;
+}
+
+/* Sends a head and a body as if joined: a message that is made is written to `message`, which has 44 bytes, and the card is to write the
+ * pieces before it goes out. Refused as a send of the joined bytes. */
+static inline struct fordlinnet_gather_answer fordlinnet_gather(struct fordlinnet_group *g, uint32_t slot, const uint8_t *head,
+                                                                size_t head_length, const uint8_t *body, size_t body_length,
+                                                                uint8_t *message) {
+    uint8_t none[1] = {0};
+    if (g->tracer) return fordlinnet_gather_traced(g, slot, head, head_length, body, body_length, message);
+    return fordlinnet_make_gather(g->s, g->n, g->memory, g->memory_length, g->table, g->table_length, fordlinnet_states_of(g), slot,
+                                  head_length ? head : none, head_length, body_length ? body : none, body_length, message);
 }
 
 static FORDLINNET_COLD struct fordlinnet_read_answer fordlinnet_read_traced(struct fordlinnet_group *g, uint32_t slot, uint8_t *out,

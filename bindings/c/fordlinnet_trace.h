@@ -314,17 +314,14 @@ static inline void fordlinnet_trace_link_said(FILE *to, const struct fordlinnet_
 }
 
 static inline void fordlinnet_trace_pieces(FILE *to, const struct fordlinnet_seen *call) {
-    uint32_t k = 0;
-    for (;;) {
-        struct fordlinnet_piece p =
-            fordlinnet_next_piece(call->length ? call->bytes : (const uint8_t *)"", call->length,
-                                  call->body_length ? call->body : (const uint8_t *)"", call->body_length, *call->found,
-                                  call->answer->n, k);
-        fprintf(to, "%s%" PRIu32 ",%" PRIu64 ",", k == 0 ? "" : ";", p.key, p.address);
-        fordlinnet_trace_hex(to, (p.buffer == FORDLINNET_HEAD ? call->bytes : call->body) + (p.len ? p.start : 0), p.len);
-        if (p.len == 0) return;
-        k += p.len;
+    const struct fordlinnet_gather_answer *a = call->gathered;
+    for (int i = 0; i < 3 && a->pieces[i].len; i++) {
+        const struct fordlinnet_piece p = a->pieces[i];
+        fprintf(to, "%" PRIu32 ",%" PRIu64 ",", p.key, p.address);
+        fordlinnet_trace_hex(to, (p.buffer == FORDLINNET_HEAD ? call->bytes : call->body) + p.start, p.len);
+        fputs(";", to);
     }
+    fprintf(to, "%" PRIu32 ",%" PRIu64 ",-", a->last.key, a->last.address);
 }
 
 static inline void fordlinnet_trace_said(FILE *to, const struct fordlinnet_seen *call) {

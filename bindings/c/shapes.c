@@ -136,9 +136,6 @@ AT(link_answer, count, 232, 4);
 AT(link_answer, made, 236, 1);
 AT(link_answer, message, 237, 44);
 AT(link_answer, links, 288, 296);
-SIZE(gathered, 608);
-AT(gathered, answer, 0, 440);
-AT(gathered, found, 440, 168);
 SIZE(piece, 24);
 AT(piece, buffer, 0, 4);
 AT(piece, start, 4, 4);
@@ -168,6 +165,12 @@ SIZE(finish_answer, 3);
 AT(finish_answer, refusal, 0, 1);
 AT(finish_answer, made, 1, 1);
 AT(finish_answer, reset, 2, 1);
+SIZE(gather_answer, 104);
+AT(gather_answer, refusal, 0, 1);
+AT(gather_answer, made, 1, 1);
+AT(gather_answer, n, 4, 4);
+AT(gather_answer, pieces, 8, 72);
+AT(gather_answer, last, 80, 24);
 SIZE(view, 24);
 AT(view, health, 0, 4);
 AT(view, shown, 4, 4);
@@ -416,15 +419,6 @@ static void see_link_answer(struct fordlinnet_link_answer v) {
     links(v.links);
 }
 
-static void see_piece(struct fordlinnet_piece v) {
-    begin("piece");
-    NUMBER(v.buffer);
-    NUMBER(v.start);
-    NUMBER(v.len);
-    NUMBER(v.key);
-    NUMBER(v.address);
-}
-
 static void see_view(struct fordlinnet_view v) {
     begin("view");
     NUMBER(v.health);
@@ -461,6 +455,24 @@ static void see_send_answer(struct fordlinnet_send_answer v) {
     NUMBER(v.second.address);
     NUMBER(v.second.start);
     NUMBER(v.second.len);
+}
+
+static void see_gather_answer(struct fordlinnet_gather_answer v) {
+    begin("gather_answer");
+    NUMBER(v.refusal);
+    flag(v.made);
+    NUMBER(v.n);
+    for (int i = 0; i < 3; i++) {
+        NUMBER(v.pieces[i].buffer);
+        NUMBER(v.pieces[i].start);
+        NUMBER(v.pieces[i].len);
+        NUMBER(v.pieces[i].key);
+        NUMBER(v.pieces[i].address);
+    }
+    NUMBER(v.last.key);
+    NUMBER(v.last.address);
+    NUMBER(v.last.start);
+    NUMBER(v.last.len);
 }
 
 static void see_hear_answer(struct fordlinnet_hear_answer v) {
@@ -541,7 +553,6 @@ static void see_setup_answer(struct fordlinnet_setup_answer v) {
 }
 
 int main(void) {
-    see_piece(fordlinnet_shape_piece());
     see_view(fordlinnet_shape_view());
     see_pool_answer(fordlinnet_shape_pool_answer());
     see_command(fordlinnet_shape_command());
@@ -551,13 +562,12 @@ int main(void) {
         see_link_command(fordlinnet_shape_link_command(one));
         see_answer(fordlinnet_shape_answer(one));
         see_link_answer(fordlinnet_shape_link_answer(one));
-        see_answer(fordlinnet_shape_gathered(one).answer);
-        see_record(fordlinnet_shape_gathered(one).found);
         see_link_states(fordlinnet_shape_link_states(one));
         see_read_answer(fordlinnet_shape_read_answer(one));
         see_send_answer(fordlinnet_shape_send_answer(one));
         see_hear_answer(fordlinnet_shape_hear_answer(one));
         see_finish_answer(fordlinnet_shape_finish_answer(one));
+        see_gather_answer(fordlinnet_shape_gather_answer(one));
         see_settings(fordlinnet_shape_settings(one));
         see_setup_answer(fordlinnet_shape_setup_answer(one));
         begin("");

@@ -55,15 +55,19 @@ static void carry(struct end *from, struct end *to, const uint8_t *bytes, const 
     if (a->made) fordlinnet_hear(&to->group, a->message, sizeof a->message);
 }
 
+static void carry_sent(struct end *from, struct end *to, const uint8_t *bytes, struct fordlinnet_send_answer s, const uint8_t *message) {
+    struct fordlinnet_answer a = {.placings = s.placings, .first = s.first, .second = s.second, .made = s.made};
+    if (s.made) memcpy(a.message, message, sizeof a.message);
+    carry(from, to, bytes, &a);
+}
+
 static void course(void) {
     struct end *a = &ends[0], *b = &ends[1];
     uint8_t out[40], message[FORDLINNET_MESSAGE_LENGTH];
     struct fordlinnet_answer x;
-    struct fordlinnet_gathered g;
+    struct fordlinnet_send_answer s;
     struct fordlinnet_fields f = {.kind = FORDLINNET_ADD_LINK};
     struct fordlinnet_link_answer l;
-    struct fordlinnet_piece p;
-    uint32_t k = 0;
     int round;
 
     for (round = 0; round < 2; round++) {
@@ -84,18 +88,14 @@ static void course(void) {
             carry(b, a, out, &x);
         }
     }
-    x = fordlinnet_urgent_send(&b->group, 2, (const uint8_t *)"sand", 4);
-    carry(b, a, (const uint8_t *)"sand", &x);
+    s = fordlinnet_urgent_send(&b->group, 2, (const uint8_t *)"sand", 4, message);
+    carry_sent(b, a, (const uint8_t *)"sand", s, message);
     x = fordlinnet_read(&a->group, 2, out, 3);
     carry(a, b, out, &x);
     x = fordlinnet_read(&a->group, 2, out, 0);
     x = fordlinnet_read(&a->group, 2, out, 9);
     carry(a, b, out, &x);
-    g = fordlinnet_gather(&b->group, 2, (const uint8_t *)"head", 4, (const uint8_t *)"and the body", 12);
-    do {
-        p = fordlinnet_next_piece((const uint8_t *)"head", 4, (const uint8_t *)"and the body", 12, g.found, g.answer.n, k);
-        k += p.len;
-    } while (p.len);
+    fordlinnet_gather(&b->group, 2, (const uint8_t *)"head", 4, (const uint8_t *)"and the body", 12, message);
 
     /* the server adds link 2, and link 1 goes down: the connection moves */
     f.values[FORDLINNET_ADD_LINK_LINK] = 2;
@@ -141,9 +141,9 @@ static void any(struct end *e, struct end *peer) {
             a = fordlinnet_send(g, slot, bytes, length);
             if (a.made && below(8)) fordlinnet_hear(&peer->group, a.message, sizeof a.message);
             break;
-        case 6: fordlinnet_urgent_send(g, slot, bytes, length); break;
+        case 6: fordlinnet_urgent_send(g, slot, bytes, length, message); break;
         case 7: fordlinnet_send_direct(g, slot, bytes, length, message); break;
-        case 8: fordlinnet_gather(g, slot, bytes, length / 2, bytes + length / 2, length - length / 2); break;
+        case 8: fordlinnet_gather(g, slot, bytes, length / 2, bytes + length / 2, length - length / 2, message); break;
         case 9:
         case 10: fordlinnet_place(g, slot, below(SIZE + 2), bytes, below(SIZE)); break;
         case 11:

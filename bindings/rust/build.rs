@@ -6,7 +6,7 @@ use std::env;
 use std::path::{Path, PathBuf};
 
 /// `FORDLINNET_ABI` of the header.
-const ABI: u32 = 1;
+const ABI: u32 = 2;
 
 /// The ABI that an archive names.
 fn abi_of(archive: &[u8]) -> Option<u32> {

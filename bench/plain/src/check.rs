@@ -2,7 +2,7 @@
 
 use crate::ours::Ours;
 use crate::plain;
-use fordlinnet::{Closed, Group, Read, Record, Refusal, Sent};
+use fordlinnet::{Closed, Gathered, Group, Read, Record, Refusal, Sent};
 use model::generate::{exhaust, hostile, traffic};
 use model::replay::{lent_bytes, lines, skipped, Line, Replay, OUT_FILL};
 use std::fmt::Debug;
@@ -15,6 +15,14 @@ fn same<T, U: Debug + PartialEq>(ours: Result<T, Refusal>, plain: Result<U, Refu
 fn sent(s: Sent) -> plain::Sent {
     let placing = |k: usize| s.placings.get(k).map(|p| plain::Placing { key: p.key, address: p.address, start: p.start, len: p.len });
     plain::Sent { taken: s.taken as u32, placings: [placing(0), placing(1)], message: s.message.map(Into::into) }
+}
+
+fn gathered(g: Gathered<'_>) -> plain::Gathered<'_> {
+    let mut pieces = g.pieces().map(|p| plain::Piece { key: p.key, address: p.address, bytes: p.bytes });
+    let none = plain::Piece { key: 0, address: 0, bytes: &[] };
+    let three = [pieces.next().unwrap_or(none), pieces.next().unwrap_or(none), pieces.next().unwrap_or(none)];
+    assert!(pieces.next().is_none(), "a fourth piece");
+    plain::Gathered { taken: g.taken as u32, pieces: three, message: g.message.map(Into::into) }
 }
 
 fn read(r: Read) -> plain::Read {
@@ -31,7 +39,7 @@ fn closed(c: Closed) -> plain::Closed {
     }
 }
 
-/// Makes the call on two copies of the group. Whether it is one of the eight.
+/// Makes the call on two copies of the group. Whether it is one of the nine.
 fn beside(group: &Group, line: &Line) -> bool {
     let mut ours = group.clone();
     let (mut memory, mut table): (Vec<u8>, Vec<Record>) = (group.memory().clone(), group.table().to_vec());
@@ -40,6 +48,8 @@ fn beside(group: &Group, line: &Line) -> bool {
         plain::Group { s: group.elements(), n: group.element_size(), memory: &mut memory, table: &mut table, links: &mut links };
     match line {
         Line::Send { slot, bytes } => same(ours.send(*slot, bytes), plain.send(*slot, bytes), sent, line),
+        Line::Urgent { slot, bytes } => same(ours.urgent_send(*slot, bytes), plain.urgent_send(*slot, bytes), sent, line),
+        Line::Gather { slot, head, body } => same(ours.gather(*slot, head, body), plain.gather(*slot, head, body), gathered, line),
         Line::Place { slot, offset, bytes } => same(ours.place(*slot, *offset, bytes), plain.place(*slot, *offset, bytes), |()| (), line),
         Line::Read { slot, room } => {
             let (mut a, mut b) = (vec![OUT_FILL; *room], vec![OUT_FILL; *room]);
@@ -81,6 +91,12 @@ pub fn check(wanted: usize) -> usize {
             let (mut ours, mut replay) = (Ours::new(), Replay::new());
             for line in lines(&list).into_iter().filter(|line| !skipped(line)) {
                 if let Ok(line) = replay.parse(line) {
+                    // what is sent is also gathered, its first third as the head
+                    if let Line::Send { slot, bytes } = &line {
+                        let (head, body) = bytes.split_at(bytes.len() / 3);
+                        let line = Line::Gather { slot: *slot, head: head.to_vec(), body: body.to_vec() };
+                        calls += usize::from(beside(&ours.group, &line));
+                    }
                     calls += usize::from(beside(&ours.group, &line));
                     replay.execute(&line);
                     ours.execute(&line);

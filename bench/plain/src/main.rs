@@ -1,9 +1,11 @@
-//! Read, send, hear, place, shutdown, close, abort and link change of the proved archive, through the Rust crate, beside the same in
-//! ordinary Rust. First both are compared on random calls, then timed by turns; a table of nanoseconds a call goes to standard output.
-//! Ends with status 1 where a target is missed. With the word `tables` it times 64 bytes over tables of three sizes instead, with a
-//! call's name only that call; with `link-message` it hears a thousand TEST LINKs, for a tool that counts instructions.
+//! Read, send, urgent send, hear, place, shutdown, close, abort and link change of the proved archive, through the Rust crate, beside the
+//! same in ordinary Rust. First both are compared on random calls, then timed by turns; a table of nanoseconds a call goes to standard
+//! output. Ends with status 1 where a target is missed. Gather has rows of its own, beside joining too. With the word `tables` it times 64
+//! bytes over tables of three sizes instead, with a call's name only that call; with `link-message` it hears a thousand TEST LINKs, for a
+//! tool that counts instructions.
 
 mod check;
+mod gather;
 #[path = "../../../bindings/rust/tests/model/ours.rs"]
 #[allow(dead_code)]
 mod ours;
@@ -22,12 +24,15 @@ const TARGET_1K: f64 = 1.1;
 /// The same of a failover; and of shutdown, close and abort.
 const TARGET_MOVE: f64 = 2.0;
 const TARGET_FINISH: f64 = 1.3;
+/// The same of an urgent send.
+const TARGET_URGENT: f64 = 1.35;
 
 #[derive(Clone, Copy, PartialEq)]
 enum What {
     Read,
     Place,
     Send,
+    Urgent,
     Hear,
     Shutdown,
     Close,
@@ -96,6 +101,7 @@ impl Bench {
             What::Read => drop(black_box(&group.read(case.slot, &mut self.out[..]))),
             What::Place => drop(black_box(&group.place(case.slot, case.offset, &self.bytes[..case.count]))),
             What::Send => drop(black_box(&group.send(case.slot, &self.bytes[..case.count]))),
+            What::Urgent => drop(black_box(&group.urgent_send(case.slot, &self.bytes[..case.count]))),
             What::Hear => drop(black_box(&group.hear(&case.message))),
             What::Shutdown => drop(black_box(&group.shutdown(case.slot))),
             What::Close => drop(black_box(&group.close(case.slot))),
@@ -111,6 +117,7 @@ impl Bench {
             What::Read => drop(black_box(&group.read(case.slot, &mut self.out[..]))),
             What::Place => drop(black_box(&group.place(case.slot, case.offset, &self.bytes[..case.count]))),
             What::Send => drop(black_box(&group.send(case.slot, &self.bytes[..case.count]))),
+            What::Urgent => drop(black_box(&group.urgent_send(case.slot, &self.bytes[..case.count]))),
             What::Hear => drop(black_box(&group.hear(&case.message))),
             What::Shutdown => drop(black_box(&group.shutdown(case.slot))),
             What::Close => drop(black_box(&group.close(case.slot))),
@@ -134,6 +141,10 @@ impl Bench {
             }
             What::Send => {
                 let sent = group.send(case.slot, &self.bytes[..case.count]);
+                sent.map_or((u64::MAX, None), |s| (s.taken as u64, s.message.map(Into::into)))
+            }
+            What::Urgent => {
+                let sent = group.urgent_send(case.slot, &self.bytes[..case.count]);
                 sent.map_or((u64::MAX, None), |s| (s.taken as u64, s.message.map(Into::into)))
             }
             What::Hear => group.hear(&case.message).map_or((u64::MAX, None), |h| (h.moved, h.message.map(Into::into))),
@@ -165,6 +176,10 @@ impl Bench {
             }
             What::Send => {
                 let sent = group.send(case.slot, &self.bytes[..case.count]);
+                sent.map_or((u64::MAX, None), |s| (s.taken.into(), s.message))
+            }
+            What::Urgent => {
+                let sent = group.urgent_send(case.slot, &self.bytes[..case.count]);
                 sent.map_or((u64::MAX, None), |s| (s.taken.into(), s.message))
             }
             What::Hear => group.hear(&case.message).map_or((u64::MAX, None), |h| (h.moved, h.message)),
@@ -271,6 +286,17 @@ fn rows() -> Vec<Case> {
     full.outbound.blocked = true;
     rows.push(Case { what: What::Send, words: "no room", count: 1024, before: full, ..base });
 
+    for (count, wrapped) in [(0, false), (1, false), (64, false), (64, true), (1024, false), (1024, true), (65_536, false)] {
+        let mut before = base.before;
+        before.outbound.producer = start(count, wrapped);
+        before.outbound.consumer = before.outbound.producer;
+        rows.push(Case { what: What::Urgent, wrapped, tells: count > 0, count, before, ..base });
+    }
+    rows.push(Case { what: What::Urgent, words: "no room", tells: true, count: 1024, before: full, ..base });
+    let mut half = base.before;
+    half.outbound.producer = step(half.outbound.consumer, D - 512);
+    rows.push(Case { what: What::Urgent, words: "cut short", tells: true, count: 1024, before: half, ..base });
+
     let hears = Case { what: What::Hear, words: "3 records", count: 1024, message: message(own, 1024, 0), ..base };
     let mut read = base.before;
     read.inbound.consumer = step(read.inbound.consumer, 512);
@@ -357,6 +383,7 @@ fn main() {
     match only.as_deref() {
         Some("tables") => return tables(),
         Some("link-message") => return link_message(),
+        Some("gather") => std::process::exit(i32::from(gather::rows() > 0)),
         _ => {}
     }
     if only.is_none() {
@@ -365,12 +392,14 @@ fn main() {
     }
     println!("| call | run | message | bytes | ours, ns | plain, ns | ratio |");
     println!("|---|---|---|---:|---:|---:|---:|");
-    let (mut worst, mut worst_1k, mut worst_move, mut worst_finish, mut over) = (0.0_f64, 0.0_f64, 0.0_f64, 0.0_f64, 0);
+    let (mut worst, mut worst_1k, mut worst_move, mut over) = (0.0_f64, 0.0_f64, 0.0_f64, 0);
+    let (mut worst_finish, mut worst_urgent) = (0.0_f64, 0.0_f64);
     for case in rows() {
         let what = match case.what {
             What::Read => "read",
             What::Place => "place",
             What::Send => "send",
+            What::Urgent => "urgent send",
             What::Hear => "hear",
             What::Shutdown => "shutdown",
             What::Close => "close",
@@ -389,12 +418,13 @@ fn main() {
         let [laid, ours, plain] = time(&case, &mut bench);
         let (ours, plain) = (ours - laid, plain - laid);
         let ratio = ours / plain;
-        // place, send and hear have no target, and are measured beside the others
+        // place, send and hear have no target, nor has an urgent send of no bytes; they are measured beside the others
         let (worst, target) = match case.what {
             What::Read if case.count >= 1024 => (&mut worst_1k, TARGET_1K),
             What::Read => (&mut worst, TARGET),
             What::Change if case.tells => (&mut worst_move, TARGET_MOVE),
             What::Shutdown | What::Close | What::Abort => (&mut worst_finish, TARGET_FINISH),
+            What::Urgent if case.tells => (&mut worst_urgent, TARGET_URGENT),
             _ => (&mut 0.0, f64::MAX),
         };
         *worst = worst.max(ratio);
@@ -416,8 +446,12 @@ fn main() {
     println!();
     println!(
         "read: worst ratio {worst:.2} below 1 KB (target {TARGET}), {worst_1k:.2} from 1 KB up (target {TARGET_1K});
-failover: {worst_move:.2} (target {TARGET_MOVE}); shutdown, close and abort: {worst_finish:.2} (target {TARGET_FINISH}); {over} rows over"
+failover: {worst_move:.2} (target {TARGET_MOVE}); shutdown, close and abort: {worst_finish:.2} (target {TARGET_FINISH});
+urgent send: {worst_urgent:.2} (target {TARGET_URGENT}); {over} rows over"
     );
+    if only.is_none() {
+        over += gather::rows();
+    }
     if over > 0 {
         std::process::exit(1);
     }

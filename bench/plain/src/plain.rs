@@ -1,6 +1,6 @@
-//! Read, send, hear, place, shutdown, close, abort and link change in ordinary Rust, straight and unproved: the whole of each call, with
-//! its refusals, the record, the update test and the message, as one would write it without proofs. Records are changed where they lie;
-//! nothing is copied but the bytes.
+//! Read, send, urgent send, gather, hear, place, shutdown, close, abort and link change in ordinary Rust, straight and unproved: the whole
+//! of each call, with its refusals, the record, the update test and the message, as one would write it without proofs. Records are changed
+//! where they lie; nothing is copied but the bytes.
 //!
 //! The record is the crate's own (`fordlinnet::Record`), so that both sides work on the same bytes. The calls are not inlined into their
 //! caller, as those of a library are not.
@@ -32,6 +32,20 @@ pub struct Placing {
 pub struct Sent {
     pub taken: u32,
     pub placings: [Option<Placing>; 2],
+    pub message: Option<Bytes44>,
+}
+
+#[derive(Clone, Copy, Debug, PartialEq)]
+pub struct Piece<'b> {
+    pub key: u32,
+    pub address: u64,
+    pub bytes: &'b [u8],
+}
+
+#[derive(Clone, Copy, Debug, PartialEq)]
+pub struct Gathered<'b> {
+    pub taken: u32,
+    pub pieces: [Piece<'b>; 3],
     pub message: Option<Bytes44>,
 }
 
@@ -240,6 +254,16 @@ impl Group<'_> {
 
     #[inline(never)]
     pub fn send(&mut self, slot: u32, bytes: &[u8]) -> Result<Sent, Refusal> {
+        self.sent(slot, bytes, false)
+    }
+
+    #[inline(never)]
+    pub fn urgent_send(&mut self, slot: u32, bytes: &[u8]) -> Result<Sent, Refusal> {
+        self.sent(slot, bytes, true)
+    }
+
+    #[inline(always)]
+    fn sent(&mut self, slot: u32, bytes: &[u8], urgent: bool) -> Result<Sent, Refusal> {
         let at = self.slot(slot)?;
         let r = &mut self.table[at];
         let m = &r.marks;
@@ -265,8 +289,63 @@ impl Group<'_> {
         let left = (taken as usize) < bytes.len();
         let told = r.outbound.blocked;
         r.outbound.blocked = left;
-        let message = if taken > 0 || (left && !told) { Some(usual_message(r)) } else { None };
+        if urgent && !left {
+            r.outbound.urgent = Urgent { standing: true, place: r.outbound.producer };
+        }
+        let message = if urgent || taken > 0 || (left && !told) {
+            let mut m = usual_message(r);
+            // P, where it is cut short too
+            m[24] |= u8::from(urgent) << 6;
+            Some(m)
+        } else {
+            None
+        };
         Ok(Sent { taken, placings, message })
+    }
+
+    /// Up to an empty piece: what lies before the element's end, and what behind its beginning, cut where the head ends.
+    #[inline(never)]
+    pub fn gather<'b>(&mut self, slot: u32, head: &'b [u8], body: &'b [u8]) -> Result<Gathered<'b>, Refusal> {
+        let at = self.slot(slot)?;
+        let r = &mut self.table[at];
+        let m = &r.marks;
+        if m.sent.done || m.sent.closed || m.abort || m.heard.closed {
+            return Err(Refusal::State);
+        }
+        let none = Piece { key: 0, address: 0, bytes: &[] };
+        let length = head.len() + body.len();
+        if length == 0 || r.outbound.urgent.standing {
+            return Ok(Gathered { taken: 0, pieces: [none; 3], message: None });
+        }
+        let size = r.remote.size;
+        let q = r.outbound.producer;
+        let room = i64::from(size) - 4 - distance(size, r.outbound.consumer, q);
+        let taken = (room as usize).min(length) as u32;
+        let token = r.remote.rtokens[r.id.link as usize - 1];
+        let element = token.base + u64::from(r.remote.index - 1) * u64::from(size);
+        let first = taken.min(size - q.offset) as usize;
+        let mut pieces = [none; 3];
+        let mut count = 0;
+        let mut add = |start: usize, end: usize, address: u64| {
+            if start < end {
+                let bytes = if start < head.len() { &head[start..end] } else { &body[start - head.len()..end - head.len()] };
+                pieces[count] = Piece { key: token.key, address, bytes };
+                count += 1;
+            }
+        };
+        let mut cut = |start: usize, end: usize, address: u64| {
+            let middle = head.len().clamp(start, end);
+            add(start, middle, address);
+            add(middle, end, address + (middle - start) as u64);
+        };
+        cut(0, first, element + u64::from(q.offset));
+        cut(first, taken as usize, element + 4);
+        r.outbound.producer = step(size, q, taken);
+        let left = (taken as usize) < length;
+        let told = r.outbound.blocked;
+        r.outbound.blocked = left;
+        let message = if taken > 0 || (left && !told) { Some(usual_message(r)) } else { None };
+        Ok(Gathered { taken, pieces, message })
     }
 
     #[inline(never)]

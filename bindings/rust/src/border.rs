@@ -4,7 +4,7 @@
 //! valid for their lengths, buffers that do not overlap, and bools that are 0 or 1. Rust's own types keep all of this, and whoever
 //! implements [`Memory`] by hand promises it.
 
-use crate::{Closed, Heard, Links, Message, Opening, Placing, Placings, Quiet, Read, Record, Refusal, Role, Sent, State};
+use crate::{Closed, Gathered, Heard, Links, Message, Opening, Placing, Placings, Quiet, Read, Record, Refusal, Role, Sent, State};
 use alloc::boxed::Box;
 use alloc::vec::Vec;
 use core::marker::PhantomData;
@@ -103,7 +103,6 @@ pub(crate) enum Number {
     Free = 2,
     LinkChange = 3,
     Sample = 4,
-    UrgentSend = 6,
     LinkMessage = 13,
     LinkSend = 14,
 }
@@ -111,8 +110,6 @@ pub(crate) enum Number {
 /// What an answer says, as far as it is looked at.
 pub(crate) mod said {
     pub const REFUSED: u32 = 1;
-    pub const SENT: u32 = 3;
-    pub const GATHERED: u32 = 4;
     pub const LINK_HEARD: u32 = 13;
     pub const LINK_SENT: u32 = 14;
     pub const LINK_CHANGED: u32 = 15;
@@ -179,8 +176,8 @@ pub(crate) struct ReadAnswer {
     pub count: u32,
 }
 
-/// The answer of a send: a refusal's number or 0, whether a message was made, how many of the placings are named, and how many bytes were
-/// taken.
+/// The answer of a send or an urgent send: a refusal's number or 0, whether a message was made, how many of the placings are named, and
+/// how many bytes were taken.
 #[derive(Clone, Copy)]
 #[cfg_attr(test, derive(Debug, PartialEq))]
 #[repr(C)]
@@ -213,13 +210,16 @@ pub(crate) struct FinishAnswer {
     pub reset: bool,
 }
 
-/// The answer of a gather, and the record that it found.
-#[derive(Clone, Copy)]
-#[cfg_attr(test, derive(Debug, PartialEq))]
+/// The answer of a gather: a refusal's number or 0, whether a message was made, how many bytes were taken, the pieces, zeros where there is
+/// none, and an empty placing where Q is after it.
+#[derive(Clone, Copy, Debug, PartialEq, Eq)]
 #[repr(C)]
-pub(crate) struct GatheredAnswer {
-    pub answer: Answer,
-    pub found: Record,
+pub(crate) struct GatherAnswer {
+    pub refusal: u8,
+    pub made: bool,
+    pub taken: u32,
+    pub pieces: [RawPiece; 3],
+    pub last: Placing,
 }
 
 /// A link message's kind, by its first byte, and its values in row order; kind 0 and zeros are none.
@@ -270,8 +270,7 @@ pub(crate) struct RawLinkAnswer {
 }
 
 /// A part of the head (buffer 0) or of the body (1), and where it goes.
-#[derive(Clone, Copy)]
-#[cfg_attr(test, derive(Debug, PartialEq))]
+#[derive(Clone, Copy, Debug, PartialEq, Eq)]
 #[repr(C)]
 pub(crate) struct RawPiece {
     pub buffer: u32,
@@ -437,6 +436,20 @@ extern "C" {
         message: *mut [u8; Message::SIZE],
     ) -> SendAnswer;
 
+    fn fordlinnet_make_urgent_send(
+        s: u32,
+        n: u32,
+        memory: *const u8,
+        memory_length: usize,
+        table: *mut Record,
+        table_length: usize,
+        links: LinkStates,
+        slot: u32,
+        bytes: *const u8,
+        bytes_length: usize,
+        message: *mut [u8; Message::SIZE],
+    ) -> SendAnswer;
+
     fn fordlinnet_make_hear(
         s: u32,
         n: u32,
@@ -493,23 +506,14 @@ extern "C" {
         memory_length: usize,
         table: *mut Record,
         table_length: usize,
-        links: Links,
+        links: LinkStates,
         slot: u32,
         head: *const u8,
         head_length: usize,
         body: *const u8,
         body_length: usize,
-    ) -> GatheredAnswer;
-
-    fn fordlinnet_next_piece(
-        head: *const u8,
-        head_length: usize,
-        body: *const u8,
-        body_length: usize,
-        found: Record,
-        n: u32,
-        k: u32,
-    ) -> RawPiece;
+        message: *mut [u8; Message::SIZE],
+    ) -> GatherAnswer;
 
     fn fordlinnet_make_link(
         s: u32,
@@ -650,14 +654,28 @@ pub(crate) fn place<M: Memory + ?Sized>(lent: Lent<'_, M>, active: [bool; 4], sl
     }
 }
 
-/// Sends, on the table itself.
-#[inline]
-pub(crate) fn send<M: Memory + ?Sized>(lent: Lent<'_, M>, active: [bool; 4], slot: u32, bytes: &[u8]) -> Result<Sent, Refusal> {
+type SendCall = unsafe extern "C" fn(
+    u32,
+    u32,
+    *const u8,
+    usize,
+    *mut Record,
+    usize,
+    LinkStates,
+    u32,
+    *const u8,
+    usize,
+    *mut [u8; Message::SIZE],
+) -> SendAnswer;
+
+/// A send or an urgent send, on the table itself.
+#[inline(always)]
+fn sent<M: Memory + ?Sized>(call: SendCall, lent: Lent<'_, M>, active: [bool; 4], slot: u32, bytes: &[u8]) -> Result<Sent, Refusal> {
     let (memory, length) = lent.memory.parts();
     let mut message = Unwritten::new();
     // SAFETY: as in `make`.
     let answer = unsafe {
-        fordlinnet_make_send(
+        call(
             lent.s,
             lent.n,
             memory,
@@ -680,6 +698,16 @@ pub(crate) fn send<M: Memory + ?Sized>(lent: Lent<'_, M>, active: [bool; 4], slo
         return Ok(Sent { taken, placings, message: Some(unsafe { message.message() }) });
     }
     Ok(Sent { taken, placings, message: None })
+}
+
+#[inline]
+pub(crate) fn send<M: Memory + ?Sized>(lent: Lent<'_, M>, active: [bool; 4], slot: u32, bytes: &[u8]) -> Result<Sent, Refusal> {
+    sent(fordlinnet_make_send, lent, active, slot, bytes)
+}
+
+#[inline]
+pub(crate) fn urgent_send<M: Memory + ?Sized>(lent: Lent<'_, M>, active: [bool; 4], slot: u32, bytes: &[u8]) -> Result<Sent, Refusal> {
+    sent(fordlinnet_make_urgent_send, lent, active, slot, bytes)
 }
 
 /// Hears, on the table itself.
@@ -770,12 +798,19 @@ pub(crate) fn abort<M: Memory + ?Sized>(mut lent: Lent<'_, M>, active: [bool; 4]
     Ok(unsafe { message.message() })
 }
 
-/// Sends a head and a body as if joined.
+/// Sends a head and a body as if joined, on the table itself.
 #[inline]
-pub(crate) fn gather<M: Memory + ?Sized>(lent: Lent<'_, M>, links: &mut Links, slot: u32, head: &[u8], body: &[u8]) -> GatheredAnswer {
+pub(crate) fn gather<'a, M: Memory + ?Sized>(
+    lent: Lent<'_, M>,
+    active: [bool; 4],
+    slot: u32,
+    head: &'a [u8],
+    body: &'a [u8],
+) -> Result<Gathered<'a>, Refusal> {
     let (memory, length) = lent.memory.parts();
+    let mut message = Unwritten::new();
     // SAFETY: as in `make`.
-    let gathered = unsafe {
+    let answer = unsafe {
         fordlinnet_make_gather(
             lent.s,
             lent.n,
@@ -783,22 +818,23 @@ pub(crate) fn gather<M: Memory + ?Sized>(lent: Lent<'_, M>, links: &mut Links, s
             length,
             lent.table.as_mut_ptr(),
             lent.table.len(),
-            *links,
+            LinkStates { active },
             slot,
             head.as_ptr(),
             head.len(),
             body.as_ptr(),
             body.len(),
+            message.as_mut_ptr(),
         )
     };
-    *links = gathered.answer.links;
-    gathered
-}
-
-/// The next piece of a gather that took n bytes, where the pieces before held k.
-pub(crate) fn piece(head: &[u8], body: &[u8], found: &Record, n: u32, k: u32) -> RawPiece {
-    // SAFETY: the pointers are those of slices.
-    unsafe { fordlinnet_next_piece(head.as_ptr(), head.len(), body.as_ptr(), body.len(), *found, n, k) }
+    if answer.refusal != 0 {
+        return Err(crate::refusal::given(answer.refusal.into()));
+    }
+    if answer.made {
+        // SAFETY: it has said so.
+        return Ok(Gathered::new(head, body, answer, Some(unsafe { message.message() })));
+    }
+    Ok(Gathered::new(head, body, answer, None))
 }
 
 /// Makes a link change, link message or link send. The links are brought up to date.

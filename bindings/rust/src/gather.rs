@@ -1,7 +1,7 @@
 //! The pieces of a head and a body.
 
-use crate::border::{self, RawPiece};
-use crate::{Message, Record};
+use crate::border::{self, GatherAnswer, RawPiece};
+use crate::Message;
 
 /// What a gather answers. Write the pieces, then carry the message to the peer. The pieces are those of the link that the connection had,
 /// also where it has moved since.
@@ -14,8 +14,7 @@ pub struct Gathered<'a> {
     pub message: Option<Message>,
     head: &'a [u8],
     body: &'a [u8],
-    found: Record,
-    n: u32,
+    answer: GatherAnswer,
 }
 
 /// Bytes for the card to write: a part of the head or of the body, never a copy, and where it goes.
@@ -30,39 +29,41 @@ pub struct Piece<'a> {
 }
 
 impl<'a> Gathered<'a> {
-    pub(crate) fn new(head: &'a [u8], body: &'a [u8], found: Record, n: u32, message: Option<Message>) -> Gathered<'a> {
-        Gathered { taken: n as usize, message, head, body, found, n }
+    #[inline]
+    pub(crate) fn new(head: &'a [u8], body: &'a [u8], answer: GatherAnswer, message: Option<Message>) -> Gathered<'a> {
+        Gathered { taken: answer.taken as usize, message, head, body, answer }
     }
 
     /// The pieces in their order, at most three, none empty.
-    pub fn pieces(&self) -> Pieces<'a> {
-        Pieces { of: *self, k: 0 }
+    #[inline]
+    pub fn pieces(&self) -> Pieces<'_, 'a> {
+        Pieces { head: self.head, body: self.body, left: self.answer.pieces.iter() }
     }
 
-    /// The piece after those that held `k` bytes together: empty, at the new Q, after the last.
-    pub fn piece(&self, k: u32) -> Piece<'a> {
-        let RawPiece { buffer, start, len, key, address } = border::piece(self.head, self.body, &self.found, self.n, k);
-        let whole = if buffer == border::HEAD { self.head } else { self.body };
-        Piece { key, address, bytes: &whole[start as usize..][..len as usize] }
+    /// After the last piece: an empty one, where Q is now.
+    pub fn last(&self) -> Piece<'a> {
+        Piece { key: self.answer.last.key, address: self.answer.last.address, bytes: &[] }
     }
 }
 
 /// The pieces of a gather, one at a time.
 #[derive(Clone, Debug)]
-pub struct Pieces<'a> {
-    of: Gathered<'a>,
-    k: u32,
+pub struct Pieces<'b, 'a> {
+    head: &'a [u8],
+    body: &'a [u8],
+    left: std::slice::Iter<'b, RawPiece>,
 }
 
-impl<'a> Iterator for Pieces<'a> {
+impl<'a> Iterator for Pieces<'_, 'a> {
     type Item = Piece<'a>;
 
+    #[inline]
     fn next(&mut self) -> Option<Piece<'a>> {
-        let piece = self.of.piece(self.k);
-        if piece.bytes.is_empty() {
+        let RawPiece { buffer, start, len, key, address } = *self.left.next()?;
+        if len == 0 {
             return None;
         }
-        self.k += piece.bytes.len() as u32;
-        Some(piece)
+        let whole = if buffer == border::HEAD { self.head } else { self.body };
+        Some(Piece { key, address, bytes: &whole[start as usize..][..len as usize] })
     }
 }

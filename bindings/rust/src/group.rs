@@ -4,8 +4,8 @@ use crate::border::{self, health, said, Answer, Command, Lent, LinkCommand, Memo
 use crate::quiet::{Freed, NotOpened, Quiet, Unasked};
 use crate::trace::{Trace, Tracer};
 use crate::{
-    Closed, Exchange, Gathered, Health, Heard, LinkChanged, LinkFields, LinkHeard, LinkSent, Links, Message, Opening, Placings, Queue,
-    Read, Record, Refusal, Role, Sent, State,
+    Closed, Exchange, Gathered, Health, Heard, LinkChanged, LinkFields, LinkHeard, LinkSent, Links, Message, Opening, Queue, Read, Record,
+    Refusal, Role, Sent, State,
 };
 use alloc::boxed::Box;
 use alloc::vec;
@@ -625,12 +625,14 @@ where
     /// # Errors
     ///
     /// As [`Group::send`].
+    #[inline]
     pub fn urgent_send(&mut self, slot: u32, bytes: &[u8]) -> Result<Sent, Refusal> {
         if self.trace.on() {
-            let line = |t: &mut Tracer| t.bytes(format_args!("urgent {slot}"), bytes);
-            return self.traced(None, line, |g| g.urgent_send(slot, bytes), |t, a| t.sent("urgent", a));
+            return *self.urgent_traced(slot, bytes);
         }
-        sent(&self.call(command(Number::UrgentSend, slot), bytes, &mut []))
+        let lent = Lent { s: self.s, n: self.n, memory: &mut self.memory, table: self.table.as_mut() };
+        let links: &Links = self.links.borrow();
+        border::urgent_send(lent, links.active, slot, bytes)
     }
 
     /// Sends a head and a body as if joined, head first. Its pieces are parts of the two, never copies.
@@ -651,17 +653,14 @@ where
     /// assert_eq!(joined, b"headand the body");
     /// # Ok::<(), fordlinnet::Refusal>(())
     /// ```
+    #[inline]
     pub fn gather<'a>(&mut self, slot: u32, head: &'a [u8], body: &'a [u8]) -> Result<Gathered<'a>, Refusal> {
         if self.trace.on() {
-            let line = |t: &mut Tracer| t.gathers(slot, head, body);
-            return self.traced(None, line, |g| g.gather(slot, head, body), |t, a| t.gathered(a));
+            return *self.gather_traced(slot, head, body);
         }
         let lent = Lent { s: self.s, n: self.n, memory: &mut self.memory, table: self.table.as_mut() };
-        let gathered = border::gather(lent, self.links.borrow_mut(), slot, head, body);
-        let answer = &gathered.answer;
-        refused(answer)?;
-        debug_assert_eq!(answer.said, said::GATHERED);
-        Ok(Gathered::new(head, body, gathered.found, answer.n, made(answer)))
+        let links: &Links = self.links.borrow();
+        border::gather(lent, links.active, slot, head, body)
     }
 
     /// What the card does for the peer: stores bytes at an offset of the slot's element. Only where no card does it.
@@ -812,6 +811,20 @@ where
 
     #[cold]
     #[inline(never)]
+    fn urgent_traced(&mut self, slot: u32, bytes: &[u8]) -> Box<Result<Sent, Refusal>> {
+        let line = |t: &mut Tracer| t.bytes(format_args!("urgent {slot}"), bytes);
+        Box::new(self.traced(None, line, |g| g.urgent_send(slot, bytes), |t, a| t.sent("urgent", a)))
+    }
+
+    #[cold]
+    #[inline(never)]
+    fn gather_traced<'a>(&mut self, slot: u32, head: &'a [u8], body: &'a [u8]) -> Box<Result<Gathered<'a>, Refusal>> {
+        let line = |t: &mut Tracer| t.gathers(slot, head, body);
+        Box::new(self.traced(None, line, |g| g.gather(slot, head, body), |t, a| t.gathered(a)))
+    }
+
+    #[cold]
+    #[inline(never)]
     fn place_traced(&mut self, slot: u32, offset: u32, bytes: &[u8]) -> Result<(), Refusal> {
         let line = |t: &mut Tracer| t.bytes(format_args!("place {slot} {offset}"), bytes);
         self.traced(None, line, |g| g.place(slot, offset, bytes), |t, a| t.placed(slot, offset, bytes, a))
@@ -878,17 +891,6 @@ fn link_refused(answer: &RawLinkAnswer) -> Result<(), Refusal> {
         return Err(crate::refusal::given(answer.refusal));
     }
     Ok(())
-}
-
-fn made(answer: &Answer) -> Option<Message> {
-    answer.made.then(|| Message::made(answer.message))
-}
-
-fn sent(answer: &Answer) -> Result<Sent, Refusal> {
-    refused(answer)?;
-    debug_assert_eq!(answer.said, said::SENT);
-    let placings = Placings::new(answer.both, answer.placings as usize);
-    Ok(Sent { taken: answer.n as usize, placings, message: made(answer) })
 }
 
 fn health_of(number: u32, mean: f64, worst: f64) -> Health {

@@ -408,7 +408,7 @@ impl Tracer {
         for piece in gathered.pieces() {
             let _ = write!(pieces, "{},{},{};", piece.key, piece.address, Hex(piece.bytes));
         }
-        let last = gathered.piece(gathered.taken as u32);
+        let last = gathered.last();
         let (n, message) = (gathered.taken, made(gathered.message.as_ref()));
         self.said(format_args!("gather {n} pieces {pieces}{},{},- message {message}", last.key, last.address));
     }

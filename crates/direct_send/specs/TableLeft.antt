@@ -1,7 +1,7 @@
--- What a send leaves of the table and of the message's buffer, by the sending. Assumes nothing.
+-- What a send or an urgent send leaves of the table and of the message's buffer, by the sending. Assumes nothing.
 use Prim.Native.Nat.{ℕ, _<_}
 use mathlib.Core.Path.{_≡_}
-use mathlib.Core.Bool.{cond}
+use mathlib.Core.Bool.{Bool, cond}
 use mathlib.Core.List.{List}
 use lib.Dec.{ltb}
 use lib.ListN.{length}
@@ -13,17 +13,18 @@ use Rattle.transmitting.specs.declared.Sending.{Sending}
 use Rattle.transmitting.specs.Transmitting.{unsentAnswer, unsent, sendingOf}
 use Rattle.transmitted.specs.Transmitted.{recordLeft, messageLeft}
 
--- a send of len bytes on slot k; one outside the table is refused before, so that any value serves
-unfoldable pub sendingAt : List Record → ℕ → ℕ → Sending
-sendingAt t k len = cond (ltb (indexOf k (length t)) (length t)) (sendingOf (recordAt t k) len) (unsent 0 (zeroRecord .outbound))
+-- a send of len bytes on slot k, or an urgent one; one outside the table is refused before, so that any value serves
+unfoldable pub sendingAt : Bool → List Record → ℕ → ℕ → Sending
+sendingAt urgent t k len =
+    cond (ltb (indexOf k (length t)) (length t)) (sendingOf urgent (recordAt t k) len) (unsent 0 (zeroRecord .outbound))
 
 -- of the table t and the message's buffer b it leaves u and c
-abbrev pub LeftBy : List Record → ℕ → List ℕ → List ℕ → SendAnswer → List Record → List ℕ → Type 0
-LeftBy t k bytes b r u c =
-    let q = sendingAt t k (length bytes) in
-    (r ≡ q .said) × (u ≡ withRecord t k (recordLeft (recordAt t k) q)) × (c ≡ messageLeft (recordAt t k) q b)
+abbrev pub LeftBy : Bool → List Record → ℕ → List ℕ → List ℕ → SendAnswer → List Record → List ℕ → Type 0
+LeftBy urgent t k bytes b r u c =
+    let q = sendingAt urgent t k (length bytes) in
+    (r ≡ q .said) × (u ≡ withRecord t k (recordLeft urgent (recordAt t k) q)) × (c ≡ messageLeft urgent (recordAt t k) q b)
 
 -- the same where j, what was refused before, is 0; else it is the answer, and nothing changes
-abbrev pub LeftUnless : ℕ → List Record → ℕ → List ℕ → List ℕ → SendAnswer → List Record → List ℕ → Type 0
-LeftUnless j t k bytes b r u c =
-    (j ≡ 0 → LeftBy t k bytes b r u c) × (0 < j → (r ≡ unsentAnswer j) × (u ≡ t) × (c ≡ b))
+abbrev pub LeftUnless : ℕ → Bool → List Record → ℕ → List ℕ → List ℕ → SendAnswer → List Record → List ℕ → Type 0
+LeftUnless j urgent t k bytes b r u c =
+    (j ≡ 0 → LeftBy urgent t k bytes b r u c) × (0 < j → (r ≡ unsentAnswer j) × (u ≡ t) × (c ≡ b))

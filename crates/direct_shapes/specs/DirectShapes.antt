@@ -6,6 +6,7 @@ use lib.Dec.{eqb}
 use Rattle.direct.specs.declared.LinkStates.{LinkStates}
 use Rattle.reading.specs.declared.ReadAnswer.{ReadAnswer}
 use Rattle.transmitting.specs.declared.SendAnswer.{SendAnswer}
+use Rattle.cutting.specs.declared.GatherAnswer.{GatherAnswer}
 use Rattle.hearing.specs.declared.HearAnswer.{HearAnswer}
 use Rattle.direct_finish.specs.declared.FinishAnswer.{FinishAnswer}
 
@@ -31,3 +32,15 @@ shapeHearAnswer one = record { refusal = 1; made = eqb one 2; state = 3; moved =
 
 abbrev pub shapeFinishAnswer : ℕ → FinishAnswer
 shapeFinishAnswer one = record { refusal = 1; made = eqb one 2; reset = eqb one 3 }
+
+abbrev pub shapeGatherAnswer : ℕ → GatherAnswer
+shapeGatherAnswer one =
+    record {
+      refusal = 1;
+      made = eqb one 2;
+      taken = 50331651;
+      first = record { buffer = 67108868; start = 83886085; len = 100663302; key = 117440519; address = 576460752303423496 };
+      second = record { buffer = 150994953; start = 167772170; len = 184549387; key = 201326604; address = 936748722493063181 };
+      third = record { buffer = 234881038; start = 251658255; len = 268435472; key = 285212689; address = 1297036692682702866 };
+      last = record { key = 318767123; address = 1441151880758558740; start = 352321557; len = 369098774 };
+    }

@@ -1,7 +1,9 @@
 // For a binding's test: the structs of the direct calls, filled as those of crate `shapes` are (document 02, 2026-11).
 ghost use mathlib.Core.Path.{_≡_};
 ghost use Rattle.direct_shapes.specs.DirectShapes.{shapeLinkStates, shapeReadAnswer, shapeSendAnswer, shapeHearAnswer};
-ghost use Rattle.direct_shapes.specs.DirectShapes.{shapeFinishAnswer};
+ghost use Rattle.direct_shapes.specs.DirectShapes.{shapeFinishAnswer, shapeGatherAnswer};
+use cutting::GatherAnswer;
+use cutting::GatherPiece;
 use direct::LinkStates;
 use direct_finish::FinishAnswer;
 use hearing::HearAnswer;
@@ -76,5 +78,47 @@ pub extern "C" fn fordlinnet_shape_finish_answer(one: u32) -> FinishAnswer
         refusal: 1,
         made: one == 2,
         reset: one == 3,
+    }
+}
+
+#[no_mangle]
+pub extern "C" fn fordlinnet_shape_gather_answer(one: u32) -> GatherAnswer
+    ensures { λ r. ⌜ r ≡ shapeGatherAnswer one ⌝ }
+{
+    let first = GatherPiece {
+        buffer: 67108868,
+        start: 83886085,
+        len: 100663302,
+        key: 117440519,
+        address: 576460752303423496,
+    };
+    let second = GatherPiece {
+        buffer: 150994953,
+        start: 167772170,
+        len: 184549387,
+        key: 201326604,
+        address: 936748722493063181,
+    };
+    let third = GatherPiece {
+        buffer: 234881038,
+        start: 251658255,
+        len: 268435472,
+        key: 285212689,
+        address: 1297036692682702866,
+    };
+    let last = Placing {
+        key: 318767123,
+        address: 1441151880758558740,
+        start: 352321557,
+        len: 369098774,
+    };
+    GatherAnswer {
+        refusal: 1,
+        made: one == 2,
+        taken: 50331651,
+        first: first,
+        second: second,
+        third: third,
+        last: last,
     }
 }

@@ -18,19 +18,12 @@ use Rattle.calls.specs.Calls.{readsB}
 use Rattle.management.specs.declared.Management.the-variants.{Sample}
 use Rattle.table.specs.declared.Links.{Links}
 use Rattle.table.specs.declared.Answered.{Answered}
-use Rattle.rules.specs.Rules.{Group, Says, Answer, Did, next, groupOf, answerOf, linksOf, inPieces}
+use Rattle.rules.specs.Rules.{Group, Says, Answer, Did, next, groupOf, answerOf, linksOf}
 use Rattle.rules.specs.Rules.{sampleDoes, sampleRefusal, refuses}
 use Rattle.rules.specs.Rules as Rules
 use Rattle.group.specs.declared.Command.{Command}
 use Rattle.group.specs.declared.Command.the-variants.{On, Hear, Manage}
 use Rattle.group.specs.Group.{callOf, outLeft, OutKept}
-use Rattle.pieces.specs.Pieces.{Piece, piecesOf}
-use Rattle.table.specs.Table.{recordAt}
-use Rattle.gathering.specs.declared.Gathered.{Gathered}
-use Rattle.gathering.specs.Gathering.{gatherAnswer, DidGather}
-use Rattle.gathering.specs.Gathering as Gathering
-use Rattle.flat_gather.specs.declared.FlatGathered.{FlatGathered}
-use Rattle.flat_gather.specs.FlatGather.{gatherFlat, GatherMade}
 use Rattle.flat.specs.declared.FlatCommand.{FlatCommand}
 use Rattle.flat.specs.declared.FlatAnswer.{FlatAnswer}
 use Rattle.flat.specs.declared.FlatLinks.{FlatLinks}
@@ -165,53 +158,3 @@ fordlinnet-make-returns s n m t links q b out own ho c hc a l z left e r hr =
 
     left-links : knownB q ≡ false → r .links ≡ links
     left-links h = ap (λ (w : FlatAnswer). w .links) (hr ∙ unknown-told q links a h) ∙ bare-links 0 0 0 false noMessage links
-
--- A GATHER. Which its pieces are is not in the flat answer
-any-pieces : (p q : ℕ → List Piece) (s : Says) (made : Bool) (message : List ℕ) (links : FlatLinks)
-    → flatSays (inPieces p s) made message links ≡ flatSays (inPieces q s) made message links
-any-pieces p q (Rules.refusal k) made message links = refl
-any-pieces p q Rules.accepted made message links = refl
-any-pieces p q (Rules.sent n ps) made message links = refl
-any-pieces p q (Rules.gathered n ps) made message links = refl
-any-pieces p q (Rules.wasRead n) made message links = refl
-any-pieces p q Rules.torn made message links = refl
-any-pieces p q (Rules.heard moved state) made message links = refl
-any-pieces p q Rules.reset made message links = refl
-any-pieces p q (Rules.sampled h) made message links = refl
-any-pieces p q (Rules.linkChanged n) made message links = refl
-any-pieces p q (Rules.linkHeard fields fate up n) made message links = refl
-any-pieces p q (Rules.linkSent up n) made message links = refl
-
-gather-flat : (found : Record) (head body : List ℕ) (a : Answered) → gatherFlat a ≡ flatOf (gatherAnswer found head body a) (a .links)
-unfolding gatherFlat
-gather-flat found head body a =
-    any-pieces (λ (n : ℕ). []) (piecesOf found head body) (Rules.saysOf (a .reply)) (a .made) (a .message)
-    (flatLinks (a .links))
-
-pub fordlinnet-make-gather-returns : (s n : ℕ) (m : List ℕ) (t : List Record) (links : FlatLinks) (slot : ℕ) (head body : List ℕ)
-    → (own : Links) → own ≡ linksIn links → (g : Gathered) (z : List Record)
-    → DidGather (groupOf s n t own m) slot head body g (groupOf s n z (g .answer .links) m)
-    → (r : FlatGathered) → (r .answer ≡ gatherFlat (g .answer)) × (r .found ≡ g .found)
-    → GatherMade (groupOf s n t (linksIn links) m) slot head body r (groupOf s n z (linksIn (r .answer .links)) m)
-fordlinnet-make-gather-returns s n m t links slot head body own ho g z e r f =
-    record {
-      answered = flat ∙ (λ i. flatOf (did .answered i) (linksOf (did .left i)));
-      left =
-          ap (λ (w : FlatAnswer). groupOf s n z (linksIn (w .links)) m) flat
-          ∙ ap (λ (w : Links). groupOf s n z w m) (left-in says (g .answer .made) (g .answer .message) (g .answer .links)) ∙ did .left;
-      as-found = f .1 ∙ e .as-found;
-    }
-  where
-    flat : r .answer ≡ flatOf (gatherAnswer (g .found) head body (g .answer)) (g .answer .links)
-    flat = f .0 ∙ gather-flat (g .found) head body (g .answer)
-
-    says : Says
-    says = gatherAnswer (g .found) head body (g .answer) .says
-
-    DidIt : Links → Type 0
-    DidIt w =
-        Did (groupOf s n t w m) (Gathering.callOf slot head body) (gatherAnswer (g .found) head body (g .answer))
-        (groupOf s n z (g .answer .links) m)
-
-    did : DidIt (linksIn links)
-    did = subst DidIt ho (e .did)

@@ -9,18 +9,15 @@ ghost use Rattle.fresh.specs.Fresh.{downLinks};
 ghost use Rattle.pool.specs.Pool.{freePool, take, giveBack};
 ghost use Rattle.flat.specs.Flat.{roleOf, linksIn, flatLinks, CallMade};
 ghost use Rattle.flat.specs.View.{flatView};
-ghost use Rattle.flat_gather.specs.FlatGather.{GatherMade, pieceAt};
 ghost use Rattle.flat_pool.specs.FlatPool.{PoolMade};
 ghost use Rattle.flat_setup.specs.FlatSetup.{flatSetup};
 ghost use Rattle.shapes.specs.Shapes.{shapeRecord, shapeLinks, shapeCommand, shapeLinkCommand, shapeAnswer, shapeLinkAnswer};
-ghost use Rattle.shapes.specs.Shapes.{shapePiece, shapeView, shapePoolAnswer, shapeSettings, shapeSetupAnswer};
+ghost use Rattle.shapes.specs.Shapes.{shapeView, shapePoolAnswer, shapeSettings, shapeSetupAnswer};
 use connection::Record;
 use flat::FlatAnswer;
 use flat::FlatCommand;
 use flat::FlatLinks;
 use flat::FlatView;
-use flat_gather::FlatGathered;
-use flat_gather::FlatPiece;
 use flat_link::FlatLinkAnswer;
 use flat_link::FlatLinkCommand;
 use flat_pool::Books;
@@ -48,41 +45,6 @@ pub extern "C" fn fordlinnet_make(
     let named = flat::command_of(command);
     let a = group::make(s, n, mem, table, own, named, bytes, out);
     flat::told(command, links, a)
-}
-
-// Sends a head and a body as if joined.
-#[no_mangle]
-pub extern "C" fn fordlinnet_make_gather(
-    s: u32,
-    n: u32,
-    mem: &[u8],
-    table: &mut [Record],
-    links: FlatLinks,
-    slot: u32,
-    head: &[u8],
-    body: &[u8],
-) -> FlatGathered
-    ensures { λ r.
-        ⌜ GatherMade (groupOf s n (now (table .entry)) (linksIn links) (now (mem .entry))) slot (now (head .entry)) (now (body .entry)) r
-        (groupOf s n (now (table .exit)) (linksIn (r .answer .links)) (now (mem .entry))) ⌝ }
-{
-    let own = flat::links_of(links);
-    let g = gathering::gather(s, n, mem, table, own, slot, head, body);
-    flat_gather::gathered(g)
-}
-
-// The next piece of a gather that took n bytes and found `found`, after the first k bytes.
-#[no_mangle]
-pub extern "C" fn fordlinnet_next_piece<'a>(
-    head: &'a [u8],
-    body: &'a [u8],
-    found: Record,
-    n: u32,
-    k: u32,
-) -> FlatPiece
-    ensures { λ r. ⌜ r ≡ pieceAt (now (head .entry)) (now (body .entry)) found n k ⌝ }
-{
-    flat_gather::piece(head, body, found, n, k)
 }
 
 // What a console shows of a link.
@@ -191,13 +153,6 @@ pub extern "C" fn fordlinnet_shape_link_answer(one: u32) -> FlatLinkAnswer
 }
 
 #[no_mangle]
-pub extern "C" fn fordlinnet_shape_piece() -> FlatPiece
-    ensures { λ r. ⌜ r ≡ shapePiece ⌝ }
-{
-    shapes::piece()
-}
-
-#[no_mangle]
 pub extern "C" fn fordlinnet_shape_view() -> FlatView
     ensures { λ r. ⌜ r ≡ shapeView ⌝ }
 {
@@ -223,11 +178,4 @@ pub extern "C" fn fordlinnet_shape_setup_answer(one: u32) -> SetupAnswer
     ensures { λ r. ⌜ r ≡ shapeSetupAnswer one ⌝ }
 {
     shapes::setup_answer(one)
-}
-
-#[no_mangle]
-pub extern "C" fn fordlinnet_shape_gathered(one: u32) -> FlatGathered
-    ensures { λ r. ⌜ (r .answer ≡ shapeAnswer one) × (r .found ≡ shapeRecord one) ⌝ }
-{
-    shapes::gathered(one)
 }

@@ -10,7 +10,6 @@ use Rattle.flat.specs.declared.FlatAnswer.{FlatAnswer}
 use Rattle.flat.specs.declared.FlatCommand.{FlatCommand}
 use Rattle.flat.specs.declared.FlatLinks.{FlatLinks}
 use Rattle.flat.specs.declared.FlatView.{FlatView}
-use Rattle.flat_gather.specs.declared.FlatPiece.{FlatPiece}
 use Rattle.flat_link.specs.declared.FlatLinkAnswer.{FlatLinkAnswer}
 use Rattle.flat_link.specs.declared.FlatLinkCommand.{FlatLinkCommand}
 use Rattle.flat_pool.specs.declared.PoolAnswer.{PoolAnswer}
@@ -354,16 +353,6 @@ shapeLinkAnswer one =
           } ∷ [];
         };
       };
-    }
-
-abbrev pub shapePiece : FlatPiece
-shapePiece =
-    record {
-      buffer = ends32 1;
-      start = ends32 2;
-      len = ends32 3;
-      key = ends32 4;
-      address = ends64 5;
     }
 
 abbrev pub shapeView : FlatView

@@ -3,7 +3,7 @@
 // has i in its lowest and its highest byte, and is i as a float; a bool is whether `one` is i; each byte of an array is i.
 ghost use mathlib.Core.Path.{_≡_};
 ghost use Rattle.shapes.specs.Shapes.{shapeRecord, shapeLinks, shapeCommand, shapeLinkCommand, shapeAnswer, shapeLinkAnswer};
-ghost use Rattle.shapes.specs.Shapes.{shapePiece, shapeView, shapePoolAnswer, shapeSettings, shapeSetupAnswer};
+ghost use Rattle.shapes.specs.Shapes.{shapeView, shapePoolAnswer, shapeSettings, shapeSetupAnswer};
 use closing::Marks;
 use closing::Side;
 use connection::Identity;
@@ -22,8 +22,6 @@ use flat::FlatAnswer;
 use flat::FlatCommand;
 use flat::FlatLinks;
 use flat::FlatView;
-use flat_gather::FlatGathered;
-use flat_gather::FlatPiece;
 use flat_link::FlatFields;
 use flat_link::FlatLinkAnswer;
 use flat_link::FlatLinkCommand;
@@ -497,18 +495,6 @@ pub fn link_answer(one: u32) -> FlatLinkAnswer
     }
 }
 
-pub fn piece() -> FlatPiece
-    ensures { λ r. ⌜ r ≡ shapePiece ⌝ }
-{
-    FlatPiece {
-        buffer: 16777217,
-        start: 33554434,
-        len: 50331651,
-        key: 67108868,
-        address: 360287970189639685,
-    }
-}
-
 pub fn view() -> FlatView
     ensures { λ r. ⌜ r ≡ shapeView ⌝ }
 {
@@ -592,16 +578,5 @@ pub fn setup_answer(one: u32) -> SetupAnswer
         count: 432345564227567622,
         arguments: arguments,
         message: [21u8; 188],
-    }
-}
-
-pub fn gathered(one: u32) -> FlatGathered
-    ensures { λ r. ⌜ (r .answer ≡ shapeAnswer one) × (r .found ≡ shapeRecord one) ⌝ }
-{
-    let told = answer(one);
-    let rec = record(one);
-    FlatGathered {
-        answer: told,
-        found: rec,
     }
 }

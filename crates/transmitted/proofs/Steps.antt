@@ -1,22 +1,22 @@
 -- What the message comes to, by the code's test. Assumes nothing.
 use Prim.Native.Nat.{ℕ}
 use mathlib.Core.Path.{_≡_}
-use mathlib.Core.Bool.{true, false}
+use mathlib.Core.Bool.{Bool, true, false}
 use mathlib.Core.List.{List}
 use Rattle.cdc.specs.declared.Message.{Message}
 use Rattle.cdc.specs.Cdc.{encodeOf}
 use Rattle.connection.specs.declared.Record.{Record}
 use Rattle.outcome.specs.Outcome.{messageOf}
 use Rattle.transmitting.specs.declared.Sending.{Sending}
-use Rattle.transmitted.specs.Transmitted.{movedOf, messageLeft}
+use Rattle.transmitted.specs.Transmitted.{movedOf, pendingIf, messageLeft}
 
 -- the message in its buffer
-module _ (rec : Record) (t : Sending) (b : List ℕ) where
-  pub told-parts : (x : Record) (m : Message) (bytes : List ℕ) → t .said .made ≡ true → x ≡ movedOf rec t → m ≡ messageOf x
-      → bytes ≡ encodeOf m → bytes ≡ messageLeft rec t b
+module _ (urgent : Bool) (rec : Record) (t : Sending) (b : List ℕ) where
+  pub told-parts : (x : Record) (m p : Message) (bytes : List ℕ) → t .said .made ≡ true → x ≡ movedOf urgent rec t → m ≡ messageOf x
+      → p ≡ pendingIf urgent m → bytes ≡ encodeOf p → bytes ≡ messageLeft urgent rec t b
   unfolding messageLeft
-  told-parts x m bytes e hx hm hb = simp (hb, hm, hx, e)
+  told-parts x m p bytes e hx hm hp hb = simp (hb, hp, hm, hx, e)
 
-  pub told-none : t .said .made ≡ false → b ≡ messageLeft rec t b
+  pub told-none : t .said .made ≡ false → b ≡ messageLeft urgent rec t b
   unfolding messageLeft
   told-none e = simp e

@@ -1,6 +1,6 @@
 -- What the parts of a send come to, by the code's tests. Assumes nothing.
 use mathlib.Core.Path.{_≡_, sym, ap, _∙_}
-use mathlib.Core.Bool.{Bool, true, false}
+use mathlib.Core.Bool.{Bool, true, false, _||_}
 use Prim.Native.Nat.{ℕ, _+_, _-_, _*_, _<_, _^_, min}
 use native.Mathlib.Nat.{mul-le-mul-right}
 use native.Mathlib.Omega.{arith}
@@ -55,24 +55,24 @@ module _ (N' index : ℕ) (t : RToken) (q : Cursor) (k : ℕ) (tells : Bool) (no
         h ∙ (λ i. said k tells 2 (h1 i) (h2 i)) ∙ ap (saidOf (placingIn N' index t) k tells) (sym (stretches-two e))
 
 -- a send with bytes, put together
-pub sent-parts : (rec : Record) (len k : ℕ) (q : Cursor) (tells : Bool) (t : RToken) (a : SendAnswer)
+pub sent-parts : (urgent : Bool) (rec : Record) (len k : ℕ) (q : Cursor) (tells : Bool) (t : RToken) (a : SendAnswer)
     → k ≡ takenIn (rec .remote .size) (rec .outbound) len → q ≡ stepOf (rec .remote .size) (rec .outbound .producer) k
-    → tells ≡ tellsIn (rec .outbound) k len → t ≡ rtokenOf rec
+    → tells ≡ urgent || tellsIn (rec .outbound) k len → t ≡ rtokenOf rec
     → a ≡ namedIn (rec .remote .size) (rec .remote .index) t (rec .outbound .producer) k tells
-    → _≡_ {A = Sending} (record { said = a; producer = q; blocked = ltb k len }) (sentBy rec len)
+    → _≡_ {A = Sending} (record { said = a; producer = q; blocked = ltb k len }) (sentBy urgent rec len)
 unfolding sentBy
-sent-parts rec len k q tells t a hk hq ht hr ha = simp (ha, hr, ht, hq, hk)
+sent-parts urgent rec len k q tells t a hk hq ht hr ha = simp (ha, hr, ht, hq, hk)
 
 -- a send, test by test
-module _ (rec : Record) (len : ℕ) (r : Sending) where
-  pub send-forbidden : sendForbids (rec .marks) ≡ true → r ≡ unsent 7 (rec .outbound) → r ≡ sendingOf rec len
+module _ (urgent : Bool) (rec : Record) (len : ℕ) (r : Sending) where
+  pub send-forbidden : sendForbids (rec .marks) ≡ true → r ≡ unsent 7 (rec .outbound) → r ≡ sendingOf urgent rec len
   unfolding sendingOf
   send-forbidden f e = simp (e, f)
 
-  pub send-waits : sendForbids (rec .marks) ≡ false → waitsB rec len ≡ true → r ≡ unsent 0 (rec .outbound) → r ≡ sendingOf rec len
+  pub send-waits : sendForbids (rec .marks) ≡ false → waitsB rec len ≡ true → r ≡ unsent 0 (rec .outbound) → r ≡ sendingOf urgent rec len
   unfolding sendingOf
   send-waits f w e = simp (e, f, w)
 
-  pub send-sent : sendForbids (rec .marks) ≡ false → waitsB rec len ≡ false → r ≡ sentBy rec len → r ≡ sendingOf rec len
+  pub send-sent : sendForbids (rec .marks) ≡ false → waitsB rec len ≡ false → r ≡ sentBy urgent rec len → r ≡ sendingOf urgent rec len
   unfolding sendingOf
   send-sent f w e = simp (e, f, w)

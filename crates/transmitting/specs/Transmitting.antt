@@ -1,4 +1,5 @@
--- A send as the code takes it apart: what it answers and does with its record, in few values (`Sending`). Assumes nothing.
+-- A send or an urgent send as the code takes it apart: what it answers and does with its record, in few values (`Sending`). The two differ
+-- in one bit. Assumes nothing.
 use Prim.Native.Nat.{ℕ, _+_, _-_, _*_, _%_, _^_}
 use mathlib.Core.Bool.{Bool, false, _&&_, _||_, not, cond}
 use lib.Dec.{ltb}
@@ -63,19 +64,20 @@ unsentAnswer j = record { refusal = j; made = false; placings = 0; taken = 0; fi
 abbrev pub unsent : ℕ → Outbound → Sending
 unsent j o = record { said = unsentAnswer j; producer = o .producer; blocked = o .blocked }
 
-unfoldable pub sentBy : Record → ℕ → Sending
-sentBy rec len =
+-- an urgent send always makes a message
+unfoldable pub sentBy : Bool → Record → ℕ → Sending
+sentBy urgent rec len =
     let N' = rec .remote .size in
     let q = rec .outbound .producer in
     let n = takenIn N' (rec .outbound) len in
     record {
-      said = namedIn N' (rec .remote .index) (rtokenOf rec) q n (tellsIn (rec .outbound) n len);
+      said = namedIn N' (rec .remote .index) (rtokenOf rec) q n (urgent || tellsIn (rec .outbound) n len);
       producer = stepOf N' q n;
       blocked = ltb n len;
     }
 
--- a send of len bytes that was not refused before
-unfoldable pub sendingOf : Record → ℕ → Sending
-sendingOf rec len =
+-- a send of len bytes, or an urgent one, that was not refused before
+unfoldable pub sendingOf : Bool → Record → ℕ → Sending
+sendingOf urgent rec len =
     let o = rec .outbound in
-    cond (sendForbids (rec .marks)) (unsent 7 o) (cond (waitsB rec len) (unsent 0 o) (sentBy rec len))
+    cond (sendForbids (rec .marks)) (unsent 7 o) (cond (waitsB rec len) (unsent 0 o) (sentBy urgent rec len))

@@ -1,6 +1,7 @@
-// A send on one record, as the code takes it apart for the send on the lent table (crate `direct_send`): what it answers and does with its
-// record, in few values. The record and the message by these are in crate `transmitted`.
+// A send or an urgent send on one record, as the code takes it apart for the calls on the lent table (crate `direct_send`): what it answers
+// and does with its record, in few values. The record and the message by these are in crate `transmitted`.
 ghost use mathlib.Core.Path.{_≡_};
+ghost use mathlib.Core.Bool.{_||_};
 ghost use Prim.Native.Nat.{_-_, _≤_, _<_, min};
 ghost use Rattle.transmit.specs.Transmit.{rtokenOf, noPlacing};
 ghost use Rattle.transmitting.specs.Transmitting.{takenIn, placingIn, tellsIn, said, namedIn, unsentAnswer, unsent, sentBy, sendingOf};
@@ -114,7 +115,7 @@ fn base_of(rec: Record) -> u64
 }
 
 // The peer's memory as the connection's own link reaches it.
-fn rtoken_of(rec: Record) -> RToken
+pub fn rtoken_of(rec: Record) -> RToken
     ensures { λ r. ⌜ r ≡ rtokenOf rec ⌝ }
 {
     let key = key_of(rec);
@@ -133,7 +134,7 @@ fn elements_before(index: u32) -> u32
 }
 
 // A stretch of element number `index`, of `size` bytes, in the memory t.
-fn placing(size: u32, index: u32, t: RToken, s: Stretch) -> Placing
+pub fn placing(size: u32, index: u32, t: RToken, s: Stretch) -> Placing
     ensures { λ r. ⌜ r ≡ placingIn size index t s ⌝ }
 {
     let k = elements_before(index);
@@ -199,23 +200,23 @@ fn named(size: u32, index: u32, t: RToken, q: Cursor, k: u32, tells: bool) -> Se
     answer(k, tells, 2, first, second)
 }
 
-// Whether a message is made.
-fn tells(o: Outbound, k: u32, len: usize) -> bool
-    ensures { λ r. ⌜ r ≡ tellsIn o k len ⌝ }
+// Whether a message is made: by an urgent send always.
+fn tells(urgent: bool, o: Outbound, k: u32, len: usize) -> bool
+    ensures { λ r. ⌜ r ≡ urgent || tellsIn o k len ⌝ }
 {
-    (0 < k) | (((k as usize) < len) & !o.blocked)
+    urgent | ((0 < k) | (((k as usize) < len) & !o.blocked))
 }
 
 // Bytes are offered.
-fn sent(rec: Record, len: usize) -> Sending
-    ensures { λ r. ⌜ r ≡ sentBy rec len ⌝ }
+fn sent(urgent: bool, rec: Record, len: usize) -> Sending
+    ensures { λ r. ⌜ r ≡ sentBy urgent rec len ⌝ }
 {
     let size = rec.remote.size;
     let q = rec.outbound.producer;
     let k = taken(size, rec.outbound, len);
     let moved = cursor::step(size, q, k);
     let left = (k as usize) < len;
-    let made = tells(rec.outbound, k, len);
+    let made = tells(urgent, rec.outbound, k, len);
     let t = rtoken_of(rec);
     let said = named(size, rec.remote.index, t, q, k, made);
     Sending {
@@ -225,9 +226,9 @@ fn sent(rec: Record, len: usize) -> Sending
     }
 }
 
-// A send of `len` bytes on the record.
-pub fn send_record(rec: Record, len: usize) -> Sending
-    ensures { λ r. ⌜ r ≡ sendingOf rec len ⌝ }
+// A send of `len` bytes on the record, or an urgent one.
+pub fn send_record(urgent: bool, rec: Record, len: usize) -> Sending
+    ensures { λ r. ⌜ r ≡ sendingOf urgent rec len ⌝ }
 {
     let m = rec.marks;
     if m.sent.done | (m.sent.closed | (m.abort | m.heard.closed)) {
@@ -236,5 +237,5 @@ pub fn send_record(rec: Record, len: usize) -> Sending
     if rec.outbound.urgent.standing | (len == 0) {
         return nothing(0, rec.outbound);
     }
-    sent(rec, len)
+    sent(urgent, rec, len)
 }

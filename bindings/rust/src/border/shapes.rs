@@ -2,7 +2,7 @@
 //! fills arrives with each number in its field.
 
 use super::{
-    Answer, Arguments, Command, FinishAnswer, GatheredAnswer, HearAnswer, LinkCommand, LinkStates, PoolAnswer, RawBooks, RawFields,
+    Answer, Arguments, Command, FinishAnswer, GatherAnswer, HearAnswer, LinkCommand, LinkStates, PoolAnswer, RawBooks, RawFields,
     RawLinkAnswer, RawPiece, RawSettings, RawTakenUp, ReadAnswer, SendAnswer, SetupAnswer, View,
 };
 use crate::{
@@ -48,7 +48,7 @@ fn layouts() {
     layout!(SendAnswer, 56, 8, refusal 0, made 1, placings 2, taken 4, both 8);
     layout!(HearAnswer, 16, 8, refusal 0, made 1, state 2, moved 8);
     layout!(FinishAnswer, 3, 1, refusal 0, made 1, reset 2);
-    layout!(GatheredAnswer, 608, 8, answer 0, found 440);
+    layout!(GatherAnswer, 104, 8, refusal 0, made 1, taken 4, pieces 8, last 80);
     layout!(RawFields, 104, 8, kind 0, values 8);
     layout!(RawTakenUp, 112, 8, some 0, link 1, fate 4, fields 8);
     layout!(LinkCommand, 112, 8, number 0, link 4, up 5, fields 8);
@@ -77,14 +77,13 @@ extern "C" {
     fn fordlinnet_shape_command() -> Command;
     fn fordlinnet_shape_link_command(one: u32) -> LinkCommand;
     fn fordlinnet_shape_answer(one: u32) -> Answer;
-    fn fordlinnet_shape_gathered(one: u32) -> GatheredAnswer;
+    fn fordlinnet_shape_gather_answer(one: u32) -> GatherAnswer;
     fn fordlinnet_shape_link_answer(one: u32) -> RawLinkAnswer;
     fn fordlinnet_shape_link_states(one: u32) -> LinkStates;
     fn fordlinnet_shape_read_answer(one: u32) -> ReadAnswer;
     fn fordlinnet_shape_send_answer(one: u32) -> SendAnswer;
     fn fordlinnet_shape_hear_answer(one: u32) -> HearAnswer;
     fn fordlinnet_shape_finish_answer(one: u32) -> FinishAnswer;
-    fn fordlinnet_shape_piece() -> RawPiece;
     fn fordlinnet_shape_view() -> View;
     fn fordlinnet_shape_pool_answer() -> PoolAnswer;
     fn fordlinnet_shape_settings(one: u32) -> RawSettings;
@@ -185,6 +184,7 @@ shape! {
     SendAnswer { refusal, made, placings, taken, both: each }
     HearAnswer { refusal, made, state, moved }
     FinishAnswer { refusal, made, reset }
+    GatherAnswer { refusal, made, taken, pieces: each, last }
     RawFields { kind, values: each }
     RawTakenUp { some, link, fate, fields }
     LinkCommand { number, link, up, fields }
@@ -199,14 +199,6 @@ shape! {
     }
     Arguments { slot, own, token, link, size, index, key1, base1, key2, base2, key3, base3, key4, base4 }
     SetupAnswer { said, refusal, opens, declined, diagnosis, count, arguments, message: bytes }
-}
-
-/// The two parts of a gather's answer are each counted from 1.
-impl Shape for GatheredAnswer {
-    fn shape(count: &mut Count) -> GatheredAnswer {
-        let one = count.one;
-        GatheredAnswer { answer: filled(one), found: filled(one) }
-    }
 }
 
 fn filled<T: Shape>(one: u32) -> T {
@@ -227,7 +219,7 @@ fn filled_structs() {
     same(fordlinnet_shape_links);
     same(fordlinnet_shape_link_command);
     same(fordlinnet_shape_answer);
-    same(fordlinnet_shape_gathered);
+    same(fordlinnet_shape_gather_answer);
     same(fordlinnet_shape_link_answer);
     same(fordlinnet_shape_link_states);
     same(fordlinnet_shape_read_answer);
@@ -239,7 +231,6 @@ fn filled_structs() {
     // SAFETY: values alone.
     unsafe {
         assert_eq!(fordlinnet_shape_command(), filled(0));
-        assert_eq!(fordlinnet_shape_piece(), filled(0));
         assert_eq!(fordlinnet_shape_view(), filled(0));
         assert_eq!(fordlinnet_shape_pool_answer(), filled(0));
     }

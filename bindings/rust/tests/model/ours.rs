@@ -228,7 +228,7 @@ impl Ours {
             Line::Urgent { slot, bytes } => answered(group.urgent_send(*slot, bytes), |s| Answer::Urgent(sent(&s))),
             Line::Gather { slot, head, body } => answered(group.gather(*slot, head, body), |g| {
                 let piece = |p: fordlinnet::Piece| smcr::Piece { key: p.key, address: p.address, bytes: p.bytes.to_vec() };
-                let last = g.piece(g.taken as u32);
+                let last = g.last();
                 let pieces = g.pieces().chain([last]).map(piece).collect();
                 Answer::Gathered(smcr::Gathered { taken: g.taken as i64, pieces, message: g.message.map(Into::into) })
             }),

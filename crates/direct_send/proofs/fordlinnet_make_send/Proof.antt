@@ -57,22 +57,20 @@ use Rattle.transmitting.specs.declared.SendAnswer.{SendAnswer}
 use Rattle.transmitting.proofs.SendAnswer as SendAnswerT
 use Rattle.transmitting.proofs.SendAnswer.Laws as SendAnswerL
 use Rattle.connection.specs.Connection.{zeroRecord}
-use Rattle.direct.proofs.refusal_at as f-refusal-at
-use Rattle.direct.proofs.refusal_at.Symbol as f-refusal-at-def
-use Rattle.direct.proofs.refusal_at.Symbol.{name as #f-refusal-at}
-use Rattle.direct.proofs.refusal_at.Met as f-refusal-at-thm
-use Rattle.direct_send.proofs.send_unless as f-send-unless
-use Rattle.direct_send.proofs.send_unless.Symbol as f-send-unless-def
-use Rattle.direct_send.proofs.send_unless.Symbol.{name as #f-send-unless}
-use Rattle.direct_send.proofs.send_unless.Met as f-send-unless-thm
+use Rattle.direct_send.proofs.not_urgent as f-not-urgent
+use Rattle.direct_send.proofs.not_urgent.Symbol as f-not-urgent-def
+use Rattle.direct_send.proofs.not_urgent.Symbol.{name as #f-not-urgent}
+use Rattle.direct_send.proofs.not_urgent.Met as f-not-urgent-thm
+use Rattle.direct_send.proofs.send as f-send
+use Rattle.direct_send.proofs.send.Symbol as f-send-def
+use Rattle.direct_send.proofs.send.Symbol.{name as #f-send}
+use Rattle.direct_send.proofs.send.Met as f-send-thm
 use Rattle.direct_send.proofs.fordlinnet_make_send.Key.{name as #call}
 use Rattle.direct_send.proofs.fordlinnet_make_send as call
 use Rattle.direct_send.proofs.fordlinnet_make_send.Statement as stated
 use Rattle.direct_send.proofs.fordlinnet_make_send.Code as code
-use Rattle.direct.specs.Direct.{refusalAt}
 use Rattle.direct_made.specs.DirectMade.{InEveryGroup}
-use Rattle.direct_send.specs.DirectSend.{SendMade}
-use Rattle.direct_send.specs.TableLeft.{LeftUnless}
+use Rattle.direct_send.specs.DirectSend.{SendMade, Sends}
 use Rattle.rules.specs.Rules.{groupOf}
 use Rattle.table.specs.declared.Links.{Links}
 use Rattle.direct_send.proofs.Laws.{fordlinnet-make-send-returns}
@@ -86,26 +84,26 @@ stayed = (stay-dropped (plain (λ _. u32)) yes, (stay-dropped (plain (λ _. u32)
 
 -- the contracts that the walk cites, and what each asks
 module _ {M : Type 1} (𝓤 : URA M) (H : Heap 𝓤) (A : Atoms 𝓤) (mem : Memory → SProp 𝓤) (run : Routine → Fun 𝓤) where
-  abbrev C-f-refusal-at : Contract 𝓤
-  C-f-refusal-at = tripleOf 𝓤 H A f-refusal-at.signature (f-refusal-at.spec 𝓤 H A mem run)
+  abbrev C-f-not-urgent : Contract 𝓤
+  C-f-not-urgent = tripleOf 𝓤 H A f-not-urgent.signature (f-not-urgent.spec 𝓤 H A mem run)
 
-  abbrev to-f-refusal-at : (κ3 : Lft) (q3 : Share) (x0 : ℕ) (v0 : Val) (x1 : ℕ) (v1 : Val) (x2 : ℕ) (v2 : Val) (x3 : RefT (List Record)) (v3 : Val) (x4 : LinkStates) (v4 : Val) (x5 : ℕ) (v5 : Val) → C-f-refusal-at .Ghost
-  to-f-refusal-at κ3 q3 x0 v0 x1 v1 x2 v2 x3 v3 x4 v4 x5 v5 = (((κ3, tt), (q3, tt), tt, (x0, (x1, (x2, (x3, (x4, (x5, tt)))))), (v0 ∷ [], (v1 ∷ [], (v2 ∷ [], (v3 ∷ [], (v4 ∷ [], (v5 ∷ [], tt))))))), tt)
+  abbrev to-f-not-urgent : C-f-not-urgent .Ghost
+  to-f-not-urgent = ((tt, tt, tt, tt, tt), tt)
 
-  abbrev C-f-send-unless : Contract 𝓤
-  C-f-send-unless = tripleOf 𝓤 H A f-send-unless.signature (f-send-unless.spec 𝓤 H A mem run)
+  abbrev C-f-send : Contract 𝓤
+  C-f-send = tripleOf 𝓤 H A f-send.signature (f-send.spec 𝓤 H A mem run)
 
-  abbrev to-f-send-unless : (κ1 : Lft) (q1 : Share) (κ3 : Lft) (q3 : Share) (κ4 : Lft) (q4 : Share) (x0 : ℕ) (v0 : Val) (x1 : RefT (List Record)) (v1 : Val) (x2 : ℕ) (v2 : Val) (x3 : RefT (List ℕ)) (v3 : Val) (x4 : RefT (List ℕ)) (v4 : Val) → C-f-send-unless .Ghost
-  to-f-send-unless κ1 q1 κ3 q3 κ4 q4 x0 v0 x1 v1 x2 v2 x3 v3 x4 v4 = (((κ1, (κ3, (κ4, tt))), (q1, (q3, (q4, tt))), tt, (x0, (x1, (x2, (x3, (x4, tt))))), (v0 ∷ [], (v1 ∷ [], (v2 ∷ [], (v3 ∷ [], (v4 ∷ [], tt)))))), tt)
+  abbrev to-f-send : (κ3 : Lft) (q3 : Share) (κ4 : Lft) (q4 : Share) (κ7 : Lft) (q7 : Share) (κ8 : Lft) (q8 : Share) (x0 : Bool) (v0 : Val) (x1 : ℕ) (v1 : Val) (x2 : ℕ) (v2 : Val) (x3 : RefT (List ℕ)) (v3 : Val) (x4 : RefT (List Record)) (v4 : Val) (x5 : LinkStates) (v5 : Val) (x6 : ℕ) (v6 : Val) (x7 : RefT (List ℕ)) (v7 : Val) (x8 : RefT (List ℕ)) (v8 : Val) → C-f-send .Ghost
+  to-f-send κ3 q3 κ4 q4 κ7 q7 κ8 q8 x0 v0 x1 v1 x2 v2 x3 v3 x4 v4 x5 v5 x6 v6 x7 v7 x8 v8 = (((κ3, (κ4, (κ7, (κ8, tt)))), (q3, (q4, (q7, (q8, tt)))), tt, (x0, (x1, (x2, (x3, (x4, (x5, (x6, (x7, (x8, tt))))))))), (v0 ∷ [], (v1 ∷ [], (v2 ∷ [], (v3 ∷ [], (v4 ∷ [], (v5 ∷ [], (v6 ∷ [], (v7 ∷ [], (v8 ∷ [], tt)))))))))), tt)
 
 module _ {M : Type 1} (𝓤 : URA M) (H : Heap 𝓤) (A : Atoms 𝓤) (W : Given 𝓤 H A) (mem : Memory → SProp 𝓤) (run : Routine → Fun 𝓤) where
-  goes-f-refusal-at : (κ3 : Lft) (q3 : Share) (x0 : ℕ) (v0 : Val) (x1 : ℕ) (v1 : Val) (x2 : ℕ) (v2 : Val) (x3 : RefT (List Record)) (v3 : Val) (x4 : LinkStates) (v4 : Val) (x5 : ℕ) (v5 : Val) (i0 : Is u32 x0 (v0 ∷ [])) (i1 : Is u32 x1 (v1 ∷ [])) (i2 : Is usize x2 (v2 ∷ [])) (i4 : Is LinkStatesT.the-row x4 (v4 ∷ [])) (i5 : Is u32 x5 (v5 ∷ [])) → ent 𝓤 (mean 𝓤 H A (‵ (flft κ3 q3) ⊛ ‵ (ShrSlice (named 0) κ3 RecordT.the-row .own x3 (v3 ∷ [])) ⊛ ‵ ftrue)) (C-f-refusal-at 𝓤 H A mem run .pre (to-f-refusal-at 𝓤 H A mem run κ3 q3 x0 v0 x1 v1 x2 v2 x3 v3 x4 v4 x5 v5))
-  goes-f-refusal-at κ3 q3 x0 v0 x1 v1 x2 v2 x3 v3 x4 v4 x5 v5 i0 i1 i2 i4 i5 =
-      qed W ((‵ (flft κ3 q3) ⊛ ‵ (ShrSlice (named 0) κ3 RecordT.the-row .own x3 (v3 ∷ [])) ⊛ ‵ ftrue) ∷ []) ∵ split ! $ move ! (1 ∷ []) $ split ! $ move ! (1 ∷ []) $ drop ! $ nothing ! $ owned ! u32 (Is u32) (uint-makes 𝓤 H A W w32) x5 _ i5 $ fjoin ! $ owned ! LinkStatesT.the-row (Is LinkStatesT.the-row) (LL.makes LinkStatesT.the-type LinkStatesL.the-plain 𝓤 H A) x4 _ i4 $ fjoin ! $ move ! (1 ∷ 0 ∷ []) $ fjoin ! $ owned ! usize (Is usize) (uint-makes 𝓤 H A W w64) x2 _ i2 $ fjoin ! $ owned ! u32 (Is u32) (uint-makes 𝓤 H A W w32) x1 _ i1 $ fjoin ! $ owned ! u32 (Is u32) (uint-makes 𝓤 H A W w32) x0 _ i0 $ fjoin ! $ nothing ! $ move ! (2 ∷ 0 ∷ []) $ join ! $ join ! $ frame ! $ done !
+  goes-f-not-urgent : ent 𝓤 (emp 𝓤) (C-f-not-urgent 𝓤 H A mem run .pre (to-f-not-urgent 𝓤 H A mem run))
+  goes-f-not-urgent =
+      qed W ([]) ∵ nothing ! $ nothing ! $ join ! $ frame ! $ done !
 
-  goes-f-send-unless : (κ1 : Lft) (q1 : Share) (κ3 : Lft) (q3 : Share) (κ4 : Lft) (q4 : Share) (x0 : ℕ) (v0 : Val) (x1 : RefT (List Record)) (v1 : Val) (x2 : ℕ) (v2 : Val) (x3 : RefT (List ℕ)) (v3 : Val) (x4 : RefT (List ℕ)) (v4 : Val) (i0 : Is u8 x0 (v0 ∷ [])) (i2 : Is u32 x2 (v2 ∷ [])) → ent 𝓤 (mean 𝓤 H A (‵ (flft κ1 q1) ⊛ ‵ (flft κ3 q3) ⊛ ‵ (flft κ4 q4) ⊛ ‵ (MutSlice (named 0) κ1 RecordT.the-row .own x1 (v1 ∷ [])) ⊛ ‵ (ShrSlice (named 0) κ3 u8 .own x3 (v3 ∷ [])) ⊛ ‵ (MutRef (named 0) κ4 (Array u8 44) .own x4 (v4 ∷ [])) ⊛ ‵ ftrue)) (C-f-send-unless 𝓤 H A mem run .pre (to-f-send-unless 𝓤 H A mem run κ1 q1 κ3 q3 κ4 q4 x0 v0 x1 v1 x2 v2 x3 v3 x4 v4))
-  goes-f-send-unless κ1 q1 κ3 q3 κ4 q4 x0 v0 x1 v1 x2 v2 x3 v3 x4 v4 i0 i2 =
-      qed W ((‵ (flft κ1 q1) ⊛ ‵ (flft κ3 q3) ⊛ ‵ (flft κ4 q4) ⊛ ‵ (MutSlice (named 0) κ1 RecordT.the-row .own x1 (v1 ∷ [])) ⊛ ‵ (ShrSlice (named 0) κ3 u8 .own x3 (v3 ∷ [])) ⊛ ‵ (MutRef (named 0) κ4 (Array u8 44) .own x4 (v4 ∷ [])) ⊛ ‵ ftrue) ∷ []) ∵ split ! $ move ! (1 ∷ []) $ split ! $ move ! (1 ∷ []) $ split ! $ move ! (1 ∷ []) $ split ! $ move ! (1 ∷ []) $ split ! $ move ! (1 ∷ []) $ split ! $ move ! (1 ∷ []) $ drop ! $ nothing ! $ move ! (1 ∷ 0 ∷ []) $ fjoin ! $ move ! (1 ∷ 0 ∷ []) $ fjoin ! $ owned ! u32 (Is u32) (uint-makes 𝓤 H A W w32) x2 _ i2 $ fjoin ! $ move ! (1 ∷ 0 ∷ []) $ fjoin ! $ owned ! u8 (Is u8) (uint-makes 𝓤 H A W w8) x0 _ i0 $ fjoin ! $ nothing ! $ move ! (2 ∷ 0 ∷ []) $ join ! $ move ! (2 ∷ 0 ∷ []) $ join ! $ move ! (2 ∷ 0 ∷ []) $ join ! $ join ! $ frame ! $ done !
+  goes-f-send : (κ3 : Lft) (q3 : Share) (κ4 : Lft) (q4 : Share) (κ7 : Lft) (q7 : Share) (κ8 : Lft) (q8 : Share) (x0 : Bool) (v0 : Val) (x1 : ℕ) (v1 : Val) (x2 : ℕ) (v2 : Val) (x3 : RefT (List ℕ)) (v3 : Val) (x4 : RefT (List Record)) (v4 : Val) (x5 : LinkStates) (v5 : Val) (x6 : ℕ) (v6 : Val) (x7 : RefT (List ℕ)) (v7 : Val) (x8 : RefT (List ℕ)) (v8 : Val) (i0 : Is bool x0 (v0 ∷ [])) (i1 : Is u32 x1 (v1 ∷ [])) (i2 : Is u32 x2 (v2 ∷ [])) (i5 : Is LinkStatesT.the-row x5 (v5 ∷ [])) (i6 : Is u32 x6 (v6 ∷ [])) → ent 𝓤 (mean 𝓤 H A (‵ (flft κ3 q3) ⊛ ‵ (flft κ4 q4) ⊛ ‵ (flft κ7 q7) ⊛ ‵ (flft κ8 q8) ⊛ ‵ (ShrSlice (named 0) κ3 u8 .own x3 (v3 ∷ [])) ⊛ ‵ (MutSlice (named 0) κ4 RecordT.the-row .own x4 (v4 ∷ [])) ⊛ ‵ (ShrSlice (named 0) κ7 u8 .own x7 (v7 ∷ [])) ⊛ ‵ (MutRef (named 0) κ8 (Array u8 44) .own x8 (v8 ∷ [])) ⊛ ‵ ftrue)) (C-f-send 𝓤 H A mem run .pre (to-f-send 𝓤 H A mem run κ3 q3 κ4 q4 κ7 q7 κ8 q8 x0 v0 x1 v1 x2 v2 x3 v3 x4 v4 x5 v5 x6 v6 x7 v7 x8 v8))
+  goes-f-send κ3 q3 κ4 q4 κ7 q7 κ8 q8 x0 v0 x1 v1 x2 v2 x3 v3 x4 v4 x5 v5 x6 v6 x7 v7 x8 v8 i0 i1 i2 i5 i6 =
+      qed W ((‵ (flft κ3 q3) ⊛ ‵ (flft κ4 q4) ⊛ ‵ (flft κ7 q7) ⊛ ‵ (flft κ8 q8) ⊛ ‵ (ShrSlice (named 0) κ3 u8 .own x3 (v3 ∷ [])) ⊛ ‵ (MutSlice (named 0) κ4 RecordT.the-row .own x4 (v4 ∷ [])) ⊛ ‵ (ShrSlice (named 0) κ7 u8 .own x7 (v7 ∷ [])) ⊛ ‵ (MutRef (named 0) κ8 (Array u8 44) .own x8 (v8 ∷ [])) ⊛ ‵ ftrue) ∷ []) ∵ split ! $ move ! (1 ∷ []) $ split ! $ move ! (1 ∷ []) $ split ! $ move ! (1 ∷ []) $ split ! $ move ! (1 ∷ []) $ split ! $ move ! (1 ∷ []) $ split ! $ move ! (1 ∷ []) $ split ! $ move ! (1 ∷ []) $ split ! $ move ! (1 ∷ []) $ drop ! $ nothing ! $ move ! (1 ∷ 0 ∷ []) $ fjoin ! $ move ! (1 ∷ 0 ∷ []) $ fjoin ! $ owned ! u32 (Is u32) (uint-makes 𝓤 H A W w32) x6 _ i6 $ fjoin ! $ owned ! LinkStatesT.the-row (Is LinkStatesT.the-row) (LL.makes LinkStatesT.the-type LinkStatesL.the-plain 𝓤 H A) x5 _ i5 $ fjoin ! $ move ! (1 ∷ 0 ∷ []) $ fjoin ! $ move ! (1 ∷ 0 ∷ []) $ fjoin ! $ owned ! u32 (Is u32) (uint-makes 𝓤 H A W w32) x2 _ i2 $ fjoin ! $ owned ! u32 (Is u32) (uint-makes 𝓤 H A W w32) x1 _ i1 $ fjoin ! $ owned ! bool (Is bool) (bool-makes 𝓤 H A W) x0 _ i0 $ fjoin ! $ nothing ! $ move ! (2 ∷ 0 ∷ []) $ join ! $ move ! (2 ∷ 0 ∷ []) $ join ! $ move ! (2 ∷ 0 ∷ []) $ join ! $ move ! (2 ∷ 0 ∷ []) $ join ! $ join ! $ frame ! $ done !
 
 module _ {M : Type 1} (𝓤 : URA M) (H : Heap 𝓤) (A : Atoms 𝓤) (W : Given 𝓤 H A) (mem : Memory → SProp 𝓤) (run : Routine → Fun 𝓤) (κ₀ κ₁ κ₂ κ₃ : Lft) (q₀ q₁ q₂ q₃ : Share)
     (s : ℕ) (n : ℕ) (b-mem o-mem : ℕ) (γ-mem : GName) (ys-mem : List ℕ) (b-table o-table : ℕ) (γ-table : GName) (ys-table : List Record) (links : LinkStates) (v-links : Val) (slot : ℕ) (b-bytes o-bytes : ℕ) (γ-bytes : GName) (ys-bytes : List ℕ) (b-message o-message : ℕ) (γ-message : GName) (ys-message : List ℕ)
@@ -167,54 +165,50 @@ module _ {M : Type 1} (𝓤 : URA M) (H : Heap 𝓤) (A : Atoms 𝓤) (W : Given
       qed W (‵ (flft κ₀ q₀) ∷ ‵ (flft κ₁ q₁) ∷ ‵ (flft κ₂ q₂) ∷ ‵ (flft κ₃ q₃) ∷ ‵ (finally RecordT.the-row γ-table w-table) ∷ ‵ (fres γ-message ((Array u8 44) .coded .code w-message)) ∷ []) ∵ suffices ! _ (ends-at 𝓤 H A call.ended stayed (call.clauses 𝓤 H A mem run) W ((κs, qs, tt, x, at), tt) v res (tt, (tt, (tt, (w-table, (tt, (tt, (tt, (w-message, tt)))))))) (tt, (tt, (tt, (l-table, (tt, (tt, (tt, (tt, tt))))))))) $
       says ! e $ nothing ! $ move ! (4 ∷ 0 ∷ []) $ join ! $ move ! (3 ∷ 0 ∷ []) $ join ! $ move ! (2 ∷ 0 ∷ []) $ join ! $ move ! (1 ∷ 0 ∷ []) $ join ! $ frame ! $ nothing ! $ move ! (2 ∷ 0 ∷ []) $ fjoin ! $ nothing ! $ fjoin ! $ nothing ! $ fjoin ! $ nothing ! $ fjoin ! $ move ! (1 ∷ 0 ∷ []) $ fjoin ! $ nothing ! $ fjoin ! $ nothing ! $ fjoin ! $ nothing ! $ fjoin ! $ frame ! $ owned ! SendAnswerT.the-row (Is SendAnswerT.the-row) (LL.makes SendAnswerT.the-type SendAnswerL.the-plain 𝓤 H A) res _ is $ done !
 
-  module _ (C : Calls 𝓤 H) (Λ : Loops 𝓤 H) (fm : FmC 𝓤 H (W .laws) C) (known-f-refusal-at : Triple 𝓤 (C #f-refusal-at) (C-f-refusal-at 𝓤 H A mem run)) (known-f-send-unless : Triple 𝓤 (C #f-send-unless) (C-f-send-unless 𝓤 H A mem run)) where
+  module _ (C : Calls 𝓤 H) (Λ : Loops 𝓤 H) (fm : FmC 𝓤 H (W .laws) C) (known-f-not-urgent : Triple 𝓤 (C #f-not-urgent) (C-f-not-urgent 𝓤 H A mem run)) (known-f-send : Triple 𝓤 (C #f-send) (C-f-send 𝓤 H A mem run)) where
     walk : ent 𝓤 (onEntry 𝓤 H A call.signature κs qs x at) (WpFn 𝓤 H C Λ code.function (vint w32 s ∷ vint w32 n ∷ s-mem ∷ s-table ∷ v-links ∷ vint w32 slot ∷ s-bytes ∷ s-message ∷ []) Post)
     walk =
         qed W ((‵ (flft κ₀ q₀) ⊛ ‵ (flft κ₁ q₁) ⊛ ‵ (flft κ₂ q₂) ⊛ ‵ (flft κ₃ q₃) ⊛ ‵ ftrue) ∷ ‵ (owns (u32 ∷ u32 ∷ ShrSlice (named 0) κ₀ u8 ∷ MutSlice (named 1) κ₁ RecordT.the-row ∷ LinkStatesT.the-row ∷ u32 ∷ ShrSlice (named 2) κ₂ u8 ∷ MutRef (named 3) κ₃ (Array u8 44) ∷ []) x at) ∷ []) ∵ enter ! C Λ code.function (vint w32 s ∷ vint w32 n ∷ s-mem ∷ s-table ∷ v-links ∷ vint w32 slot ∷ s-bytes ∷ s-message ∷ []) _ $
-        alloc1 ! (λ l₀. alloc1 ! (λ l₁. alloc1 ! (λ l₂. alloc1 ! (λ l₃. alloc1 ! (λ l₄. alloc1 ! (λ l₅. alloc1 ! (λ l₆. alloc1 ! (λ l₇. alloc1 ! (λ l₈. alloc1 ! (λ l₉. alloc1 ! (λ l₁₀. alloc1 ! (λ l₁₁. alloc1 ! (λ l₁₂. alloc1 ! (λ l₁₃. alloc1 ! (λ l₁₄. alloc1 ! (λ l₁₅. alloc0 ! $ params1 ! $
-        pass1 ! (init ! 28 refl (tt, record { fits = g-s })) $ pass1 ! (init ! 26 refl (tt, record { fits = g-n })) $ pass1 ! (init ! 24 refl (tt, (tt, (record { fits = g-mem .0 }, tt)))) $ pass1 ! (init ! 22 refl (tt, (tt, (record { fits = g-table .0 }, tt)))) $ pass1 ! (init ! 20 refl (LL.lawful LinkStatesT.the-type LinkStatesL.the-laws 𝓤 H A W .typed links _ g-links .0)) $ pass1 ! (init ! 18 refl (tt, record { fits = g-slot })) $ pass1 ! (init ! 16 refl (tt, (tt, (record { fits = g-bytes .0 }, tt)))) $ pass1 ! (init ! 14 refl (tt, tt)) $ pass0 ! $
-        move ! (33 ∷ []) $ fsplit ! $ drop ! $ fsplit ! $ drop ! $ fsplit ! $ move ! (1 ∷ []) $ fsplit ! $ move ! (1 ∷ []) $ fsplit ! $ drop ! $ fsplit ! $ drop ! $ fsplit ! $ move ! (1 ∷ []) $ fsplit ! $ move ! (1 ∷ []) $ drop ! $ move ! (36 ∷ []) $ split ! $ move ! (1 ∷ []) $ split ! $ move ! (1 ∷ []) $ split ! $ move ! (1 ∷ []) $ split ! $ move ! (1 ∷ []) $ drop ! $
-        assigns ! (of-opd ! (load ! (from ! (fld ! refl (stop !))) (look-in ! 32 (sub ! 1 refl (whole !))))) (from ! (stop !)) (init ! 18 refl (tt, record { fits = (g-mem .0) })) $
-        assigns ! (addr ! (from ! (fld ! refl (hop ! (look-in ! 30 (sub ! 0 refl (whole !))) (stop !))))) (from ! (stop !)) (init ! 16 refl (tt, tt)) $
-        assigns ! (agg ! (and-then ! (load ! (from ! (stop !)) (look ! 16 refl)) (and-then ! (load ! (from ! (fld ! refl (stop !))) (look-in ! 30 (sub ! 1 refl (whole !)))) (no-more !)))) (from ! (stop !)) (init ! 14 refl (tt, (tt, (record { fits = g-table .0 }, tt)))) $
-        move ! (6 ∷ []) $ fsplit ! $ move ! (1 ∷ []) $ fsplit ! $ move ! (0 ∷ 1 ∷ 5 ∷ []) $ opens-slice ! tt RecordT.the-row ys-table b-table o-table $ feqI ! ℕ (length ys-table) (length ys-table) refl $ fjoin ! $ lft-new ! tt (λ ν. move ! (1 ∷ []) $ use1 W (later (some (λ (δ : GName). ‵ (ShrSlice (named 1) (ν ∷ []) RecordT.the-row .own (record { ptr = (b-table, o-table); name = δ; now = ys-table }) (s-table ∷ [])) ⊛ ‵ (flent (ν ∷ []) (arr-parts (shares RecordT.the-row) (length ys-table) .part fullShare ys-table b-table o-table))))) (lends-shr-slice 𝓤 H A W RecordT.the-row (named 1) (ν ∷ []) fullShare ys-table b-table o-table g-table) $ await ! tt $ pick ! (λ δ. split ! $
-        nothing ! $ move ! (1 ∷ 0 ∷ []) $ join ! $ move ! (2 ∷ 0 ∷ []) $ join ! $ use1 W (raw (C-f-refusal-at 𝓤 H A mem run .pre (to-f-refusal-at 𝓤 H A mem run (ν ∷ []) fullShare s (vint w32 s) n (vint w32 n) (length ys-mem) (vint w64 (length ys-mem)) (record { ptr = (b-table, o-table); name = δ; now = ys-table }) s-table links (v-links) slot (vint w32 slot)))) (goes-f-refusal-at 𝓤 H A W mem run (ν ∷ []) fullShare s (vint w32 s) n (vint w32 n) (length ys-mem) (vint w64 (length ys-mem)) (record { ptr = (b-table, o-table); name = δ; now = ys-table }) s-table links (v-links) slot (vint w32 slot) (refl, g-s) (refl, g-n) (refl, (g-mem .0)) g-links (refl, g-slot)) $
-        calls-at ! fm (C-f-refusal-at 𝓤 H A mem run) known-f-refusal-at (to-f-refusal-at 𝓤 H A mem run (ν ∷ []) fullShare s (vint w32 s) n (vint w32 n) (length ys-mem) (vint w64 (length ys-mem)) (record { ptr = (b-table, o-table); name = δ; now = ys-table }) s-table links (v-links) slot (vint w32 slot)) (and-then ! (load ! (from ! (stop !)) (look ! 40 refl)) (and-then ! (load ! (from ! (stop !)) (look ! 38 refl)) (and-then ! (load ! (from ! (stop !)) (look ! 22 refl)) (and-then ! (load ! (from ! (stop !)) (look ! 18 refl)) (and-then ! (load ! (from ! (stop !)) (look ! 32 refl)) (and-then ! (load ! (from ! (stop !)) (look ! 30 refl)) (no-more !))))))) (λ w.
-        use1 W (later (some (λ (r : ℕ). ((‵ (flft (ν ∷ []) fullShare) ⊛ ‵ ftrue) ⊛ ‵ (u8 .own r (w ∷ []))) ⊛ raw (ensured 𝓤 H A f-refusal-at.ended (f-refusal-at.clauses 𝓤 H A mem run) ((ν ∷ []), tt) (s, (n, ((length ys-mem), ((record { ptr = (b-table, o-table); name = δ; now = ys-table }), (links, (slot, tt)))))) tt r)))) (id⊢ 𝓤 _) $ await ! tt $ pick ! (λ r.
-        split ! $ move ! (1 ∷ []) $ use1 W (some (λ (ws : Unit {0} × (Unit {0} × (Unit {0} × (Unit {0} × (Unit {0} × (Unit {0} × Unit {0})))))). ‵ (lasts f-refusal-at.ended ((ν ∷ []), tt) (s, (n, ((length ys-mem), ((record { ptr = (b-table, o-table); name = δ; now = ys-table }), (links, (slot, tt)))))) ws) ⊛ raw (fact 𝓤 (r ≡ refusalAt s n (length ys-mem) (ys-table) (links .active) slot)))) (id⊢ 𝓤 _) $ pick ! (λ ws.
-        split ! $ move ! (1 ∷ []) $ heard ! (r ≡ refusalAt s n (length ys-mem) (ys-table) (links .active) slot) (λ e.
-        fsplit ! $ drop ! $ fsplit ! $ drop ! $ fsplit ! $ drop ! $ fsplit ! $ drop ! $ fsplit ! $ drop ! $ fsplit ! $ drop ! $ drop ! $ split ! $
-        move ! (1 ∷ []) $ peeks ! u8 (Is u8) (shows 𝓤 H A u8) r (w ∷ []) (λ is. drop ! $
-        land ! (from ! (stop !)) (init ! 24 refl (uint-lawful 𝓤 H A W w8 .typed r _ is .0)) $ rewrite ! 24 (λ (u : Val). ‵ (fat fullShare (tyInt w8) l₉ 0 u)) (ap only (is .0)) refl $
-        split ! $ move ! (1 ∷ []) $ drop ! $ lft-end ! tt $ lent-back ! tt $ fsplit ! $ drop ! $ closes-slice ! tt RecordT.the-row ys-table ys-table refl b-table o-table $ fjoin ! $ move ! (2 ∷ 0 ∷ []) $ fjoin ! $
-        assigns ! (addr ! (from ! (fld ! refl (hop ! (look-in ! 30 (sub ! 0 refl (whole !))) (stop !))))) (from ! (stop !)) (init ! 12 refl (tt, tt)) $
-        assigns ! (agg ! (and-then ! (load ! (from ! (stop !)) (look ! 12 refl)) (and-then ! (load ! (from ! (fld ! refl (stop !))) (look-in ! 30 (sub ! 1 refl (whole !)))) (no-more !)))) (from ! (stop !)) (init ! 10 refl (tt, (tt, (record { fits = g-table .0 }, tt)))) $
-        assigns ! (addr ! (from ! (hop ! (look ! 22 refl) (stop !)))) (from ! (stop !)) (init ! 8 refl (tt, tt)) $
-        move ! (6 ∷ []) $ use1 W (‵ Own-bytes ⊛ ‵ Own-bytes) (shr-slice-copy 𝓤 H A W (named 2) κ₂ u8 .twice x-bytes (s-bytes ∷ [])) $ split ! $ nothing ! $ move ! (8 ∷ 0 ∷ []) $ join ! $ move ! (2 ∷ 0 ∷ []) $ join ! $ move ! (2 ∷ 0 ∷ []) $ join ! $ move ! (3 ∷ 0 ∷ []) $ join ! $ move ! (3 ∷ 0 ∷ []) $ join ! $ move ! (2 ∷ 0 ∷ []) $ join ! $ use1 W (raw (C-f-send-unless 𝓤 H A mem run .pre (to-f-send-unless 𝓤 H A mem run κ₁ q₁ κ₂ q₂ κ₃ q₃ r (vint w8 r) x-table s-table slot (vint w32 slot) x-bytes s-bytes x-message s-message))) (goes-f-send-unless 𝓤 H A W mem run κ₁ q₁ κ₂ q₂ κ₃ q₃ r (vint w8 r) x-table s-table slot (vint w32 slot) x-bytes s-bytes x-message s-message (refl, (is .1)) (refl, g-slot)) $
-        calls-at ! fm (C-f-send-unless 𝓤 H A mem run) known-f-send-unless (to-f-send-unless 𝓤 H A mem run κ₁ q₁ κ₂ q₂ κ₃ q₃ r (vint w8 r) x-table s-table slot (vint w32 slot) x-bytes s-bytes x-message s-message) (and-then ! (load ! (from ! (stop !)) (look ! 16 refl)) (and-then ! (load ! (from ! (stop !)) (look ! 6 refl)) (and-then ! (load ! (from ! (stop !)) (look ! 22 refl)) (and-then ! (load ! (from ! (stop !)) (look ! 20 refl)) (and-then ! (load ! (from ! (stop !)) (look ! 4 refl)) (no-more !)))))) (λ w₂.
-        use1 W (later (some (λ (r₂ : SendAnswer). ((‵ (flft κ₁ q₁) ⊛ ‵ (flft κ₂ q₂) ⊛ ‵ (flft κ₃ q₃) ⊛ ‵ ftrue) ⊛ ‵ (SendAnswerT.the-row .own r₂ (w₂ ∷ []))) ⊛ raw (ensured 𝓤 H A f-send-unless.ended (f-send-unless.clauses 𝓤 H A mem run) (κ₁, (κ₂, (κ₃, tt))) (r, (x-table, (slot, (x-bytes, (x-message, tt))))) tt r₂)))) (id⊢ 𝓤 _) $ await ! tt $ pick ! (λ r₂.
-        split ! $ move ! (1 ∷ []) $ use1 W (some (λ (ws₂ : Unit {0} × (List Record × (Unit {0} × (Unit {0} × (List ℕ × Unit {0}))))). ‵ (lasts f-send-unless.ended (κ₁, (κ₂, (κ₃, tt))) (r, (x-table, (slot, (x-bytes, (x-message, tt))))) ws₂) ⊛ raw (fact 𝓤 (LeftUnless r (ys-table) slot (ys-bytes) (ys-message) r₂ (ws₂ .1 .0) (ws₂ .1 .1 .1 .1 .0))))) (id⊢ 𝓤 _) $ pick ! (λ ws₂.
-        split ! $ move ! (1 ∷ []) $ heard ! (LeftUnless r (ys-table) slot (ys-bytes) (ys-message) r₂ (ws₂ .1 .0) (ws₂ .1 .1 .1 .1 .0)) (λ e₂.
-        fsplit ! $ drop ! $ fsplit ! $ fsplit ! $ move ! (1 ∷ []) $ feqL ! (λ len. move ! (1 ∷ []) $ fsplit ! $ drop ! $ fsplit ! $ drop ! $ fsplit ! $ move ! (1 ∷ []) $ drop ! $ move ! (2 ∷ []) $ split ! $
+        alloc1 ! (λ l₀. alloc1 ! (λ l₁. alloc1 ! (λ l₂. alloc1 ! (λ l₃. alloc1 ! (λ l₄. alloc1 ! (λ l₅. alloc1 ! (λ l₆. alloc1 ! (λ l₇. alloc1 ! (λ l₈. alloc1 ! (λ l₉. alloc1 ! (λ l₁₀. alloc1 ! (λ l₁₁. alloc1 ! (λ l₁₂. alloc0 ! $ params1 ! $
+        pass1 ! (init ! 22 refl (tt, record { fits = g-s })) $ pass1 ! (init ! 20 refl (tt, record { fits = g-n })) $ pass1 ! (init ! 18 refl (tt, (tt, (record { fits = g-mem .0 }, tt)))) $ pass1 ! (init ! 16 refl (tt, (tt, (record { fits = g-table .0 }, tt)))) $ pass1 ! (init ! 14 refl (LL.lawful LinkStatesT.the-type LinkStatesL.the-laws 𝓤 H A W .typed links _ g-links .0)) $ pass1 ! (init ! 12 refl (tt, record { fits = g-slot })) $ pass1 ! (init ! 10 refl (tt, (tt, (record { fits = g-bytes .0 }, tt)))) $ pass1 ! (init ! 8 refl (tt, tt)) $ pass0 ! $
+        move ! (27 ∷ []) $ fsplit ! $ drop ! $ fsplit ! $ drop ! $ fsplit ! $ move ! (1 ∷ []) $ fsplit ! $ move ! (1 ∷ []) $ fsplit ! $ drop ! $ fsplit ! $ drop ! $ fsplit ! $ move ! (1 ∷ []) $ fsplit ! $ move ! (1 ∷ []) $ drop ! $ move ! (30 ∷ []) $ split ! $ move ! (1 ∷ []) $ split ! $ move ! (1 ∷ []) $ split ! $ move ! (1 ∷ []) $ split ! $ move ! (1 ∷ []) $ drop ! $
+        use0 W (raw (C-f-not-urgent 𝓤 H A mem run .pre (to-f-not-urgent 𝓤 H A mem run))) (goes-f-not-urgent 𝓤 H A W mem run) $
+        calls-at ! fm (C-f-not-urgent 𝓤 H A mem run) known-f-not-urgent (to-f-not-urgent 𝓤 H A mem run) (no-more !) (λ w.
+        use1 W (later (some (λ (r : Bool). ((‵ ftrue) ⊛ ‵ (bool .own r (w ∷ []))) ⊛ raw (ensured 𝓤 H A f-not-urgent.ended (f-not-urgent.clauses 𝓤 H A mem run) tt tt tt r)))) (id⊢ 𝓤 _) $ await ! tt $ pick ! (λ r.
+        split ! $ move ! (1 ∷ []) $ use1 W (some (λ (ws : Unit {0}). ‵ (lasts f-not-urgent.ended tt tt ws) ⊛ raw (fact 𝓤 (r ≡ false)))) (id⊢ 𝓤 _) $ pick ! (λ ws.
+        split ! $ move ! (1 ∷ []) $ heard ! (r ≡ false) (λ e.
+        drop ! $ split ! $
+        move ! (1 ∷ []) $ peeks ! bool (Is bool) (shows 𝓤 H A bool) r (w ∷ []) (λ is. drop ! $
+        land ! (from ! (stop !)) (init ! 15 refl (bool-lawful 𝓤 H A W .typed r _ is .0)) $ rewrite ! 15 (λ (u : Val). ‵ (fat fullShare tyBool l₉ 0 u)) (ap only is) refl $
+        drop ! $
+        assigns ! (addr ! (from ! (fld ! refl (hop ! (look-in ! 24 (sub ! 0 refl (whole !))) (stop !))))) (from ! (stop !)) (init ! 12 refl (tt, tt)) $
+        assigns ! (agg ! (and-then ! (load ! (from ! (stop !)) (look ! 12 refl)) (and-then ! (load ! (from ! (fld ! refl (stop !))) (look-in ! 24 (sub ! 1 refl (whole !)))) (no-more !)))) (from ! (stop !)) (init ! 10 refl (tt, (tt, (record { fits = g-table .0 }, tt)))) $
+        assigns ! (addr ! (from ! (hop ! (look ! 16 refl) (stop !)))) (from ! (stop !)) (init ! 8 refl (tt, tt)) $
+        move ! (7 ∷ []) $ use1 W (‵ Own-mem ⊛ ‵ Own-mem) (shr-slice-copy 𝓤 H A W (named 0) κ₀ u8 .twice x-mem (s-mem ∷ [])) $ split ! $ move ! (7 ∷ []) $ use1 W (‵ Own-bytes ⊛ ‵ Own-bytes) (shr-slice-copy 𝓤 H A W (named 2) κ₂ u8 .twice x-bytes (s-bytes ∷ [])) $ split ! $ nothing ! $ move ! (9 ∷ 0 ∷ []) $ join ! $ move ! (2 ∷ 0 ∷ []) $ join ! $ move ! (8 ∷ 0 ∷ []) $ join ! $ move ! (3 ∷ 0 ∷ []) $ join ! $ move ! (3 ∷ 0 ∷ []) $ join ! $ move ! (3 ∷ 0 ∷ []) $ join ! $ move ! (3 ∷ 0 ∷ []) $ join ! $ move ! (3 ∷ 0 ∷ []) $ join ! $ use1 W (raw (C-f-send 𝓤 H A mem run .pre (to-f-send 𝓤 H A mem run κ₀ q₀ κ₁ q₁ κ₂ q₂ κ₃ q₃ r (vbool r) s (vint w32 s) n (vint w32 n) x-mem s-mem x-table s-table links (v-links) slot (vint w32 slot) x-bytes s-bytes x-message s-message))) (goes-f-send 𝓤 H A W mem run κ₀ q₀ κ₁ q₁ κ₂ q₂ κ₃ q₃ r (vbool r) s (vint w32 s) n (vint w32 n) x-mem s-mem x-table s-table links (v-links) slot (vint w32 slot) x-bytes s-bytes x-message s-message refl (refl, g-s) (refl, g-n) g-links (refl, g-slot)) $
+        calls-at ! fm (C-f-send 𝓤 H A mem run) known-f-send (to-f-send 𝓤 H A mem run κ₀ q₀ κ₁ q₁ κ₂ q₂ κ₃ q₃ r (vbool r) s (vint w32 s) n (vint w32 n) x-mem s-mem x-table s-table links (v-links) slot (vint w32 slot) x-bytes s-bytes x-message s-message) (and-then ! (load ! (from ! (stop !)) (look ! 9 refl)) (and-then ! (load ! (from ! (stop !)) (look ! 25 refl)) (and-then ! (load ! (from ! (stop !)) (look ! 23 refl)) (and-then ! (load ! (from ! (stop !)) (look ! 21 refl)) (and-then ! (load ! (from ! (stop !)) (look ! 5 refl)) (and-then ! (load ! (from ! (stop !)) (look ! 17 refl)) (and-then ! (load ! (from ! (stop !)) (look ! 15 refl)) (and-then ! (load ! (from ! (stop !)) (look ! 13 refl)) (and-then ! (load ! (from ! (stop !)) (look ! 3 refl)) (no-more !)))))))))) (λ w₂.
+        use1 W (later (some (λ (r₂ : SendAnswer). ((‵ (flft κ₀ q₀) ⊛ ‵ (flft κ₁ q₁) ⊛ ‵ (flft κ₂ q₂) ⊛ ‵ (flft κ₃ q₃) ⊛ ‵ ftrue) ⊛ ‵ (SendAnswerT.the-row .own r₂ (w₂ ∷ []))) ⊛ raw (ensured 𝓤 H A f-send.ended (f-send.clauses 𝓤 H A mem run) (κ₀, (κ₁, (κ₂, (κ₃, tt)))) (r, (s, (n, (x-mem, (x-table, (links, (slot, (x-bytes, (x-message, tt))))))))) tt r₂)))) (id⊢ 𝓤 _) $ await ! tt $ pick ! (λ r₂.
+        split ! $ move ! (1 ∷ []) $ use1 W (some (λ (ws₂ : Unit {0} × (Unit {0} × (Unit {0} × (Unit {0} × (List Record × (Unit {0} × (Unit {0} × (Unit {0} × (List ℕ × Unit {0}))))))))). ‵ (lasts f-send.ended (κ₀, (κ₁, (κ₂, (κ₃, tt)))) (r, (s, (n, (x-mem, (x-table, (links, (slot, (x-bytes, (x-message, tt))))))))) ws₂) ⊛ raw (fact 𝓤 (InEveryGroup (links .active) (λ (ls : Links). Sends r (groupOf s n (ys-table) ls (ys-mem)) slot (ys-bytes) (ys-message) r₂ (groupOf s n (ws₂ .1 .1 .1 .1 .0) ls (ys-mem)) (ws₂ .1 .1 .1 .1 .1 .1 .1 .1 .0)))))) (id⊢ 𝓤 _) $ pick ! (λ ws₂.
+        split ! $ move ! (1 ∷ []) $ heard ! (InEveryGroup (links .active) (λ (ls : Links). Sends r (groupOf s n (ys-table) ls (ys-mem)) slot (ys-bytes) (ys-message) r₂ (groupOf s n (ws₂ .1 .1 .1 .1 .0) ls (ys-mem)) (ws₂ .1 .1 .1 .1 .1 .1 .1 .1 .0))) (λ e₂.
+        fsplit ! $ drop ! $ fsplit ! $ drop ! $ fsplit ! $ drop ! $ fsplit ! $ drop ! $ fsplit ! $ fsplit ! $ move ! (1 ∷ []) $ feqL ! (λ len. move ! (1 ∷ []) $ fsplit ! $ drop ! $ fsplit ! $ drop ! $ fsplit ! $ drop ! $ fsplit ! $ move ! (1 ∷ []) $ drop ! $ move ! (2 ∷ []) $ split ! $
         move ! (1 ∷ []) $ peeks ! SendAnswerT.the-row (Is SendAnswerT.the-row) (shows 𝓤 H A SendAnswerT.the-row) r₂ (w₂ ∷ []) (λ is₂. drop ! $
-        land ! (from ! (stop !)) (init ! 36 refl (LL.lawful SendAnswerT.the-type SendAnswerL.the-laws 𝓤 H A W .typed r₂ _ is₂ .0)) $
-        split ! $ move ! (1 ∷ []) $ split ! $ move ! (1 ∷ []) $ split ! $ move ! (1 ∷ []) $ drop ! $
-        returns ! (look ! 38 refl) $ forget ! 8 refl $ forget ! 10 refl $ forget ! 12 refl $ forget ! 14 refl $ forget ! 16 refl $ forget ! 18 refl $ forget ! 20 refl $ forget ! 22 refl $ forget ! 24 refl $ forget ! 26 refl $ forget ! 28 refl $ forget ! 30 refl $ forget ! 32 refl $ forget ! 34 refl $ forget ! 36 refl $ forget ! 38 refl $
-        move ! (38 ∷ 39 ∷ []) $ free1 ! $ move ! (36 ∷ 37 ∷ []) $ free1 ! $ move ! (34 ∷ 35 ∷ []) $ free1 ! $ move ! (32 ∷ 33 ∷ []) $ free1 ! $ move ! (30 ∷ 31 ∷ []) $ free1 ! $ move ! (28 ∷ 29 ∷ []) $ free1 ! $ move ! (26 ∷ 27 ∷ []) $ free1 ! $ move ! (24 ∷ 25 ∷ []) $ free1 ! $ move ! (22 ∷ 23 ∷ []) $ free1 ! $ move ! (20 ∷ 21 ∷ []) $ free1 ! $ move ! (18 ∷ 19 ∷ []) $ free1 ! $ move ! (16 ∷ 17 ∷ []) $ free1 ! $ move ! (14 ∷ 15 ∷ []) $ free1 ! $ move ! (12 ∷ 13 ∷ []) $ free1 ! $ move ! (10 ∷ 11 ∷ []) $ free1 ! $ move ! (8 ∷ 9 ∷ []) $ free1 ! $ free0 ! $
-        keep ! (6 ∷ 2 ∷ 1 ∷ 0 ∷ 4 ∷ 3 ∷ []) $ by ! (exits r₂ (w₂) (ws₂ .1 .0) (ws₂ .1 .1 .1 .1 .0) len (fordlinnet-make-send-returns s n ys-mem ys-table links slot ys-bytes ys-message r e r₂ (ws₂ .1 .0) (ws₂ .1 .1 .1 .1 .0) e₂) is₂))))))))))))))))))))))))))))))
+        land ! (from ! (stop !)) (init ! 29 refl (LL.lawful SendAnswerT.the-type SendAnswerL.the-laws 𝓤 H A W .typed r₂ _ is₂ .0)) $
+        split ! $ move ! (1 ∷ []) $ split ! $ move ! (1 ∷ []) $ split ! $ move ! (1 ∷ []) $ split ! $ move ! (1 ∷ []) $ drop ! $
+        returns ! (look ! 32 refl) $ forget ! 8 refl $ forget ! 10 refl $ forget ! 12 refl $ forget ! 14 refl $ forget ! 16 refl $ forget ! 18 refl $ forget ! 20 refl $ forget ! 22 refl $ forget ! 24 refl $ forget ! 26 refl $ forget ! 28 refl $ forget ! 30 refl $ forget ! 32 refl $
+        move ! (32 ∷ 33 ∷ []) $ free1 ! $ move ! (30 ∷ 31 ∷ []) $ free1 ! $ move ! (28 ∷ 29 ∷ []) $ free1 ! $ move ! (26 ∷ 27 ∷ []) $ free1 ! $ move ! (24 ∷ 25 ∷ []) $ free1 ! $ move ! (22 ∷ 23 ∷ []) $ free1 ! $ move ! (20 ∷ 21 ∷ []) $ free1 ! $ move ! (18 ∷ 19 ∷ []) $ free1 ! $ move ! (16 ∷ 17 ∷ []) $ free1 ! $ move ! (14 ∷ 15 ∷ []) $ free1 ! $ move ! (12 ∷ 13 ∷ []) $ free1 ! $ move ! (10 ∷ 11 ∷ []) $ free1 ! $ move ! (8 ∷ 9 ∷ []) $ free1 ! $ free0 ! $
+        keep ! (3 ∷ 2 ∷ 1 ∷ 0 ∷ 5 ∷ 4 ∷ []) $ by ! (exits r₂ (w₂) (ws₂ .1 .1 .1 .1 .0) (ws₂ .1 .1 .1 .1 .1 .1 .1 .1 .0) len (fordlinnet-make-send-returns s n ys-mem ys-table links slot ys-bytes ys-message r e r₂ (ws₂ .1 .1 .1 .1 .0) (ws₂ .1 .1 .1 .1 .1 .1 .1 .1 .0) e₂) is₂)))))))))))))))))))))))))
 
 module _ {M : Type 1} (𝓤 : URA M) (H : Heap 𝓤) (A : Atoms 𝓤) (W : Given 𝓤 H A) (mem : Memory → SProp 𝓤) (run : Routine → Fun 𝓤) where
-  call-walks : (C : Calls 𝓤 H) (Λ : Loops 𝓤 H) → FmC 𝓤 H (W .laws) C → Triple 𝓤 (C #f-refusal-at) (C-f-refusal-at 𝓤 H A mem run) → Triple 𝓤 (C #f-send-unless) (C-f-send-unless 𝓤 H A mem run) → Walks 𝓤 H A call.ended stayed (WpFn 𝓤 H C Λ code.function) (call.clauses 𝓤 H A mem run)
-  call-walks C Λ fm known-f-refusal-at known-f-send-unless = walked 𝓤 H A call.ended stayed (call.clauses 𝓤 H A mem run) (WpFn 𝓤 H C Λ code.function)
+  call-walks : (C : Calls 𝓤 H) (Λ : Loops 𝓤 H) → FmC 𝓤 H (W .laws) C → Triple 𝓤 (C #f-not-urgent) (C-f-not-urgent 𝓤 H A mem run) → Triple 𝓤 (C #f-send) (C-f-send 𝓤 H A mem run) → Walks 𝓤 H A call.ended stayed (WpFn 𝓤 H C Λ code.function) (call.clauses 𝓤 H A mem run)
+  call-walks C Λ fm known-f-not-urgent known-f-send = walked 𝓤 H A call.ended stayed (call.clauses 𝓤 H A mem run) (WpFn 𝓤 H C Λ code.function)
       (λ κs. ((uint-vals w32), ((uint-vals w32), (slice-vals, (slice-vals, ((LL.vals LinkStatesT.the-type LinkStatesL.the-laws), ((uint-vals w32), (slice-vals, (ptr-vals, tt))))))))) (λ κs. ((uint-tells w32), ((uint-tells w32), (shr-slice-tells (named 0) (κs .0) u8, (mut-slice-tells (named 1) (κs .1 .0) RecordT.the-row, ((LL.tells LinkStatesT.the-type LinkStatesL.the-laws), ((uint-tells w32), (shr-slice-tells (named 2) (κs .1 .1 .0) u8, (mut-tells (named 3) (κs .1 .1 .1 .0) (Array u8 44), tt)))))))))
-      (λ κs qs bounds a g are. via 𝓤 _ (fst∗ 𝓤 _ (emp 𝓤)) (walk 𝓤 H A W mem run (κs .0) (κs .1 .0) (κs .1 .1 .0) (κs .1 .1 .1 .0) (qs .0) (qs .1 .0) (qs .1 .1 .0) (qs .1 .1 .1 .0) (a .0) (a .1 .0) (a .1 .1 .0 .ptr .0) (a .1 .1 .0 .ptr .1) (a .1 .1 .0 .name) (a .1 .1 .0 .now) (a .1 .1 .1 .0 .ptr .0) (a .1 .1 .1 .0 .ptr .1) (a .1 .1 .1 .0 .name) (a .1 .1 .1 .0 .now) (a .1 .1 .1 .1 .0) (LL.val LinkStatesT.the-type LinkStatesL.the-laws (a .1 .1 .1 .1 .0)) (a .1 .1 .1 .1 .1 .0) (a .1 .1 .1 .1 .1 .1 .0 .ptr .0) (a .1 .1 .1 .1 .1 .1 .0 .ptr .1) (a .1 .1 .1 .1 .1 .1 .0 .name) (a .1 .1 .1 .1 .1 .1 .0 .now) (a .1 .1 .1 .1 .1 .1 .1 .0 .ptr .0) (a .1 .1 .1 .1 .1 .1 .1 .0 .ptr .1) (a .1 .1 .1 .1 .1 .1 .1 .0 .name) (a .1 .1 .1 .1 .1 .1 .1 .0 .now) (are .0 .1) (are .1 .0 .1) (are .1 .1 .0 .0 .1) (are .1 .1 .1 .0 .0 .1) (are .1 .1 .1 .1 .0) (are .1 .1 .1 .1 .1 .0 .1) (are .1 .1 .1 .1 .1 .1 .0 .0 .1) C Λ fm known-f-refusal-at known-f-send-unless))
+      (λ κs qs bounds a g are. via 𝓤 _ (fst∗ 𝓤 _ (emp 𝓤)) (walk 𝓤 H A W mem run (κs .0) (κs .1 .0) (κs .1 .1 .0) (κs .1 .1 .1 .0) (qs .0) (qs .1 .0) (qs .1 .1 .0) (qs .1 .1 .1 .0) (a .0) (a .1 .0) (a .1 .1 .0 .ptr .0) (a .1 .1 .0 .ptr .1) (a .1 .1 .0 .name) (a .1 .1 .0 .now) (a .1 .1 .1 .0 .ptr .0) (a .1 .1 .1 .0 .ptr .1) (a .1 .1 .1 .0 .name) (a .1 .1 .1 .0 .now) (a .1 .1 .1 .1 .0) (LL.val LinkStatesT.the-type LinkStatesL.the-laws (a .1 .1 .1 .1 .0)) (a .1 .1 .1 .1 .1 .0) (a .1 .1 .1 .1 .1 .1 .0 .ptr .0) (a .1 .1 .1 .1 .1 .1 .0 .ptr .1) (a .1 .1 .1 .1 .1 .1 .0 .name) (a .1 .1 .1 .1 .1 .1 .0 .now) (a .1 .1 .1 .1 .1 .1 .1 .0 .ptr .0) (a .1 .1 .1 .1 .1 .1 .1 .0 .ptr .1) (a .1 .1 .1 .1 .1 .1 .1 .0 .name) (a .1 .1 .1 .1 .1 .1 .1 .0 .now) (are .0 .1) (are .1 .0 .1) (are .1 .1 .0 .0 .1) (are .1 .1 .1 .0 .0 .1) (are .1 .1 .1 .1 .0) (are .1 .1 .1 .1 .1 .0 .1) (are .1 .1 .1 .1 .1 .1 .0 .0 .1) C Λ fm known-f-not-urgent known-f-send))
 
-call-meets : {M : Type 1} (𝓤 : URA M) (H : Heap 𝓤) (A : Atoms 𝓤) → Given 𝓤 H A → (mem : Memory → SProp 𝓤) (run : Routine → Fun 𝓤) (𝓣 : Tables 𝓤 H) → Triple 𝓤 (𝓣 .C #f-refusal-at) (C-f-refusal-at 𝓤 H A mem run) → Triple 𝓤 (𝓣 .C #f-send-unless) (C-f-send-unless 𝓤 H A mem run)
+call-meets : {M : Type 1} (𝓤 : URA M) (H : Heap 𝓤) (A : Atoms 𝓤) → Given 𝓤 H A → (mem : Memory → SProp 𝓤) (run : Routine → Fun 𝓤) (𝓣 : Tables 𝓤 H) → Triple 𝓤 (𝓣 .C #f-not-urgent) (C-f-not-urgent 𝓤 H A mem run) → Triple 𝓤 (𝓣 .C #f-send) (C-f-send 𝓤 H A mem run)
     → Meets 𝓤 H A call.signature (WpFn 𝓤 H (𝓣 .C) (𝓣 .Λ) code.function) (call.spec 𝓤 H A mem run)
-call-meets 𝓤 H A W mem run 𝓣 known-f-refusal-at known-f-send-unless =
+call-meets 𝓤 H A W mem run 𝓣 known-f-not-urgent known-f-send =
     walk-meets 𝓤 H A call.ended stayed W
     (goes-dropped 𝓤 H A W 4 (plain (λ _. u32)) yes (λ κs x f. refl), (goes-dropped 𝓤 H A W 4 (plain (λ _. u32)) yes (λ κs x f. refl), (goes-dropped 𝓤 H A W 4 (shrSliceOf (0 ∷ []) tt (plain (λ _. u8))) yes (λ κs x f. refl), (goes-gave-slice 𝓤 H A W 4 1 tt (plain (λ _. RecordT.the-row)), (goes-dropped 𝓤 H A W 4 (plain (λ _. LinkStatesT.the-row)) yes (λ κs x f. refl), (goes-dropped 𝓤 H A W 4 (plain (λ _. u32)) yes (λ κs x f. refl), (goes-dropped 𝓤 H A W 4 (shrSliceOf (2 ∷ []) tt (plain (λ _. u8))) yes (λ κs x f. refl), (goes-gave-ref 𝓤 H A W 4 3 tt (arrayOf (plain (λ _. u8)) 44), tt))))))))
-    (call.clauses 𝓤 H A mem run) (WpFn 𝓤 H (𝓣 .C) (𝓣 .Λ) code.function) (WpFn-mono 𝓤 H (W .laws) 𝓣 code.function) (call-walks 𝓤 H A W mem run (𝓣 .C) (𝓣 .Λ) (fmOf 𝓤 H (W .laws) 𝓣) known-f-refusal-at known-f-send-unless)
+    (call.clauses 𝓤 H A mem run) (WpFn 𝓤 H (𝓣 .C) (𝓣 .Λ) code.function) (WpFn-mono 𝓤 H (W .laws) 𝓣 code.function) (call-walks 𝓤 H A W mem run (𝓣 .C) (𝓣 .Λ) (fmOf 𝓤 H (W .laws) 𝓣) known-f-not-urgent known-f-send)
 
 pub fordlinnet-make-send-spec : {M : Type 1} → stated.statement M
 unfolding code.routine tablesOf
@@ -222,5 +216,5 @@ fordlinnet-make-send-spec 𝓤 H 𝓜 𝓖 𝓡 =
     entered 𝓤 H (tripleOf 𝓤 H (𝓖 .A) call.signature (call.spec 𝓤 H (𝓖 .A) (𝓜 .mem) (𝓡 .run)))
     (tables 𝓤 H 𝓜 𝓡 code.env .C) (tables 𝓤 H 𝓜 𝓡 code.env .Λ) #call code.function (code.unfolded 𝓤 H 𝓜 𝓡)
     (call-meets 𝓤 H (𝓖 .A) (givenOf 𝓤 H 𝓜 𝓖) (𝓜 .mem) (𝓡 .run) (tablesOf 𝓤 H 𝓜 (tables 𝓤 H 𝓜 𝓡 code.env))
-    (cited 𝓤 H (C-f-refusal-at 𝓤 H (𝓖 .A) (𝓜 .mem) (𝓡 .run)) 𝓜 𝓡 code.env #f-refusal-at f-refusal-at-def.routine code.calls-direct·refusal-at (f-refusal-at-thm.met 𝓤 H 𝓜 𝓖 𝓡))
-    (cited 𝓤 H (C-f-send-unless 𝓤 H (𝓖 .A) (𝓜 .mem) (𝓡 .run)) 𝓜 𝓡 code.env #f-send-unless f-send-unless-def.routine code.calls-direct-send·send-unless (f-send-unless-thm.met 𝓤 H 𝓜 𝓖 𝓡)))
+    (cited 𝓤 H (C-f-not-urgent 𝓤 H (𝓖 .A) (𝓜 .mem) (𝓡 .run)) 𝓜 𝓡 code.env #f-not-urgent f-not-urgent-def.routine code.calls-direct-send·not-urgent (f-not-urgent-thm.met 𝓤 H 𝓜 𝓖 𝓡))
+    (cited 𝓤 H (C-f-send 𝓤 H (𝓖 .A) (𝓜 .mem) (𝓡 .run)) 𝓜 𝓡 code.env #f-send f-send-def.routine code.calls-direct-send·send (f-send-thm.met 𝓤 H 𝓜 𝓖 𝓡)))

@@ -84,7 +84,7 @@ use Rattle.transmitting.specs.Transmitting.{sendingOf, unsent}
 use Rattle.direct_send.proofs.Laws.{sending-at-returns, sending-at-returns-2}
 
 abbrev stayed : Stays (call.ended .signature .params) (call.ended .kept)
-stayed = (stay-dropped (shrSliceOf (0 ∷ []) tt (plain (λ _. RecordT.the-row))) yes, (stay-dropped (plain (λ _. u32)) yes, (stay-dropped (plain (λ _. usize)) yes, tt)))
+stayed = (stay-dropped (plain (λ _. bool)) yes, (stay-dropped (shrSliceOf (0 ∷ []) tt (plain (λ _. RecordT.the-row))) yes, (stay-dropped (plain (λ _. u32)) yes, (stay-dropped (plain (λ _. usize)) yes, tt))))
 
 -- the contracts that the walk cites, and what each asks
 module _ {M : Type 1} (𝓤 : URA M) (H : Heap 𝓤) (A : Atoms 𝓤) (mem : Memory → SProp 𝓤) (run : Routine → Fun 𝓤) where
@@ -97,8 +97,8 @@ module _ {M : Type 1} (𝓤 : URA M) (H : Heap 𝓤) (A : Atoms 𝓤) (mem : Mem
   abbrev C-f-send-record : Contract 𝓤
   C-f-send-record = tripleOf 𝓤 H A f-send-record.signature (f-send-record.spec 𝓤 H A mem run)
 
-  abbrev to-f-send-record : (x0 : Record) (v0 : Val) (x1 : ℕ) (v1 : Val) → C-f-send-record .Ghost
-  to-f-send-record x0 v0 x1 v1 = ((tt, tt, tt, (x0, (x1, tt)), (v0 ∷ [], (v1 ∷ [], tt))), tt)
+  abbrev to-f-send-record : (x0 : Bool) (v0 : Val) (x1 : Record) (v1 : Val) (x2 : ℕ) (v2 : Val) → C-f-send-record .Ghost
+  to-f-send-record x0 v0 x1 v1 x2 v2 = ((tt, tt, tt, (x0, (x1, (x2, tt))), (v0 ∷ [], (v1 ∷ [], (v2 ∷ [], tt)))), tt)
 
   abbrev C-f-zero-record : Contract 𝓤
   C-f-zero-record = tripleOf 𝓤 H A f-zero-record.signature (f-zero-record.spec 𝓤 H A mem run)
@@ -117,9 +117,9 @@ module _ {M : Type 1} (𝓤 : URA M) (H : Heap 𝓤) (A : Atoms 𝓤) (W : Given
   goes-f-place-of x0 v0 x1 v1 i0 i1 =
       qed W ([]) ∵ nothing ! $ owned ! usize (Is usize) (uint-makes 𝓤 H A W w64) x1 _ i1 $ fjoin ! $ owned ! u32 (Is u32) (uint-makes 𝓤 H A W w32) x0 _ i0 $ fjoin ! $ nothing ! $ join ! $ frame ! $ done !
 
-  goes-f-send-record : (x0 : Record) (v0 : Val) (x1 : ℕ) (v1 : Val) (i0 : Is RecordT.the-row x0 (v0 ∷ [])) (i1 : Is usize x1 (v1 ∷ [])) → ent 𝓤 (emp 𝓤) (C-f-send-record 𝓤 H A mem run .pre (to-f-send-record 𝓤 H A mem run x0 v0 x1 v1))
-  goes-f-send-record x0 v0 x1 v1 i0 i1 =
-      qed W ([]) ∵ nothing ! $ owned ! usize (Is usize) (uint-makes 𝓤 H A W w64) x1 _ i1 $ fjoin ! $ owned ! RecordT.the-row (Is RecordT.the-row) (LL.makes RecordT.the-type RecordL.the-plain 𝓤 H A) x0 _ i0 $ fjoin ! $ nothing ! $ join ! $ frame ! $ done !
+  goes-f-send-record : (x0 : Bool) (v0 : Val) (x1 : Record) (v1 : Val) (x2 : ℕ) (v2 : Val) (i0 : Is bool x0 (v0 ∷ [])) (i1 : Is RecordT.the-row x1 (v1 ∷ [])) (i2 : Is usize x2 (v2 ∷ [])) → ent 𝓤 (emp 𝓤) (C-f-send-record 𝓤 H A mem run .pre (to-f-send-record 𝓤 H A mem run x0 v0 x1 v1 x2 v2))
+  goes-f-send-record x0 v0 x1 v1 x2 v2 i0 i1 i2 =
+      qed W ([]) ∵ nothing ! $ owned ! usize (Is usize) (uint-makes 𝓤 H A W w64) x2 _ i2 $ fjoin ! $ owned ! RecordT.the-row (Is RecordT.the-row) (LL.makes RecordT.the-type RecordL.the-plain 𝓤 H A) x1 _ i1 $ fjoin ! $ owned ! bool (Is bool) (bool-makes 𝓤 H A W) x0 _ i0 $ fjoin ! $ nothing ! $ join ! $ frame ! $ done !
 
   goes-f-zero-record : ent 𝓤 (emp 𝓤) (C-f-zero-record 𝓤 H A mem run .pre (to-f-zero-record 𝓤 H A mem run))
   goes-f-zero-record =
@@ -130,7 +130,7 @@ module _ {M : Type 1} (𝓤 : URA M) (H : Heap 𝓤) (A : Atoms 𝓤) (W : Given
       qed W ([]) ∵ nothing ! $ owned ! OutboundT.the-row (Is OutboundT.the-row) (LL.makes OutboundT.the-type OutboundL.the-plain 𝓤 H A) x1 _ i1 $ fjoin ! $ owned ! u8 (Is u8) (uint-makes 𝓤 H A W w8) x0 _ i0 $ fjoin ! $ nothing ! $ join ! $ frame ! $ done !
 
 module _ {M : Type 1} (𝓤 : URA M) (H : Heap 𝓤) (A : Atoms 𝓤) (W : Given 𝓤 H A) (mem : Memory → SProp 𝓤) (run : Routine → Fun 𝓤) (κ₀ : Lft) (q₀ : Share)
-    (b-table o-table : ℕ) (γ-table : GName) (ys-table : List Record) (slot : ℕ) (len : ℕ)
+    (urgent : Bool) (b-table o-table : ℕ) (γ-table : GName) (ys-table : List Record) (slot : ℕ) (len : ℕ)
     (g-table : Room RecordT.the-row (length ys-table)) (g-slot : slot < 2 ^ 32) (g-len : len < 2 ^ 64) where
   abbrev x-table : RefT (List Record)
   x-table = record { ptr = (b-table, o-table); name = γ-table; now = ys-table }
@@ -141,8 +141,8 @@ module _ {M : Type 1} (𝓤 : URA M) (H : Heap 𝓤) (A : Atoms 𝓤) (W : Given
   abbrev Own-table : Fml
   Own-table = ShrSlice (named 0) κ₀ RecordT.the-row .own x-table (s-table ∷ [])
 
-  abbrev x : RefT (List Record) × (ℕ × (ℕ × Unit {0}))
-  x = (x-table, (slot, (len, tt)))
+  abbrev x : Bool × (RefT (List Record) × (ℕ × (ℕ × Unit {0})))
+  x = (urgent, (x-table, (slot, (len, tt))))
 
   abbrev κs : Lfts 1
   κs = (κ₀, tt)
@@ -151,16 +151,16 @@ module _ {M : Type 1} (𝓤 : URA M) (H : Heap 𝓤) (A : Atoms 𝓤) (W : Given
   qs = (q₀, tt)
 
   abbrev at : Vals call.signature κs
-  at = (s-table ∷ [], (vint w32 slot ∷ [], (vint w64 len ∷ [], tt)))
+  at = (vbool urgent ∷ [], (s-table ∷ [], (vint w32 slot ∷ [], (vint w64 len ∷ [], tt))))
 
   abbrev Post : Val → SProp 𝓤
   Post = walkOf 𝓤 H A call.ended stayed (call.clauses 𝓤 H A mem run) .post ((κs, qs, tt, x, at), tt)
 
-  exits : (res : Sending) (v : Val) → res ≡ sendingAt (ys-table) slot len → Is SendingT.the-row res (v ∷ [])
+  exits : (res : Sending) (v : Val) → res ≡ sendingAt urgent (ys-table) slot len → Is SendingT.the-row res (v ∷ [])
       → ent 𝓤 (⋆ 𝓤 H A (‵ (flft κ₀ q₀) ∷ [])) (Post v)
   exits res v e is =
-      qed W (‵ (flft κ₀ q₀) ∷ []) ∵ suffices ! _ (ends-at 𝓤 H A call.ended stayed (call.clauses 𝓤 H A mem run) W ((κs, qs, tt, x, at), tt) v res (tt, (tt, (tt, tt))) (tt, (tt, (tt, tt)))) $
-      says ! e $ nothing ! $ move ! (1 ∷ 0 ∷ []) $ join ! $ frame ! $ nothing ! $ nothing ! $ fjoin ! $ nothing ! $ fjoin ! $ nothing ! $ fjoin ! $ frame ! $ owned ! SendingT.the-row (Is SendingT.the-row) (LL.makes SendingT.the-type SendingL.the-plain 𝓤 H A) res _ is $ done !
+      qed W (‵ (flft κ₀ q₀) ∷ []) ∵ suffices ! _ (ends-at 𝓤 H A call.ended stayed (call.clauses 𝓤 H A mem run) W ((κs, qs, tt, x, at), tt) v res (tt, (tt, (tt, (tt, tt)))) (tt, (tt, (tt, (tt, tt))))) $
+      says ! e $ nothing ! $ move ! (1 ∷ 0 ∷ []) $ join ! $ frame ! $ nothing ! $ nothing ! $ fjoin ! $ nothing ! $ fjoin ! $ nothing ! $ fjoin ! $ nothing ! $ fjoin ! $ frame ! $ owned ! SendingT.the-row (Is SendingT.the-row) (LL.makes SendingT.the-type SendingL.the-plain 𝓤 H A) res _ is $ done !
 
   module _ (C : Calls 𝓤 H) (Λ : Loops 𝓤 H) (fm : FmC 𝓤 H (W .laws) C) (known-f-place-of : Triple 𝓤 (C #f-place-of) (C-f-place-of 𝓤 H A mem run)) (known-f-send-record : Triple 𝓤 (C #f-send-record) (C-f-send-record 𝓤 H A mem run)) (known-f-zero-record : Triple 𝓤 (C #f-zero-record) (C-f-zero-record 𝓤 H A mem run)) (known-f-nothing : Triple 𝓤 (C #f-nothing) (C-f-nothing 𝓤 H A mem run)) where
     fits-table : (i : ℕ) → Holds (ltb i (length ys-table)) → i * 168 < 2 ^ 64
@@ -169,12 +169,12 @@ module _ {M : Type 1} (𝓤 : URA M) (H : Heap 𝓤) (A : Atoms 𝓤) (W : Given
     Record-outbound-is : (r : Record) (w : Val) → Is RecordT.the-row r (w ∷ []) → Is OutboundT.the-row (r .outbound) (OutboundL.lowered (r .outbound) ∷ [])
     Record-outbound-is r w is = let p = LL.owed RecordT.the-type RecordL.the-laws r _ is .1 .1 .1 .0 in subst (Is OutboundT.the-row (r .outbound)) (OutboundL.lowers .val-is (r .outbound) _ p) p
 
-    walk : ent 𝓤 (onEntry 𝓤 H A call.signature κs qs x at) (WpFn 𝓤 H C Λ code.function (s-table ∷ vint w32 slot ∷ vint w64 len ∷ []) Post)
+    walk : ent 𝓤 (onEntry 𝓤 H A call.signature κs qs x at) (WpFn 𝓤 H C Λ code.function (vbool urgent ∷ s-table ∷ vint w32 slot ∷ vint w64 len ∷ []) Post)
     walk =
-        qed W ((‵ (flft κ₀ q₀) ⊛ ‵ ftrue) ∷ ‵ (owns (ShrSlice (named 0) κ₀ RecordT.the-row ∷ u32 ∷ usize ∷ []) x at) ∷ []) ∵ enter ! C Λ code.function (s-table ∷ vint w32 slot ∷ vint w64 len ∷ []) _ $
-        alloc1 ! (λ l₀. alloc1 ! (λ l₁. alloc1 ! (λ l₂. alloc1 ! (λ l₃. alloc1 ! (λ l₄. alloc1 ! (λ l₅. alloc1 ! (λ l₆. alloc1 ! (λ l₇. alloc1 ! (λ l₈. alloc1 ! (λ l₉. alloc1 ! (λ l₁₀. alloc1 ! (λ l₁₁. alloc0 ! $ params1 ! $
-        pass1 ! (init ! 20 refl (tt, (tt, (record { fits = g-table .0 }, tt)))) $ pass1 ! (init ! 18 refl (tt, record { fits = g-slot })) $ pass1 ! (init ! 16 refl (tt, record { fits = g-len })) $ pass0 ! $
-        move ! (25 ∷ []) $ fsplit ! $ move ! (1 ∷ []) $ fsplit ! $ drop ! $ fsplit ! $ drop ! $ drop ! $ move ! (25 ∷ []) $ split ! $ move ! (1 ∷ []) $ drop ! $
+        qed W ((‵ (flft κ₀ q₀) ⊛ ‵ ftrue) ∷ ‵ (owns (bool ∷ ShrSlice (named 0) κ₀ RecordT.the-row ∷ u32 ∷ usize ∷ []) x at) ∷ []) ∵ enter ! C Λ code.function (vbool urgent ∷ s-table ∷ vint w32 slot ∷ vint w64 len ∷ []) _ $
+        alloc1 ! (λ l₀. alloc1 ! (λ l₁. alloc1 ! (λ l₂. alloc1 ! (λ l₃. alloc1 ! (λ l₄. alloc1 ! (λ l₅. alloc1 ! (λ l₆. alloc1 ! (λ l₇. alloc1 ! (λ l₈. alloc1 ! (λ l₉. alloc1 ! (λ l₁₀. alloc1 ! (λ l₁₁. alloc1 ! (λ l₁₂. alloc0 ! $ params1 ! $
+        pass1 ! (init ! 22 refl (tt, tt)) $ pass1 ! (init ! 20 refl (tt, (tt, (record { fits = g-table .0 }, tt)))) $ pass1 ! (init ! 18 refl (tt, record { fits = g-slot })) $ pass1 ! (init ! 16 refl (tt, record { fits = g-len })) $ pass0 ! $
+        move ! (27 ∷ []) $ fsplit ! $ drop ! $ fsplit ! $ move ! (1 ∷ []) $ fsplit ! $ drop ! $ fsplit ! $ drop ! $ drop ! $ move ! (27 ∷ []) $ split ! $ move ! (1 ∷ []) $ drop ! $
         assigns ! (of-opd ! (load ! (from ! (fld ! refl (stop !))) (look-in ! 22 (sub ! 1 refl (whole !))))) (from ! (stop !)) (init ! 10 refl (tt, record { fits = (g-table .0) })) $
         use0 W (raw (C-f-place-of 𝓤 H A mem run .pre (to-f-place-of 𝓤 H A mem run slot (vint w32 slot) (length ys-table) (vint w64 (length ys-table))))) (goes-f-place-of 𝓤 H A W mem run slot (vint w32 slot) (length ys-table) (vint w64 (length ys-table)) (refl, g-slot) (refl, (g-table .0))) $
         calls-at ! fm (C-f-place-of 𝓤 H A mem run) known-f-place-of (to-f-place-of 𝓤 H A mem run slot (vint w32 slot) (length ys-table) (vint w64 (length ys-table))) (and-then ! (load ! (from ! (stop !)) (look ! 21 refl)) (and-then ! (load ! (from ! (stop !)) (look ! 11 refl)) (no-more !))) (λ w.
@@ -183,30 +183,30 @@ module _ {M : Type 1} (𝓤 : URA M) (H : Heap 𝓤) (A : Atoms 𝓤) (W : Given
         split ! $ move ! (1 ∷ []) $ heard ! (r ≡ indexOf slot (length ys-table)) (λ e.
         fsplit ! $ drop ! $ fsplit ! $ drop ! $ drop ! $ split ! $
         move ! (1 ∷ []) $ peeks ! usize (Is usize) (shows 𝓤 H A usize) r (w ∷ []) (λ is. drop ! $
-        land ! (from ! (stop !)) (init ! 17 refl (uint-lawful 𝓤 H A W w64 .typed r _ is .0)) $ rewrite ! 17 (λ (u : Val). ‵ (fat fullShare (tyInt w64) l₄ 0 u)) (ap only (is .0)) refl $
+        land ! (from ! (stop !)) (init ! 17 refl (uint-lawful 𝓤 H A W w64 .typed r _ is .0)) $ rewrite ! 17 (λ (u : Val). ‵ (fat fullShare (tyInt w64) l₅ 0 u)) (ap only (is .0)) refl $
         drop ! $
         assigns ! (of-opd ! (load ! (from ! (fld ! refl (stop !))) (look-in ! 22 (sub ! 1 refl (whole !))))) (from ! (stop !)) (store ! 10 refl (tt, record { fits = (g-table .0) })) $
         assigns ! (bin ! (load ! (from ! (stop !)) (look ! 16 refl)) (load ! (from ! (stop !)) (look ! 10 refl)) tt) (from ! (stop !)) (init ! 8 refl (tt, tt)) $
         first ! $ branches ! (load ! (from ! (stop !)) (look ! 8 refl))
         (λ h. assigns ! (bin ! (load ! (from ! (stop !)) (look ! 16 refl)) (lit ! tt) (record { fits = (fits-table r h) })) (from ! (stop !)) (init ! 6 refl (tt, record { fits = (fits-table r h) })) $
         assigns ! (bin ! (load ! (from ! (fld ! refl (stop !))) (look-in ! 22 (sub ! 0 refl (whole !)))) (load ! (from ! (stop !)) (look ! 6 refl)) tt) (from ! (stop !)) (init ! 4 refl (tt, tt)) $
-        rewrite ! 4 (λ (p : ℕ). ‵ (fat fullShare tyPtr l₁₀ 0 (vptr b-table p))) (sym (place-is 168 o-table r)) refl $
+        rewrite ! 4 (λ (p : ℕ). ‵ (fat fullShare tyPtr l₁₁ 0 (vptr b-table p))) (sym (place-is 168 o-table r)) refl $
         move ! (1 ∷ []) $ fsplit ! $ move ! (1 ∷ []) $ fsplit ! $ move ! (1 ∷ 3 ∷ []) $ looks-slice ! tt RecordT.the-row (Is RecordT.the-row) (shows 𝓤 H A RecordT.the-row) (LL.vals RecordT.the-type RecordL.the-laws) (LL.tells RecordT.the-type RecordL.the-laws) (LL.copy RecordT.the-type RecordL.the-copy 𝓤 H A W) ys-table b-table o-table (λ q′. elem-out ! RecordT.the-row (Is RecordT.the-row) (shows 𝓤 H A RecordT.the-row) (LL.vals RecordT.the-type RecordL.the-laws) (LL.tells RecordT.the-type RecordL.the-laws) q′ ys-table r zeroRecord b-table o-table (ltb→lt r (length ys-table) h) (λ g.
         assigns ! (of-opd ! (load ! (from ! (hop ! (look ! 9 refl) (stop !))) (look-raw ! 0 refl))) (from ! (stop !)) (init ! 7 refl (LL.lawful RecordT.the-type RecordL.the-laws 𝓤 H A W .typed (getD ys-table r zeroRecord) _ g .0)) $
         elem-back ! RecordT.the-row q′ ys-table r zeroRecord (RecordL.lowered (getD ys-table r zeroRecord) ∷ []) b-table o-table (ltb→lt r (length ys-table) h) $ shuts-slice ! tt RecordT.the-row q′ ys-table b-table o-table $ move ! (2 ∷ 1 ∷ []) $ fjoin ! $ move ! (2 ∷ 0 ∷ []) $ fjoin ! $
         assigns ! (of-opd ! (load ! (from ! (stop !)) (look ! 2 refl))) (from ! (stop !)) (init ! 14 refl (LL.lawful RecordT.the-type RecordL.the-laws 𝓤 H A W .typed (getD ys-table r zeroRecord) _ g .0)) $
-        use0 W (raw (C-f-send-record 𝓤 H A mem run .pre (to-f-send-record 𝓤 H A mem run (getD ys-table r zeroRecord) (RecordL.lowered (getD ys-table r zeroRecord)) len (vint w64 len)))) (goes-f-send-record 𝓤 H A W mem run (getD ys-table r zeroRecord) (RecordL.lowered (getD ys-table r zeroRecord)) len (vint w64 len) g (refl, g-len)) $
-        calls-at ! fm (C-f-send-record 𝓤 H A mem run) known-f-send-record (to-f-send-record 𝓤 H A mem run (getD ys-table r zeroRecord) (RecordL.lowered (getD ys-table r zeroRecord)) len (vint w64 len)) (and-then ! (load ! (from ! (stop !)) (look ! 15 refl)) (and-then ! (load ! (from ! (stop !)) (look ! 19 refl)) (no-more !))) (λ w₂.
-        use1 W (later (some (λ (r₂ : Sending). ((‵ ftrue) ⊛ ‵ (SendingT.the-row .own r₂ (w₂ ∷ []))) ⊛ raw (ensured 𝓤 H A f-send-record.ended (f-send-record.clauses 𝓤 H A mem run) tt ((getD ys-table r zeroRecord), (len, tt)) tt r₂)))) (id⊢ 𝓤 _) $ await ! tt $ pick ! (λ r₂.
-        split ! $ move ! (1 ∷ []) $ use1 W (some (λ (ws₂ : Unit {0} × (Unit {0} × Unit {0})). ‵ (lasts f-send-record.ended tt ((getD ys-table r zeroRecord), (len, tt)) ws₂) ⊛ raw (fact 𝓤 (r₂ ≡ sendingOf (getD ys-table r zeroRecord) len)))) (id⊢ 𝓤 _) $ pick ! (λ ws₂.
-        split ! $ move ! (1 ∷ []) $ heard ! (r₂ ≡ sendingOf (getD ys-table r zeroRecord) len) (λ e₂.
-        fsplit ! $ drop ! $ fsplit ! $ drop ! $ drop ! $ split ! $
+        use0 W (raw (C-f-send-record 𝓤 H A mem run .pre (to-f-send-record 𝓤 H A mem run urgent (vbool urgent) (getD ys-table r zeroRecord) (RecordL.lowered (getD ys-table r zeroRecord)) len (vint w64 len)))) (goes-f-send-record 𝓤 H A W mem run urgent (vbool urgent) (getD ys-table r zeroRecord) (RecordL.lowered (getD ys-table r zeroRecord)) len (vint w64 len) refl g (refl, g-len)) $
+        calls-at ! fm (C-f-send-record 𝓤 H A mem run) known-f-send-record (to-f-send-record 𝓤 H A mem run urgent (vbool urgent) (getD ys-table r zeroRecord) (RecordL.lowered (getD ys-table r zeroRecord)) len (vint w64 len)) (and-then ! (load ! (from ! (stop !)) (look ! 25 refl)) (and-then ! (load ! (from ! (stop !)) (look ! 15 refl)) (and-then ! (load ! (from ! (stop !)) (look ! 19 refl)) (no-more !)))) (λ w₂.
+        use1 W (later (some (λ (r₂ : Sending). ((‵ ftrue) ⊛ ‵ (SendingT.the-row .own r₂ (w₂ ∷ []))) ⊛ raw (ensured 𝓤 H A f-send-record.ended (f-send-record.clauses 𝓤 H A mem run) tt (urgent, ((getD ys-table r zeroRecord), (len, tt))) tt r₂)))) (id⊢ 𝓤 _) $ await ! tt $ pick ! (λ r₂.
+        split ! $ move ! (1 ∷ []) $ use1 W (some (λ (ws₂ : Unit {0} × (Unit {0} × (Unit {0} × Unit {0}))). ‵ (lasts f-send-record.ended tt (urgent, ((getD ys-table r zeroRecord), (len, tt))) ws₂) ⊛ raw (fact 𝓤 (r₂ ≡ sendingOf urgent (getD ys-table r zeroRecord) len)))) (id⊢ 𝓤 _) $ pick ! (λ ws₂.
+        split ! $ move ! (1 ∷ []) $ heard ! (r₂ ≡ sendingOf urgent (getD ys-table r zeroRecord) len) (λ e₂.
+        fsplit ! $ drop ! $ fsplit ! $ drop ! $ fsplit ! $ drop ! $ drop ! $ split ! $
         move ! (1 ∷ []) $ peeks ! SendingT.the-row (Is SendingT.the-row) (shows 𝓤 H A SendingT.the-row) r₂ (w₂ ∷ []) (λ is₂. drop ! $
-        land ! (from ! (stop !)) (init ! 25 refl (LL.lawful SendingT.the-type SendingL.the-laws 𝓤 H A W .typed r₂ _ is₂ .0)) $
+        land ! (from ! (stop !)) (init ! 27 refl (LL.lawful SendingT.the-type SendingL.the-laws 𝓤 H A W .typed r₂ _ is₂ .0)) $
         drop ! $
-        returns-within ! Post refl (look ! 24 refl) $ forget ! 2 refl $ forget ! 4 refl $ forget ! 6 refl $ forget ! 8 refl $ forget ! 10 refl $ forget ! 14 refl $ forget ! 16 refl $ forget ! 18 refl $ forget ! 20 refl $ forget ! 22 refl $ forget ! 24 refl $
-        move ! (24 ∷ 25 ∷ []) $ free1 ! $ move ! (22 ∷ 23 ∷ []) $ free1 ! $ move ! (20 ∷ 21 ∷ []) $ free1 ! $ move ! (18 ∷ 19 ∷ []) $ free1 ! $ move ! (16 ∷ 17 ∷ []) $ free1 ! $ move ! (14 ∷ 15 ∷ []) $ free1 ! $ move ! (12 ∷ 13 ∷ []) $ free1 ! $ move ! (10 ∷ 11 ∷ []) $ free1 ! $ move ! (8 ∷ 9 ∷ []) $ free1 ! $ move ! (6 ∷ 7 ∷ []) $ free1 ! $ move ! (4 ∷ 5 ∷ []) $ free1 ! $ move ! (2 ∷ 3 ∷ []) $ free1 ! $ free0 ! $
-        keep ! (1 ∷ []) $ by ! (exits r₂ (w₂) (sending-at-returns ys-table slot len r e h r₂ e₂) is₂)))))))))
+        returns-within ! Post refl (look ! 26 refl) $ forget ! 2 refl $ forget ! 4 refl $ forget ! 6 refl $ forget ! 8 refl $ forget ! 10 refl $ forget ! 14 refl $ forget ! 16 refl $ forget ! 18 refl $ forget ! 20 refl $ forget ! 22 refl $ forget ! 24 refl $ forget ! 26 refl $
+        move ! (26 ∷ 27 ∷ []) $ free1 ! $ move ! (24 ∷ 25 ∷ []) $ free1 ! $ move ! (22 ∷ 23 ∷ []) $ free1 ! $ move ! (20 ∷ 21 ∷ []) $ free1 ! $ move ! (18 ∷ 19 ∷ []) $ free1 ! $ move ! (16 ∷ 17 ∷ []) $ free1 ! $ move ! (14 ∷ 15 ∷ []) $ free1 ! $ move ! (12 ∷ 13 ∷ []) $ free1 ! $ move ! (10 ∷ 11 ∷ []) $ free1 ! $ move ! (8 ∷ 9 ∷ []) $ free1 ! $ move ! (6 ∷ 7 ∷ []) $ free1 ! $ move ! (4 ∷ 5 ∷ []) $ free1 ! $ move ! (2 ∷ 3 ∷ []) $ free1 ! $ free0 ! $
+        keep ! (1 ∷ []) $ by ! (exits r₂ (w₂) (sending-at-returns urgent ys-table slot len r e h r₂ e₂) is₂)))))))))
         (λ h. use0 W (raw (C-f-zero-record 𝓤 H A mem run .pre (to-f-zero-record 𝓤 H A mem run))) (goes-f-zero-record 𝓤 H A W mem run) $
         calls-at ! fm (C-f-zero-record 𝓤 H A mem run) known-f-zero-record (to-f-zero-record 𝓤 H A mem run) (no-more !) (λ w₂.
         use1 W (later (some (λ (r₂ : Record). ((‵ ftrue) ⊛ ‵ (RecordT.the-row .own r₂ (w₂ ∷ []))) ⊛ raw (ensured 𝓤 H A f-zero-record.ended (f-zero-record.clauses 𝓤 H A mem run) tt tt tt r₂)))) (id⊢ 𝓤 _) $ await ! tt $ pick ! (λ r₂.
@@ -214,7 +214,7 @@ module _ {M : Type 1} (𝓤 : URA M) (H : Heap 𝓤) (A : Atoms 𝓤) (W : Given
         split ! $ move ! (1 ∷ []) $ heard ! (r₂ ≡ zeroRecord) (λ e₂.
         drop ! $ split ! $
         move ! (1 ∷ []) $ peeks ! RecordT.the-row (Is RecordT.the-row) (shows 𝓤 H A RecordT.the-row) r₂ (w₂ ∷ []) (λ is₂. drop ! $
-        land ! (from ! (stop !)) (init ! 13 refl (LL.lawful RecordT.the-type RecordL.the-laws 𝓤 H A W .typed r₂ _ is₂ .0)) $ rewrite ! 13 (λ (u : Val). ‵ (fat fullShare RecordL.mir l₆ 0 u)) (ap only (RecordL.lowers .val-is r₂ _ is₂)) refl $
+        land ! (from ! (stop !)) (init ! 13 refl (LL.lawful RecordT.the-type RecordL.the-laws 𝓤 H A W .typed r₂ _ is₂ .0)) $ rewrite ! 13 (λ (u : Val). ‵ (fat fullShare RecordL.mir l₇ 0 u)) (ap only (RecordL.lowers .val-is r₂ _ is₂)) refl $
         drop ! $
         use0 W (raw (C-f-nothing 𝓤 H A mem run .pre (to-f-nothing 𝓤 H A mem run 0 (vint w8 0) (r₂ .outbound) (OutboundL.lowered (r₂ .outbound))))) (goes-f-nothing 𝓤 H A W mem run 0 (vint w8 0) (r₂ .outbound) (OutboundL.lowered (r₂ .outbound)) (refl, (lit< tt)) (Record-outbound-is r₂ w₂ is₂)) $
         calls-at ! fm (C-f-nothing 𝓤 H A mem run) known-f-nothing (to-f-nothing 𝓤 H A mem run 0 (vint w8 0) (r₂ .outbound) (OutboundL.lowered (r₂ .outbound))) (and-then ! (lit ! tt) (and-then ! (load ! (from ! (fld ! refl (stop !))) (look-in ! 13 (sub ! 3 refl (whole !)))) (no-more !))) (λ w₃.
@@ -223,23 +223,23 @@ module _ {M : Type 1} (𝓤 : URA M) (H : Heap 𝓤) (A : Atoms 𝓤) (W : Given
         split ! $ move ! (1 ∷ []) $ heard ! (r₃ ≡ unsent 0 (r₂ .outbound)) (λ e₃.
         fsplit ! $ drop ! $ fsplit ! $ drop ! $ drop ! $ split ! $
         move ! (1 ∷ []) $ peeks ! SendingT.the-row (Is SendingT.the-row) (shows 𝓤 H A SendingT.the-row) r₃ (w₃ ∷ []) (λ is₃. drop ! $
-        land ! (from ! (stop !)) (init ! 25 refl (LL.lawful SendingT.the-type SendingL.the-laws 𝓤 H A W .typed r₃ _ is₃ .0)) $
+        land ! (from ! (stop !)) (init ! 27 refl (LL.lawful SendingT.the-type SendingL.the-laws 𝓤 H A W .typed r₃ _ is₃ .0)) $
         drop ! $
-        returns-within ! Post refl (look ! 24 refl) $ forget ! 8 refl $ forget ! 10 refl $ forget ! 12 refl $ forget ! 16 refl $ forget ! 18 refl $ forget ! 20 refl $ forget ! 22 refl $ forget ! 24 refl $
-        move ! (24 ∷ 25 ∷ []) $ free1 ! $ move ! (22 ∷ 23 ∷ []) $ free1 ! $ move ! (20 ∷ 21 ∷ []) $ free1 ! $ move ! (18 ∷ 19 ∷ []) $ free1 ! $ move ! (16 ∷ 17 ∷ []) $ free1 ! $ move ! (14 ∷ 15 ∷ []) $ free1 ! $ move ! (12 ∷ 13 ∷ []) $ free1 ! $ move ! (10 ∷ 11 ∷ []) $ free1 ! $ move ! (8 ∷ 9 ∷ []) $ free1 ! $ move ! (6 ∷ 7 ∷ []) $ free1 ! $ move ! (4 ∷ 5 ∷ []) $ free1 ! $ move ! (2 ∷ 3 ∷ []) $ free1 ! $ free0 ! $
-        keep ! (0 ∷ []) $ by ! (exits r₃ (w₃) (sending-at-returns-2 ys-table slot len r e h r₂ e₂ r₃ e₃) is₃)))))))))))))))))))))))))))))
+        returns-within ! Post refl (look ! 26 refl) $ forget ! 8 refl $ forget ! 10 refl $ forget ! 12 refl $ forget ! 16 refl $ forget ! 18 refl $ forget ! 20 refl $ forget ! 22 refl $ forget ! 24 refl $ forget ! 26 refl $
+        move ! (26 ∷ 27 ∷ []) $ free1 ! $ move ! (24 ∷ 25 ∷ []) $ free1 ! $ move ! (22 ∷ 23 ∷ []) $ free1 ! $ move ! (20 ∷ 21 ∷ []) $ free1 ! $ move ! (18 ∷ 19 ∷ []) $ free1 ! $ move ! (16 ∷ 17 ∷ []) $ free1 ! $ move ! (14 ∷ 15 ∷ []) $ free1 ! $ move ! (12 ∷ 13 ∷ []) $ free1 ! $ move ! (10 ∷ 11 ∷ []) $ free1 ! $ move ! (8 ∷ 9 ∷ []) $ free1 ! $ move ! (6 ∷ 7 ∷ []) $ free1 ! $ move ! (4 ∷ 5 ∷ []) $ free1 ! $ move ! (2 ∷ 3 ∷ []) $ free1 ! $ free0 ! $
+        keep ! (0 ∷ []) $ by ! (exits r₃ (w₃) (sending-at-returns-2 urgent ys-table slot len r e h r₂ e₂ r₃ e₃) is₃))))))))))))))))))))))))))))))
 
 module _ {M : Type 1} (𝓤 : URA M) (H : Heap 𝓤) (A : Atoms 𝓤) (W : Given 𝓤 H A) (mem : Memory → SProp 𝓤) (run : Routine → Fun 𝓤) where
   call-walks : (C : Calls 𝓤 H) (Λ : Loops 𝓤 H) → FmC 𝓤 H (W .laws) C → Triple 𝓤 (C #f-place-of) (C-f-place-of 𝓤 H A mem run) → Triple 𝓤 (C #f-send-record) (C-f-send-record 𝓤 H A mem run) → Triple 𝓤 (C #f-zero-record) (C-f-zero-record 𝓤 H A mem run) → Triple 𝓤 (C #f-nothing) (C-f-nothing 𝓤 H A mem run) → Walks 𝓤 H A call.ended stayed (WpFn 𝓤 H C Λ code.function) (call.clauses 𝓤 H A mem run)
   call-walks C Λ fm known-f-place-of known-f-send-record known-f-zero-record known-f-nothing = walked 𝓤 H A call.ended stayed (call.clauses 𝓤 H A mem run) (WpFn 𝓤 H C Λ code.function)
-      (λ κs. (slice-vals, ((uint-vals w32), ((uint-vals w64), tt)))) (λ κs. (shr-slice-tells (named 0) (κs .0) RecordT.the-row, ((uint-tells w32), ((uint-tells w64), tt))))
-      (λ κs qs bounds a g are. via 𝓤 _ (fst∗ 𝓤 _ (emp 𝓤)) (walk 𝓤 H A W mem run (κs .0) (qs .0) (a .0 .ptr .0) (a .0 .ptr .1) (a .0 .name) (a .0 .now) (a .1 .0) (a .1 .1 .0) (are .0 .0 .1) (are .1 .0 .1) (are .1 .1 .0 .1) C Λ fm known-f-place-of known-f-send-record known-f-zero-record known-f-nothing))
+      (λ κs. (bool-vals, (slice-vals, ((uint-vals w32), ((uint-vals w64), tt))))) (λ κs. (bool-tells, (shr-slice-tells (named 0) (κs .0) RecordT.the-row, ((uint-tells w32), ((uint-tells w64), tt)))))
+      (λ κs qs bounds a g are. via 𝓤 _ (fst∗ 𝓤 _ (emp 𝓤)) (walk 𝓤 H A W mem run (κs .0) (qs .0) (a .0) (a .1 .0 .ptr .0) (a .1 .0 .ptr .1) (a .1 .0 .name) (a .1 .0 .now) (a .1 .1 .0) (a .1 .1 .1 .0) (are .1 .0 .0 .1) (are .1 .1 .0 .1) (are .1 .1 .1 .0 .1) C Λ fm known-f-place-of known-f-send-record known-f-zero-record known-f-nothing))
 
 call-meets : {M : Type 1} (𝓤 : URA M) (H : Heap 𝓤) (A : Atoms 𝓤) → Given 𝓤 H A → (mem : Memory → SProp 𝓤) (run : Routine → Fun 𝓤) (𝓣 : Tables 𝓤 H) → Triple 𝓤 (𝓣 .C #f-place-of) (C-f-place-of 𝓤 H A mem run) → Triple 𝓤 (𝓣 .C #f-send-record) (C-f-send-record 𝓤 H A mem run) → Triple 𝓤 (𝓣 .C #f-zero-record) (C-f-zero-record 𝓤 H A mem run) → Triple 𝓤 (𝓣 .C #f-nothing) (C-f-nothing 𝓤 H A mem run)
     → Meets 𝓤 H A call.signature (WpFn 𝓤 H (𝓣 .C) (𝓣 .Λ) code.function) (call.spec 𝓤 H A mem run)
 call-meets 𝓤 H A W mem run 𝓣 known-f-place-of known-f-send-record known-f-zero-record known-f-nothing =
     walk-meets 𝓤 H A call.ended stayed W
-    (goes-dropped 𝓤 H A W 1 (shrSliceOf (0 ∷ []) tt (plain (λ _. RecordT.the-row))) yes (λ κs x f. refl), (goes-dropped 𝓤 H A W 1 (plain (λ _. u32)) yes (λ κs x f. refl), (goes-dropped 𝓤 H A W 1 (plain (λ _. usize)) yes (λ κs x f. refl), tt)))
+    (goes-dropped 𝓤 H A W 1 (plain (λ _. bool)) yes (λ κs x f. refl), (goes-dropped 𝓤 H A W 1 (shrSliceOf (0 ∷ []) tt (plain (λ _. RecordT.the-row))) yes (λ κs x f. refl), (goes-dropped 𝓤 H A W 1 (plain (λ _. u32)) yes (λ κs x f. refl), (goes-dropped 𝓤 H A W 1 (plain (λ _. usize)) yes (λ κs x f. refl), tt))))
     (call.clauses 𝓤 H A mem run) (WpFn 𝓤 H (𝓣 .C) (𝓣 .Λ) code.function) (WpFn-mono 𝓤 H (W .laws) 𝓣 code.function) (call-walks 𝓤 H A W mem run (𝓣 .C) (𝓣 .Λ) (fmOf 𝓤 H (W .laws) 𝓣) known-f-place-of known-f-send-record known-f-zero-record known-f-nothing)
 
 pub sending-at-spec : {M : Type 1} → stated.statement M

@@ -10,7 +10,7 @@ nothing-requires c κs = search needs
 
 returns : tie.Need-returns
 unfolding sendForbids
-returns c = send-forbidden _ _ _ (c .before .if1 .taken) (c .nothing .ensures)
+returns c = send-forbidden _ _ _ _ (c .before .if1 .taken) (c .nothing .ensures)
 
 nothing-requires-2 : tie.Need-nothing-requires-2
 nothing-requires-2 c κs = search needs
@@ -19,7 +19,7 @@ returns-2 : tie.Need-returns-2
 unfolding sendForbids waitsB
 returns-2 c =
     let w = c .before in
-    send-waits _ _ _ (w .before .before .if1 .left) (w .if2 .taken) (c .nothing2 .ensures)
+    send-waits _ _ _ _ (w .before .before .if1 .left) (w .if2 .taken) (c .nothing2 .ensures)
 
 sent-requires : tie.Need-sent-requires
 sent-requires c κs = search needs
@@ -28,7 +28,7 @@ returns-3 : tie.Need-returns-3
 unfolding sendForbids waitsB
 returns-3 c =
     let w = c .before in
-    send-sent _ _ _ (w .before .before .if1 .left) (w .if2 .left) (c .sent .ensures)
+    send-sent _ _ _ _ (w .before .before .if1 .left) (w .if2 .left) (c .sent .ensures)
 
 pub send-record-spec : {M : Type 1} → statement M
 send-record-spec =

@@ -27,7 +27,7 @@ returns c =
     let r = c .before in
     let t = r .before in
     let s = t .before in
-    sent-parts _ _ _ _ _ _ _ (s .before .taken .ensures) (s .step .ensures) (t .tells .ensures) (r .rtoken-of .ensures) (c .named .ensures)
+    sent-parts _ _ _ _ _ _ _ _ (s .before .taken .ensures) (s .step .ensures) (t .tells .ensures) (r .rtoken-of .ensures) (c .named .ensures)
 
 pub sent-spec : {M : Type 1} → statement M
 sent-spec =

@@ -1,0 +1,2 @@
+-- `Laws`: a piece from its parts.
+pub mod Laws

@@ -1,0 +1,3 @@
+-- `Pieces`: cut from the placings, the pieces are the rules'. `Laws`: what the walks give.
+pub mod Pieces
+pub mod Laws

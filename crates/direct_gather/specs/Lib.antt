@@ -1,0 +1,2 @@
+pub mod GatherLeft
+pub mod DirectGather

@@ -1,2 +1,0 @@
-pub mod FlatGather
-pub mod Statement
