@@ -683,7 +683,8 @@ struct fordlinnet_record fordlinnet_closed_record(void);
 struct fordlinnet_links fordlinnet_links_down(bool server);
 
 /* The pool: books with nothing given out (fordlinnet_fresh_books, by its better name); taking a block of 1, 2, 4, 8, 16, 32 or 64 units,
- * refused with 3, 18, 19; returning one, refused with 3, 20. No call gives anything back to a system: books are a value. */
+ * refused with 3, 18, 19; returning one, refused with 3, 20. No call gives anything back to a system: books are a value. Of these nobody is
+ * told; fordlinnet_take_block and fordlinnet_return_block are the same for a program that may be traced. */
 struct fordlinnet_books fordlinnet_pool_free(void);
 struct fordlinnet_pool_answer fordlinnet_pool_take(struct fordlinnet_books books, uint32_t units);
 struct fordlinnet_pool_answer fordlinnet_pool_return(struct fordlinnet_books books, uint32_t start, uint32_t units);
@@ -1104,11 +1105,45 @@ static inline struct fordlinnet_finish_answer fordlinnet_abort(struct fordlinnet
                                  message);
 }
 
+/* Who is told of the calls that stand beside the groups, the pool's and set-up, after each. fordlinnet_trace.h has one that writes them
+ * down for `replay`. */
+struct fordlinnet_beside_tracer {
+    void (*took)(struct fordlinnet_beside_tracer *to, const struct fordlinnet_books *before, uint32_t units,
+                 const struct fordlinnet_pool_answer *answer);
+    void (*returned)(struct fordlinnet_beside_tracer *to, const struct fordlinnet_books *before, uint32_t start, uint32_t units,
+                     const struct fordlinnet_pool_answer *answer);
+    void (*set_up)(struct fordlinnet_beside_tracer *to, const struct fordlinnet_settings *settings, uint32_t due, const uint8_t *bytes,
+                   size_t length, const struct fordlinnet_setup_answer *answer);
+};
+
+/* One for the program (for the file, where the compiler has no weak symbols). Null: nobody is told, which costs a test a call. A program of
+ * several threads that sets it makes these calls one at a time. */
+#if defined(__GNUC__)
+__attribute__((weak)) struct fordlinnet_beside_tracer *fordlinnet_beside;
+#else
+static struct fordlinnet_beside_tracer *fordlinnet_beside;
+#endif
+
 /* The message to send, an open's arguments and a diagnosis, or a refusal: of our settings, the message due and the peer's bytes. */
 static inline struct fordlinnet_setup_answer fordlinnet_setup(struct fordlinnet_settings settings, uint32_t due, const uint8_t *bytes,
                                                               size_t length) {
     uint8_t none[1] = {0};
-    return fordlinnet_make_setup(settings, due, length ? bytes : none, length);
+    struct fordlinnet_setup_answer a = fordlinnet_make_setup(settings, due, length ? bytes : none, length);
+    if (fordlinnet_beside) fordlinnet_beside->set_up(fordlinnet_beside, &settings, due, bytes, length, &a);
+    return a;
+}
+
+/* Takes a block from the pool, and returns one to it. */
+static inline struct fordlinnet_pool_answer fordlinnet_take_block(struct fordlinnet_books books, uint32_t units) {
+    struct fordlinnet_pool_answer a = fordlinnet_pool_take(books, units);
+    if (fordlinnet_beside) fordlinnet_beside->took(fordlinnet_beside, &books, units, &a);
+    return a;
+}
+
+static inline struct fordlinnet_pool_answer fordlinnet_return_block(struct fordlinnet_books books, uint32_t start, uint32_t units) {
+    struct fordlinnet_pool_answer a = fordlinnet_pool_return(books, start, units);
+    if (fordlinnet_beside) fordlinnet_beside->returned(fordlinnet_beside, &books, start, units, &a);
+    return a;
 }
 
 /* Books of which nothing was given out. */

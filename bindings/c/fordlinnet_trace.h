@@ -9,6 +9,9 @@
  *     ...
  *     fordlinnet_trace_end(&trace, &g);
  *
+ * The pool and set-up stand beside the groups, and a trace of theirs does too: fordlinnet_trace_beside_named, fordlinnet_trace_beside_to,
+ * fordlinnet_trace_beside_end.
+ *
  * The trace stays where it is while the group is in use. A copy of a group is told of to the same trace: set its `tracer` null first.
  */
 #ifndef FORDLINNET_TRACE_H
@@ -452,6 +455,151 @@ static inline void fordlinnet_trace_end(struct fordlinnet_trace *t, struct fordl
     free(t->memory);
     free(t->table);
     if (g->tracer == &t->tracer) g->tracer = NULL;
+    t->to = NULL;
+}
+
+/* The calls that stand beside the groups: the pool's and set-up. Books and settings that are not what the last call left are laid in. */
+struct fordlinnet_trace_beside {
+    struct fordlinnet_beside_tracer tracer;
+    FILE *to;
+    bool own;                      /* the stream is ours to close */
+    struct fordlinnet_books books; /* what the replay would have by now */
+    char settings[1024];
+};
+
+static inline void fordlinnet_trace_lent(struct fordlinnet_trace_beside *t, const struct fordlinnet_books *books) {
+    static const struct fordlinnet_books none = {{0}};
+    if (memcmp(books, &t->books, sizeof *books) == 0) return;
+    t->books = *books;
+    if (memcmp(books, &none, sizeof none) == 0) {
+        fputs("pool\n#> pool\n", t->to);
+    } else {
+        fputs("books ", t->to);
+        fordlinnet_trace_hex(t->to, books->sizes, sizeof books->sizes);
+        fputs("\n#> books\n", t->to);
+    }
+}
+
+static inline void fordlinnet_trace_block(struct fordlinnet_trace_beside *t, const struct fordlinnet_pool_answer *a) {
+    if (a->said == FORDLINNET_REFUSED) {
+        fprintf(t->to, "#> refused %" PRIu32 "\n", a->refusal);
+    } else if (a->said == FORDLINNET_BLOCK) {
+        fprintf(t->to, "#> take %" PRIu32 "\n", a->start);
+    } else {
+        fputs("#> return\n", t->to);
+    }
+    t->books = a->books;
+}
+
+static inline void fordlinnet_trace_took(struct fordlinnet_beside_tracer *to, const struct fordlinnet_books *before, uint32_t units,
+                                         const struct fordlinnet_pool_answer *a) {
+    struct fordlinnet_trace_beside *t = (struct fordlinnet_trace_beside *)to;
+    fordlinnet_trace_lent(t, before);
+    fprintf(t->to, "take %" PRIu32 "\n", units);
+    fordlinnet_trace_block(t, a);
+}
+
+static inline void fordlinnet_trace_returned(struct fordlinnet_beside_tracer *to, const struct fordlinnet_books *before, uint32_t start,
+                                             uint32_t units, const struct fordlinnet_pool_answer *a) {
+    struct fordlinnet_trace_beside *t = (struct fordlinnet_trace_beside *)to;
+    fordlinnet_trace_lent(t, before);
+    fprintf(t->to, "return %" PRIu32 " %" PRIu32 "\n", start, units);
+    fordlinnet_trace_block(t, a);
+}
+
+/* The words of a `settings` line. */
+static inline void fordlinnet_trace_settings(char *at, size_t room, const struct fordlinnet_settings *s) {
+    const uint8_t *const bytes[5] = {s->peer, s->gid, s->mac, s->mask, s->prefixes};
+    size_t lengths[5] = {sizeof s->peer, sizeof s->gid, sizeof s->mac, sizeof s->mask, sizeof s->prefixes}, used, k;
+    const uint32_t keys[4] = {s->key1, s->key2, s->key3, s->key4};
+    const uint64_t bases[4] = {s->base1, s->base2, s->base3, s->base4};
+    int i;
+    while (lengths[4] > 0 && s->prefixes[lengths[4] - 1] == 0) lengths[4]--;
+    used = (size_t)snprintf(at, room, "%" PRIu32, s->size);
+    for (i = 0; i < 5; i++) {
+        if (i == 4) used += (size_t)snprintf(at + used, room - used, " %u %u", (unsigned)s->masklen, (unsigned)s->count);
+        used += (size_t)snprintf(at + used, room - used, lengths[i] ? " " : " -");
+        for (k = 0; k < lengths[i]; k++) used += (size_t)snprintf(at + used, room - used, "%02X", bytes[i][k]);
+    }
+    used += (size_t)snprintf(at + used, room - used, " %d %" PRIu32 " %u %" PRIu32 " %" PRIu32 " %" PRIu64 " %u %" PRIu32 " %u", s->first,
+                             s->qp, (unsigned)s->mtu, s->psn, s->key, s->base, (unsigned)s->slot, s->own, (unsigned)s->link);
+    for (i = 0; i < 4; i++) used += (size_t)snprintf(at + used, room - used, " %" PRIu32 " %" PRIu64, keys[i], bases[i]);
+}
+
+static inline void fordlinnet_trace_set_up(struct fordlinnet_beside_tracer *to, const struct fordlinnet_settings *settings, uint32_t due,
+                                           const uint8_t *bytes, size_t length, const struct fordlinnet_setup_answer *a) {
+    static const char *const names[4] = {"none", "Proposal", "Accept", "Confirm"};
+    struct fordlinnet_trace_beside *t = (struct fordlinnet_trace_beside *)to;
+    const struct fordlinnet_arguments *o = &a->arguments;
+    char words[sizeof t->settings];
+    /* of a number that names no message nothing is told: nothing is done */
+    if (due > 3) return;
+    fordlinnet_trace_settings(words, sizeof words, settings);
+    if (strcmp(words, t->settings) != 0) {
+        fprintf(t->to, "settings %s\n#> settings\n", words);
+        strcpy(t->settings, words);
+    }
+    fprintf(t->to, "setup %s ", names[due]);
+    fordlinnet_trace_cut(t->to, bytes, length);
+    if (a->said == FORDLINNET_REFUSED) {
+        fprintf(t->to, "\n#> refused %" PRIu32 "\n", a->refusal);
+        return;
+    }
+    fputs("\n#> setup message ", t->to);
+    fordlinnet_trace_hex(t->to, a->message, a->count);
+    if (a->opens) {
+        fprintf(t->to, " open %u,%" PRIu32 ",%" PRIu32 ",%u,%" PRIu32 ",%u", (unsigned)o->slot, o->own, o->token, (unsigned)o->link,
+                o->size, (unsigned)o->index);
+        fprintf(t->to, ",%" PRIu32 ",%" PRIu64 ",%" PRIu32 ",%" PRIu64, o->key1, o->base1, o->key2, o->base2);
+        fprintf(t->to, ",%" PRIu32 ",%" PRIu64 ",%" PRIu32 ",%" PRIu64, o->key3, o->base3, o->key4, o->base4);
+    } else {
+        fputs(" open -", t->to);
+    }
+    if (a->declined) {
+        fprintf(t->to, " decline %" PRIu32 "\n", a->diagnosis);
+    } else {
+        fputs(" decline -\n", t->to);
+    }
+}
+
+/* Writes the calls beside the groups to a stream from now on. It may be a group's: then all stand in one list. */
+static inline void fordlinnet_trace_beside_to(struct fordlinnet_trace_beside *t, FILE *to) {
+    struct fordlinnet_settings zeros;
+    memset(t, 0, sizeof *t);
+    memset(&zeros, 0, sizeof zeros);
+    fordlinnet_trace_settings(t->settings, sizeof t->settings, &zeros);
+    t->to = to;
+    t->tracer.took = fordlinnet_trace_took;
+    t->tracer.returned = fordlinnet_trace_returned;
+    t->tracer.set_up = fordlinnet_trace_set_up;
+    fordlinnet_beside = &t->tracer;
+}
+
+/* The same to a new file, where the variable FORDLINNET_TRACE has a name: that name, the process's number, and 0. False where it has none,
+ * or the file cannot be made. */
+static inline bool fordlinnet_trace_beside_named(struct fordlinnet_trace_beside *t) {
+    const char *named = getenv("FORDLINNET_TRACE");
+    char name[1024];
+    FILE *to;
+    int length;
+    memset(t, 0, sizeof *t);
+    if (!named || !*named) return false;
+    length = snprintf(name, sizeof name, "%s.%ld.0", named, (long)getpid());
+    if (length < 0 || (size_t)length >= sizeof name || !(to = fopen(name, "wx"))) return false;
+    fordlinnet_trace_beside_to(t, to);
+    t->own = true;
+    return true;
+}
+
+/* Ends it. Harmless where none was begun by fordlinnet_trace_beside_named. */
+static inline void fordlinnet_trace_beside_end(struct fordlinnet_trace_beside *t) {
+    if (!t->to) return;
+    if (t->own) {
+        fclose(t->to);
+    } else {
+        fflush(t->to);
+    }
+    if (fordlinnet_beside == &t->tracer) fordlinnet_beside = NULL;
     t->to = NULL;
 }
 

@@ -1,6 +1,6 @@
 /* A traced run: a connection between two groups with every call of a group in it, then calls at random, records and bytes changed by hand
- * among them. The files that FORDLINNET_TRACE names are made again by the model or by replay, which must answer the same
- * (bindings/c/replayed). */
+ * among them, and the pool's calls and set-up beside the groups. The files that FORDLINNET_TRACE names are made again by the model or by
+ * replay, which must answer the same (bindings/c/replayed). */
 #include <stdio.h>
 #include <stdlib.h>
 #include <string.h>
@@ -18,6 +18,7 @@ struct end {
 };
 
 static struct end ends[2];
+static struct fordlinnet_trace_beside beside;
 static uint64_t seed = 1;
 
 static uint32_t below(uint32_t n) {
@@ -179,12 +180,72 @@ static void any(struct end *e, struct end *peer) {
     }
 }
 
+/* Blocks are taken and returned; sometimes the books are started over, or kept by somebody who cannot. */
+static void pool(void) {
+    static struct fordlinnet_books books;
+    static uint32_t start, units;
+    static struct fordlinnet_pool_answer a;
+    uint32_t what = below(24);
+    if (what == 0 || a.refusal == FORDLINNET_INCOHERENT) books = fordlinnet_fresh_books();
+    if (what == 1) books.sizes[below(64)] = (uint8_t)below(66);
+    if (what < 14) {
+        units = what < 12 ? 1u << below(7) : below(70);
+        a = fordlinnet_take_block(books, units);
+        if (a.said == FORDLINNET_BLOCK) start = a.start;
+    } else if (what < 20) {
+        a = fordlinnet_return_block(books, start, units);
+    } else {
+        a = fordlinnet_return_block(books, below(66), 1u << below(8));
+    }
+    books = a.books;
+}
+
+/* Both ends of a set-up in turn, settings and messages changed among them. */
+static void set_up(void) {
+    static struct fordlinnet_settings ours[2];
+    static uint8_t message[200];
+    static size_t count;
+    static uint32_t due;
+    static const uint8_t decline[28] = {0xE2, 0xD4, 0xC3, 0xD9, 4, 0, 28, 16, 1, 2,    3,    4,    5,    6,
+                                        7,    8,    3,    1,    0, 0, 0,  0,  0, 0, 0xE2, 0xD4, 0xC3, 0xD9};
+    struct fordlinnet_settings *s;
+    struct fordlinnet_setup_answer a;
+    size_t i;
+    for (s = ours; due == 0 && s < ours + 2; s++) {
+        /* any settings; a bool is 0 or 1 */
+        if (below(3)) continue;
+        for (i = 0; i < sizeof *s; i++) ((uint8_t *)s)[i] = (uint8_t)(below(4) ? below(256) : 0);
+        s->first = below(2);
+        s->size = below(8) ? 16384u << below(3) : below(70000);
+        s->count = (uint8_t)below(10);
+        s->link = (uint8_t)(below(8) ? 1 + below(4) : below(256));
+    }
+    if (below(12) == 0 && count > 0) message[below((uint32_t)count)] ^= (uint8_t)(1u << below(8));
+    if (below(20) == 0) count = below(sizeof message);
+    if (below(20) == 0) {
+        count = sizeof decline;
+        memcpy(message, decline, count);
+    }
+    a = fordlinnet_setup(ours[due % 2], below(20) ? due : below(5), message, count);
+    if (a.said == FORDLINNET_ANSWERED && a.count > 0) {
+        count = a.count;
+        memcpy(message, a.message, count);
+    }
+    due = (due + 1) % 4;
+}
+
 int main(void) {
     int i;
+    if (!fordlinnet_trace_beside_named(&beside)) return 2;
     begin(&ends[0], false);
     begin(&ends[1], true);
     course();
-    for (i = 0; i < CALLS; i++) any(&ends[i % 2], &ends[1 - i % 2]);
+    for (i = 0; i < CALLS; i++) {
+        any(&ends[i % 2], &ends[1 - i % 2]);
+        pool();
+        set_up();
+    }
+    fordlinnet_trace_beside_end(&beside);
     for (i = 0; i < 2; i++) fordlinnet_trace_end(&ends[i].trace, &ends[i].group);
     return 0;
 }

@@ -44,6 +44,8 @@ fn run_program(program: &str, input: &[u8]) -> io::Result<Vec<u8>> {
     let mut child = Command::new(program)
         .stdin(Stdio::piped())
         .stdout(Stdio::piped())
+        // why a line is bad is not compared
+        .stderr(Stdio::null())
         .spawn()?;
     let mut stdin = child
         .stdin

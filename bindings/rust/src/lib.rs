@@ -70,7 +70,8 @@
 //! # Traces
 //!
 //! With the feature `trace`, `Group::trace` or the variable `FORDLINNET_TRACE` writes a group's calls and answers down as the program
-//! `replay` reads them, so that a run can be made again by the proved program, compared, and drawn.
+//! `replay` reads them, so that a run can be made again by the proved program, compared, and drawn. The variable, or `trace_beside`, does
+//! so of the calls that stand beside the groups too: the pool's and set-up.
 //!
 //! # Building
 //!
@@ -92,6 +93,8 @@ extern crate alloc;
 extern crate std;
 
 mod answer;
+#[cfg(all(feature = "std", feature = "trace"))]
+mod beside;
 #[allow(unsafe_code)]
 mod border;
 mod gather;
@@ -106,6 +109,8 @@ mod setup;
 mod trace;
 
 pub use answer::{Closed, Health, Heard, Placing, Placings, Read, Sent, State};
+#[cfg(all(feature = "std", feature = "trace"))]
+pub use beside::trace_beside;
 pub use border::{Memory, SharedMemory};
 pub use gather::{Gathered, Piece, Pieces};
 pub use group::Group;

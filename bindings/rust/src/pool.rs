@@ -51,7 +51,12 @@ impl Books {
     /// assert_eq!(Refusal::Books.to_string(), "refusal 3: the pool's books are not coherent");
     /// ```
     pub fn take(&mut self, units: u32) -> Result<u32, Refusal> {
-        self.after(border::pool_take(RawBooks { sizes: self.sizes }, units))
+        #[cfg(all(feature = "std", feature = "trace"))]
+        let before = *self;
+        let answer = self.after(border::pool_take(RawBooks { sizes: self.sizes }, units));
+        #[cfg(all(feature = "std", feature = "trace"))]
+        crate::beside::took(&before, units, &answer, self);
+        answer
     }
 
     /// Returns a block that was given out in that place and size.
@@ -60,7 +65,12 @@ impl Books {
     ///
     /// [`Books`](Refusal::Books), [`NotGivenOut`](Refusal::NotGivenOut).
     pub fn give_back(&mut self, start: u32, units: u32) -> Result<(), Refusal> {
-        self.after(border::pool_return(RawBooks { sizes: self.sizes }, start, units)).map(|_| ())
+        #[cfg(all(feature = "std", feature = "trace"))]
+        let before = *self;
+        let answer = self.after(border::pool_return(RawBooks { sizes: self.sizes }, start, units));
+        #[cfg(all(feature = "std", feature = "trace"))]
+        crate::beside::gave_back(&before, start, units, &answer, self);
+        answer.map(|_| ())
     }
 
     fn after(&mut self, answer: border::PoolAnswer) -> Result<u32, Refusal> {

@@ -135,6 +135,13 @@ impl Error for SetUpRefusal {}
 /// # Ok::<(), fordlinnet::SetUpRefusal>(())
 /// ```
 pub fn set_up(settings: &Settings, due: Due, bytes: &[u8]) -> Result<SetUp, SetUpRefusal> {
+    let answer = answered(settings, due, bytes);
+    #[cfg(all(feature = "std", feature = "trace"))]
+    crate::beside::set_up(settings, due, bytes, &answer);
+    answer
+}
+
+fn answered(settings: &Settings, due: Due, bytes: &[u8]) -> Result<SetUp, SetUpRefusal> {
     let answer = border::setup(&raw(settings), due as u32, bytes);
     if answer.said == said::REFUSED {
         return Err(match answer.refusal {
@@ -154,7 +161,7 @@ pub fn set_up(settings: &Settings, due: Due, bytes: &[u8]) -> Result<SetUp, SetU
     })
 }
 
-fn raw(settings: &Settings) -> RawSettings {
+pub(crate) fn raw(settings: &Settings) -> RawSettings {
     let mut prefixes = [0; 136];
     for (to, from) in prefixes.chunks_exact_mut(17).zip(&settings.prefixes) {
         to[..16].copy_from_slice(&from.prefix);

@@ -13,7 +13,31 @@ const ROOM: usize = 65_600;
 const MEMORY: usize = 1_048_704;
 const RECORDS: usize = 300;
 
-type Sink = Box<dyn FnMut(&str) + Send + Sync>;
+pub(crate) type Sink = Box<dyn FnMut(&str) + Send + Sync>;
+
+/// Where `FORDLINNET_TRACE` names a file, a new one of that name, the process's number and this one.
+#[cfg(all(feature = "std", feature = "trace"))]
+pub(crate) fn file(number: u32) -> Option<Sink> {
+    use std::ffi::OsString;
+    use std::io::Write;
+    use std::sync::OnceLock;
+    static NAMED: OnceLock<Option<OsString>> = OnceLock::new();
+    let mut name = NAMED.get_or_init(|| std::env::var_os("FORDLINNET_TRACE").filter(|name| !name.is_empty())).clone()?;
+    name.push(std::format!(".{}.{number}", std::process::id()));
+    match std::fs::File::create(&name) {
+        Ok(file) => {
+            let mut file = std::io::LineWriter::new(file);
+            Some(Box::new(move |line| {
+                // a trace that cannot be written ends; the run goes on
+                let _ = writeln!(file, "{line}");
+            }))
+        }
+        Err(trouble) => {
+            std::eprintln!("fordlinnet: no trace in {}: {trouble}", name.to_string_lossy());
+            None
+        }
+    }
+}
 
 /// The hook of a group: nothing, or who is told. It is no part of the group.
 #[derive(Default)]
@@ -41,29 +65,11 @@ impl Trace {
     /// Where `FORDLINNET_TRACE` names a file, one of that name, the process's number and the group's is made for each group.
     #[cfg(all(feature = "std", feature = "trace"))]
     pub(crate) fn from_environment() -> Trace {
-        use std::ffi::OsString;
-        use std::io::Write;
         use std::sync::atomic::{AtomicU32, Ordering};
-        use std::sync::OnceLock;
-        static NAMED: OnceLock<Option<OsString>> = OnceLock::new();
         static GROUPS: AtomicU32 = AtomicU32::new(0);
-        let Some(named) = NAMED.get_or_init(|| std::env::var_os("FORDLINNET_TRACE").filter(|name| !name.is_empty())) else {
-            return Trace::default();
-        };
-        let mut name = named.clone();
-        name.push(std::format!(".{}.{}", std::process::id(), GROUPS.fetch_add(1, Ordering::Relaxed) + 1));
-        match std::fs::File::create(&name) {
-            Ok(file) => {
-                let mut file = std::io::LineWriter::new(file);
-                Trace::to(move |line| {
-                    // a trace that cannot be written ends; the run goes on
-                    let _ = writeln!(file, "{line}");
-                })
-            }
-            Err(trouble) => {
-                std::eprintln!("fordlinnet: no trace in {}: {trouble}", name.to_string_lossy());
-                Trace::default()
-            }
+        match file(GROUPS.fetch_add(1, Ordering::Relaxed) + 1) {
+            Some(sink) => Trace::to(sink),
+            None => Trace::default(),
         }
     }
 
@@ -108,7 +114,7 @@ pub(crate) struct Tracer {
 }
 
 /// Bytes in hexadecimal; `-` for none.
-struct Hex<'a>(&'a [u8]);
+pub(crate) struct Hex<'a>(pub(crate) &'a [u8]);
 
 impl fmt::Display for Hex<'_> {
     fn fmt(&self, f: &mut fmt::Formatter<'_>) -> fmt::Result {
@@ -123,7 +129,7 @@ fn made(message: Option<&Message>) -> Hex<'_> {
     Hex(message.map_or(&[], |message| message.as_bytes()))
 }
 
-fn cut(bytes: &[u8]) -> Hex<'_> {
+pub(crate) fn cut(bytes: &[u8]) -> Hex<'_> {
     Hex(&bytes[..bytes.len().min(BYTES)])
 }
 

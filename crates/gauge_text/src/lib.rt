@@ -66,10 +66,10 @@ fn bits_in(given: &[u8]) -> u64 {
 }
 
 // A double that does not parse.
-fn no_double(scan: Scan) -> Double
+fn no_double(scan: Scan, why: u8) -> Double
     ensures { λ r. ⌜ r .scan .left ≤ scan .left ⌝ }
 {
-    let bad = input::spoilt(scan);
+    let bad = input::spoilt(scan, why);
     Double {
         scan: bad,
         value: 0.0,
@@ -83,11 +83,11 @@ fn double_of(buf: &mut [u8; 65536], given: &mut [u8], c: Scan) -> Double
     let b = input::bytes(buf, given, c);
     let scan = b.scan;
     if b.count != 8 {
-        return no_double(scan);
+        return no_double(scan, input::BYTES);
     }
     let bits = bits_in(given);
     if bits % 9223372036854775808 / 4503599627370496 == 2047 {
-        return no_double(scan);
+        return no_double(scan, input::FIELD);
     }
     Double {
         scan: scan,
@@ -103,7 +103,7 @@ pub fn link_of(buf: &mut [u8; 65536], c: Scan) -> Decimal
     if 0 < k.value {
         return k;
     }
-    let bad = input::spoilt(k.scan);
+    let bad = input::spoilt(k.scan, input::FIELD);
     Decimal {
         scan: bad,
         value: 0,

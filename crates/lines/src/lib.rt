@@ -1,6 +1,8 @@
 // A line of the input: a call with its numbers, a send of a head and a body, one of the seven lines that are no calls, a line of the pool,
 // one on setting up or one on links.
+ghost use mathlib.Core.Path.{_≡_};
 ghost use Prim.Native.Nat.{_-_, _≤_};
+ghost use Rattle.lines.specs.Why.{noSlotOf, outsideOf, whyOf};
 use call_text::CallVerb;
 use connection::Record;
 use gauge::Gauge;
@@ -22,7 +24,8 @@ use stream::input::Scan;
 pub enum Line {
     // empty, or a comment
     Skipped,
-    Bad,
+    // why: one of the reasons of `stream`, or of this crate
+    Bad(u8),
     // S, N, LEN, COUNT
     Group(u32, u32, usize, usize),
     // how many bytes are lent beside the call, and how many of out
@@ -53,6 +56,12 @@ pub struct Parsed {
     pub scan: Scan,
     pub line: Line,
 }
+
+// Why a line that parses is bad all the same: its slot is none of the table's;
+pub const SLOT: u8 = 11;
+
+// its bytes do not lie within the memory.
+pub const MEMORY: u8 = 12;
 
 const MOST: u32 = 4294967295;
 
@@ -230,13 +239,28 @@ fn verb_of(letters: &[u8; 8], count: usize) -> Verb
     management_verb(letters, count)
 }
 
+// Why a line is bad where nothing more is taken of it.
+fn left_over(c: Scan) -> u8 {
+    if c.why != input::FINE {
+        return c.why;
+    }
+    if c.byte == b'\n' {
+        return input::FINE;
+    }
+    if c.byte == b' ' {
+        input::LEFT
+    } else {
+        input::CHARACTER
+    }
+}
+
 // The line, where what was taken parses and nothing is left of it.
 fn ended(buf: &mut [u8; 65536], c: Scan, line: Line) -> Parsed
     ensures { λ r. ⌜ r .scan .left ≤ c .left - 1 ⌝ }
 {
-    let good = c.good & (c.byte == b'\n');
+    let why = left_over(c);
     let scan = input::next_line(buf, c);
-    if good {
+    if why == input::FINE {
         Parsed {
             scan: scan,
             line: line,
@@ -244,8 +268,18 @@ fn ended(buf: &mut [u8; 65536], c: Scan, line: Line) -> Parsed
     } else {
         Parsed {
             scan: scan,
-            line: Line::Bad,
+            line: Line::Bad(why),
         }
+    }
+}
+
+fn unknown(buf: &mut [u8; 65536], c: Scan) -> Parsed
+    ensures { λ r. ⌜ r .scan .left ≤ c .left - 1 ⌝ }
+{
+    let scan = input::next_line(buf, c);
+    Parsed {
+        scan: scan,
+        line: Line::Bad(input::WORD),
     }
 }
 
@@ -392,7 +426,7 @@ fn line_of(buf: &mut [u8; 65536], given: &mut [u8], body: &mut [u8], c: Scan, ve
         Verb::Setup(v) => setup_line(buf, given, c, v),
         Verb::Link(v) => link_line(buf, given, c, v),
         Verb::LinkCall(v) => link_call(buf, given, c, v),
-        Verb::Unknown => ended(buf, c, Line::Bad),
+        Verb::Unknown => unknown(buf, c),
     }
 }
 
@@ -409,6 +443,56 @@ pub fn parse(buf: &mut [u8; 65536], given: &mut [u8], body: &mut [u8], c: Scan) 
     }
     let mut letters = [0u8; 8];
     let w = input::word(buf, &mut letters, c);
+    if (w.scan.byte != b' ') & (w.scan.byte != b'\n') {
+        return unknown(buf, w.scan);
+    }
     let verb = verb_of(&letters, w.count);
     line_of(buf, given, body, w.scan, verb)
+}
+
+// The slot of a `record` line is one of the table's, of which a replay has at most 300 rows.
+fn no_slot(slot: usize, count: usize) -> u8
+    ensures { λ r. ⌜ r ≡ noSlotOf slot count ⌝ }
+{
+    if (1 <= slot) & ((slot <= count) & (slot <= records::ROWS)) {
+        input::FINE
+    } else {
+        SLOT
+    }
+}
+
+// The bytes of a `poke` or `memory` line lie within the memory.
+fn outside(at: usize, n: usize, len: usize) -> u8
+    ensures { λ r. ⌜ r ≡ outsideOf at n len ⌝ }
+{
+    if at <= len {
+        if n <= len - at {
+            return input::FINE;
+        }
+    }
+    MEMORY
+}
+
+// Why a line is bad: by its words, or by the group that it meets, whose table has `count` rows and whose memory `len` bytes. 0 for a line
+// that is not.
+pub fn why(line: Line, count: usize, len: usize) -> u8
+    ensures { λ r. ⌜ r ≡ whyOf line count len ⌝ }
+{
+    match line {
+        Line::Bad(w) => w,
+        Line::Record(slot, _) => no_slot(slot, count),
+        Line::Poke(at, n) => outside(at, n, len),
+        Line::Memory(at, n) => outside(at, n, len),
+        Line::Skipped => input::FINE,
+        Line::Group(_, _, _, _) => input::FINE,
+        Line::Call(_, _, _) => input::FINE,
+        Line::Gather(_, _, _) => input::FINE,
+        Line::Table => input::FINE,
+        Line::Health(_) => input::FINE,
+        Line::Gauge(_, _) => input::FINE,
+        Line::Pool(_) => input::FINE,
+        Line::Setup(_) => input::FINE,
+        Line::Link(_) => input::FINE,
+        Line::LinkCall(_, _, _) => input::FINE,
+    }
 }

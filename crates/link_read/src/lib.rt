@@ -263,7 +263,7 @@ fn kind_of(buf: &mut [u8; 65536], c: Scan) -> KindRead
             kind: kind,
         };
     }
-    let scan = input::spoilt(c);
+    let scan = input::spoilt(c, input::KIND);
     KindRead {
         scan: scan,
         kind: kind,
@@ -322,7 +322,7 @@ fn of_44(m: Run) -> Scan
     if m.count == 44 {
         return m.scan;
     }
-    input::spoilt(m.scan)
+    input::spoilt(m.scan, input::BYTES)
 }
 
 // L M, of which M is 44 bytes, or `-` for zeros: laid at their place.

@@ -80,7 +80,7 @@ fn books_line(buf: &mut [u8; 65536], given: &mut [u8], c: Scan) -> PoolParsed
     let b = input::bytes(buf, given, c);
     let scan = b.scan;
     if b.count != 64 {
-        let bad = input::spoilt(scan);
+        let bad = input::spoilt(scan, input::BYTES);
         return PoolParsed {
             scan: bad,
             line: PoolLine::Lay,

@@ -2,10 +2,12 @@
 // what is printed is fixed by the replay format; what a call answers is the group's alone. Lines are parsed by `lines`, calls made by
 // `replay_calls`, and `replay_state` has the group and the lines that are no calls; answers are printed by `answers`, all over the streams
 // of `stream`; a record's numbers are read and printed by `records`, a gauge's by `gauge_text`, lines on links by `link_read` and
-// `link_text`.
+// `link_text`. On the standard error it says why a line is bad and, started with words or where the input cannot be read, how it is used:
+// a Rattle program has no exit status (`examples/replay` gives one).
 //
 // Six buffers are lent throughout: `mem` the receive memory, `given` the bytes of a line, `body` the second bytes of a line, `out` the
 // buffer of a read and of the calls on links, `buf` the input and `o` the output.
+use libc::STDERR_FILENO;
 use lines::Line;
 use replay_state::World;
 use stream::input;
@@ -64,6 +66,96 @@ fn act<'a>(
     }
 }
 
+fn say(s: &[u8]) {
+    io::write_all(STDERR_FILENO, s);
+}
+
+fn usage() {
+    say(b"usage: replay < CALLS\n");
+    say(
+        b"reads calls from standard input, one a line, makes them on one group, and prints an answer for each;\n",
+    );
+    say(b"docs/replay-format.md has the lines\n");
+}
+
+// The reasons of a number or of bytes.
+fn value_reason(why: u8) {
+    if why == input::NUMBER {
+        say(b"no number stands where one should");
+    }
+    if why == input::FIELD {
+        say(b"a number does not fit its field");
+    }
+    if why == input::HEX {
+        say(b"no two hexadecimal digits (0-9, A-F) stand where they should");
+    }
+    if why == input::BYTES {
+        say(b"too many bytes, or not as many as are asked for");
+    }
+}
+
+// Those of a word.
+fn word_reason(why: u8) {
+    if why == input::WORD {
+        say(b"unknown word");
+    }
+    if why == input::ENDS {
+        say(b"it ends where a word should stand");
+    }
+    if why == input::LEFT {
+        say(b"words are left over");
+    }
+    if why == input::CHARACTER {
+        say(b"a character stands where it cannot");
+    }
+}
+
+fn other_reason(why: u8) {
+    if why == input::KIND {
+        say(b"no link message is of that kind");
+    }
+    if why == input::UNREAD {
+        say(b"it could not be read to its end");
+    }
+    if why == lines::SLOT {
+        say(b"the table has no such slot");
+    }
+    if why == lines::MEMORY {
+        say(b"bytes outside of the memory");
+    }
+}
+
+// On the standard error: a bad line's number, and why it is bad.
+fn complain(line: Line, number: u64, count: usize, len: usize) {
+    let why = lines::why(line, count, len);
+    if why != input::FINE {
+        say(b"line ");
+        io::print_decimal(STDERR_FILENO, number);
+        say(b": ");
+        word_reason(why);
+        value_reason(why);
+        other_reason(why);
+        say(b"\n");
+    }
+}
+
+// The lines are counted from 1 on.
+fn next_number(number: u64) -> u64 {
+    if number < u64::MAX {
+        number + 1
+    } else {
+        number
+    }
+}
+
+// The answers that are left, and how the program is used where its input could not be read.
+fn finish(o: &[u8], at: usize, why: u8) {
+    output::flush(o, at);
+    if why != input::FINE {
+        usage();
+    }
+}
+
 fn run(
     mem: &mut [u8],
     given: &mut [u8],
@@ -73,14 +165,17 @@ fn run(
     o: &mut [u8; 65536],
 ) {
     let mut w = replay_calls::first();
+    let mut number: u64 = 0;
     let mut scan = input::begin(buf);
     while 0 < scan.left {
         let p = lines::parse(buf, given, body, scan);
         let line = p.line;
         scan = p.scan;
+        number = next_number(number);
+        complain(line, number, w.count, w.len);
         w = act(mem, given, body, out, o, w, line);
     }
-    output::flush(o, w.at);
+    finish(o, w.at, scan.why);
 }
 
 // The arrays, as slices.
@@ -95,7 +190,7 @@ fn start(
     run(mem, given, body, out, buf, o);
 }
 
-fn main() {
+fn replay() {
     let mut mem = [0u8; 1048704];
     let mut given = [0u8; 70000];
     let mut body = [0u8; 70000];
@@ -103,4 +198,12 @@ fn main() {
     let mut buf = [0u8; 65536];
     let mut o = [0u8; 65536];
     start(&mut mem, &mut given, &mut body, &mut out, &mut buf, &mut o);
+}
+
+fn main() {
+    if 1 < os::arg_count() {
+        usage();
+    } else {
+        replay();
+    }
 }

@@ -109,7 +109,7 @@ fn read_bytes(b: &mut [u8; 252], at: usize, n: usize, buf: &mut [u8; 65536], c: 
     if r.count == n {
         return r.scan;
     }
-    input::spoilt(r.scan)
+    input::spoilt(r.scan, input::BYTES)
 }
 
 // N PEERID GID MAC

@@ -7,14 +7,47 @@ use libc::STDIN_FILENO;
 
 // `byte` is the next byte, not yet taken; at the end of the input it is a line feed. `left` bounds how many bytes may still come, this
 // one among them, and is 0 at the end: it starts at a number that no run uses up, so that every loop over the stream is seen to end.
-// `at` and `end` say which bytes of the buffer come next. `good`: what was taken of the line so far parses.
+// `at` and `end` say which bytes of the buffer come next. `why`: the first thing that is wrong with what was taken of the line so far.
 pub struct Scan {
     pub byte: u8,
     pub left: u64,
     pub at: usize,
     pub end: usize,
-    pub good: bool,
+    pub why: u8,
 }
+
+// Why a line does not parse. Nothing is wrong:
+pub const FINE: u8 = 0;
+
+// its first word is none of the format's;
+pub const WORD: u8 = 1;
+
+// it ends where a word should stand;
+pub const ENDS: u8 = 2;
+
+// words are left over;
+pub const LEFT: u8 = 3;
+
+// a character stands where it cannot;
+pub const CHARACTER: u8 = 4;
+
+// no number stands where one should;
+pub const NUMBER: u8 = 5;
+
+// a number does not fit its field;
+pub const FIELD: u8 = 6;
+
+// no two hexadecimal digits stand where they should;
+pub const HEX: u8 = 7;
+
+// there are too many bytes, or not as many as are asked for;
+pub const BYTES: u8 = 8;
+
+// no link message is of that kind;
+pub const KIND: u8 = 9;
+
+// the input could not be read to its end.
+pub const UNREAD: u8 = 10;
 
 pub struct Decimal {
     pub scan: Scan,
@@ -54,6 +87,29 @@ fn less(x: u64) -> u64
     if 0 < x { x - 1 } else { 0 }
 }
 
+// The end of the input. A read that failed is told on the standard error, by the system's words.
+fn ended(got: isize, c: Scan) -> Scan
+    ensures { λ r. ⌜ r .left ≡ 0 ⌝ }
+{
+    if got < 0 {
+        os::fail(b"standard input");
+        return Scan {
+            byte: b'\n',
+            left: 0,
+            at: 0,
+            end: 0,
+            why: UNREAD,
+        };
+    }
+    Scan {
+        byte: b'\n',
+        left: 0,
+        at: 0,
+        end: 0,
+        why: c.why,
+    }
+}
+
 // Reads once more: the first of what came is the next byte.
 fn refilled(buf: &mut [u8; 65536], c: Scan) -> Scan
     ensures { λ r. ⌜ r .left ≤ c .left - 1 ⌝ }
@@ -62,20 +118,14 @@ fn refilled(buf: &mut [u8; 65536], c: Scan) -> Scan
     let end = io::count(got, buf);
     let left = less(c.left);
     if end == 0 {
-        return Scan {
-            byte: b'\n',
-            left: 0,
-            at: 0,
-            end: 0,
-            good: c.good,
-        };
+        return ended(got, c);
     }
     Scan {
         byte: buf[0],
         left: left,
         at: 1,
         end: end,
-        good: c.good,
+        why: c.why,
     }
 }
 
@@ -91,7 +141,7 @@ pub fn next(buf: &mut [u8; 65536], c: Scan) -> Scan
             left: 0,
             at: 0,
             end: 0,
-            good: c.good,
+            why: c.why,
         };
     }
     if at < c.end {
@@ -101,7 +151,7 @@ pub fn next(buf: &mut [u8; 65536], c: Scan) -> Scan
                 left: left,
                 at: at + 1,
                 end: c.end,
-                good: c.good,
+                why: c.why,
             };
         }
     }
@@ -117,18 +167,26 @@ pub fn begin(buf: &mut [u8; 65536]) -> Scan
         left: u64::MAX,
         at: 0,
         end: 0,
-        good: true,
+        why: FINE,
     };
     next(buf, before)
 }
 
-// The line does not parse.
-pub fn spoilt(c: Scan) -> Scan
-    ensures { λ r. ⌜ (r ≡ spoiltOf c) × (r .left ≤ c .left) ⌝ }
+// The line does not parse, and why; what was wrong before stays the reason.
+pub fn spoilt(c: Scan, why: u8) -> Scan
+    ensures { λ r. ⌜ (r ≡ spoiltOf c why) × (r .left ≤ c .left) ⌝ }
 {
+    if c.why != FINE {
+        return c;
+    }
     let mut d = c;
-    d.good = false;
+    d.why = why;
     d
+}
+
+// Why a line does not parse whose next byte is another than it should be: the line ends, or `why`.
+fn ends_or(c: Scan, why: u8) -> u8 {
+    if c.byte == b'\n' { ENDS } else { why }
 }
 
 // Takes the byte that is wanted next.
@@ -138,7 +196,7 @@ pub fn taken(buf: &mut [u8; 65536], c: Scan, byte: u8) -> Scan
     if c.byte == byte {
         next(buf, c)
     } else {
-        spoilt(c)
+        spoilt(c, ends_or(c, CHARACTER))
     }
 }
 
@@ -189,11 +247,17 @@ fn digits(buf: &mut [u8; 65536], c: Scan) -> Figures
 pub fn bare_number(buf: &mut [u8; 65536], c: Scan, most: u64) -> LongDecimal
     ensures { λ r. ⌜ (r .scan .left ≤ c .left) × (r .value ≤ most) ⌝ }
 {
-    let some = is_digit(c.byte);
+    if !is_digit(c.byte) {
+        let none = spoilt(c, ends_or(c, NUMBER));
+        return LongDecimal {
+            scan: none,
+            value: 0,
+        };
+    }
     let d = digits(buf, c);
     let scan = d.scan;
     let sum = d.sum;
-    if some & !sum.past {
+    if !sum.past {
         if sum.value <= most {
             return LongDecimal {
                 scan: scan,
@@ -201,7 +265,7 @@ pub fn bare_number(buf: &mut [u8; 65536], c: Scan, most: u64) -> LongDecimal
             };
         }
     }
-    let bad = spoilt(scan);
+    let bad = spoilt(scan, FIELD);
     LongDecimal {
         scan: bad,
         value: 0,
@@ -263,11 +327,11 @@ fn octet(buf: &mut [u8; 65536], c: Scan) -> Pair
             };
         }
     }
-    let bad = spoilt(second);
+    let bad = spoilt(second, HEX);
     Pair { scan: bad, byte: 0 }
 }
 
-// As many bytes as there are, or as `to` has room for: digits that are left over are not the line's end.
+// As many bytes as there are, or as `to` has room for.
 fn octets(buf: &mut [u8; 65536], to: &mut [u8], c: Scan) -> Run
     ensures { λ r. ⌜ (r .scan .left ≤ c .left) × (r .count ≤ length (now (to .entry))) ⌝ }
 {
@@ -285,6 +349,22 @@ fn octets(buf: &mut [u8; 65536], to: &mut [u8], c: Scan) -> Run
     }
 }
 
+// The same; digits that are left over are too many.
+fn all_octets(buf: &mut [u8; 65536], to: &mut [u8], c: Scan) -> Run
+    ensures { λ r. ⌜ (r .scan .left ≤ c .left) × (r .count ≤ length (now (to .entry))) ⌝ }
+{
+    let r = octets(buf, to, c);
+    let scan = r.scan;
+    if nibble(scan.byte) < 16 {
+        let bad = spoilt(scan, BYTES);
+        return Run {
+            scan: bad,
+            count: r.count,
+        };
+    }
+    r
+}
+
 // A space and bytes in hexadecimal, `-` for none.
 pub fn bytes(buf: &mut [u8; 65536], to: &mut [u8], c: Scan) -> Run
     ensures { λ r. ⌜ (r .scan .left ≤ c .left) × (r .count ≤ length (now (to .entry))) ⌝ }
@@ -298,9 +378,9 @@ pub fn bytes(buf: &mut [u8; 65536], to: &mut [u8], c: Scan) -> Run
         };
     }
     if nibble(start.byte) < 16 {
-        octets(buf, to, start)
+        all_octets(buf, to, start)
     } else {
-        let bad = spoilt(start);
+        let bad = spoilt(start, ends_or(start, HEX));
         Run {
             scan: bad,
             count: 0,
@@ -333,6 +413,6 @@ pub fn next_line(buf: &mut [u8; 65536], c: Scan) -> Scan
     while 0 < scan.left && scan.byte != b'\n' {
         scan = next(buf, scan);
     }
-    scan.good = true;
+    scan.why = FINE;
     next(buf, scan)
 }

@@ -127,6 +127,64 @@ fn a_hundred_thousand_calls() {
     assert!(tally.taken_up[Fate::Taken as usize] > 0 && tally.taken_up[Fate::Dropped as usize] > 0, "nothing was taken up");
 }
 
+/// Makes a trace's calls again by the second program: every answer is the one that the trace has. So many there are.
+#[cfg(feature = "trace")]
+fn made_again(trace: &str) -> usize {
+    let wanted: Vec<&str> = trace.lines().filter_map(|line| line.strip_prefix("#> ")).collect();
+    let (mut theirs, mut given) = (Replay::new(), Vec::new());
+    for line in lines(trace.as_bytes()) {
+        if !skipped(line) {
+            let call = theirs.parse(line).unwrap_or_else(|_| panic!("{}", String::from_utf8_lossy(&line[..line.len().min(300)])));
+            let answer = theirs.execute(&call);
+            theirs.print_answer(&mut given, &answer);
+        }
+    }
+    let given = String::from_utf8(given).expect("ASCII");
+    assert_eq!(given.lines().count(), wanted.len());
+    for (number, (given, wanted)) in given.lines().zip(&wanted).enumerate() {
+        assert_eq!(given, *wanted, "answer {}", number + 1);
+    }
+    wanted.len()
+}
+
+/// The pool's calls and set-up, of every test that runs meanwhile too, made again from their trace.
+#[cfg(all(feature = "std", feature = "trace"))]
+#[test]
+fn trace_beside_replayed() {
+    use std::sync::{Arc, Mutex};
+    let text = Arc::new(Mutex::new(String::new()));
+    let to = text.clone();
+    fordlinnet::trace_beside(move |line| {
+        let mut text = to.lock().expect("no panic while it is held");
+        text.push_str(line);
+        text.push('\n');
+    });
+    let (mut ours, mut reader) = (Ours::new(), Replay::new());
+    for list in [exhaust::list(1), hostile::list(1, None)] {
+        for line in lines(&list).into_iter().filter(|line| !skipped(line)) {
+            let Ok(call) = reader.parse(line) else { continue };
+            reader.execute(&call);
+            if matches!(
+                call,
+                Line::Pool | Line::Take { .. } | Line::Return { .. } | Line::Books { .. } | Line::Settings { .. } | Line::Setup { .. }
+            ) {
+                ours.execute(&call);
+            }
+        }
+    }
+    fordlinnet::trace_beside(|_| ());
+    let text = text.lock().expect("no panic").clone();
+    let calls = made_again(&text);
+    println!("{calls} lines beside the groups, no difference");
+    for word in ["pool", "books ", "take ", "return ", "settings ", "setup none", "setup Proposal", "setup Accept", "setup Confirm"] {
+        assert!(text.lines().any(|line| line.starts_with(word)), "no {word}");
+    }
+    let refusals = [1, 2, 3, 18, 19, 20].map(|number| format!("refused {number}"));
+    for answer in ["take ", "return", "setup message E2D4C3D9"].into_iter().chain(refusals.iter().map(String::as_str)) {
+        assert!(text.lines().any(|line| line.strip_prefix("#> ").is_some_and(|said| said.starts_with(answer))), "no {answer}");
+    }
+}
+
 /// Traced lists, made again from their traces by the second program: every answer is the one that the trace has. What the lists change by
 /// hand, records, links and bytes, comes to the trace as well.
 #[cfg(feature = "trace")]
@@ -148,21 +206,7 @@ fn traces_replayed() {
             }
             drop(ours);
             let text = text.lock().expect("no panic").clone();
-            let wanted: Vec<&str> = text.lines().filter_map(|line| line.strip_prefix("#> ")).collect();
-            let (mut theirs, mut given) = (Replay::new(), Vec::new());
-            for line in lines(text.as_bytes()) {
-                if !skipped(line) {
-                    let call = theirs.parse(line).unwrap_or_else(|_| panic!("{}", String::from_utf8_lossy(&line[..line.len().min(300)])));
-                    let answer = theirs.execute(&call);
-                    theirs.print_answer(&mut given, &answer);
-                }
-            }
-            let given = String::from_utf8(given).expect("ASCII");
-            assert_eq!(given.lines().count(), wanted.len());
-            for (number, (given, wanted)) in given.lines().zip(&wanted).enumerate() {
-                assert_eq!(given, *wanted, "answer {}", number + 1);
-            }
-            calls += wanted.len();
+            calls += made_again(&text);
         }
     }
     println!("{calls} traced lines, no difference");
