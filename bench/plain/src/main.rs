@@ -1,15 +1,20 @@
 //! Read, send, urgent send, hear, place, shutdown, close, abort and link change of the proved archive, through the Rust crate, beside the
 //! same in ordinary Rust. First both are compared on random calls, then timed by turns; a table of nanoseconds a call goes to standard
-//! output. Ends with status 1 where a target is missed. Gather has rows of its own, beside joining too. With the word `tables` it times 64
-//! bytes over tables of three sizes instead, with a call's name only that call; with `link-message` it hears a thousand TEST LINKs, for a
-//! tool that counts instructions.
+//! output. Ends with status 1 where a target is missed. Gather has rows of its own, beside joining too, and so have open, the pool and the
+//! link calls (`rest`). With the word `tables` it times 64 bytes over tables of three sizes instead, with a call's name only that call; with
+//! `link-message` it hears a thousand TEST LINKs, with `rest-count` it makes one call of `rest` so many times, for a tool that counts
+//! instructions.
 
 mod check;
 mod gather;
+mod links;
+mod open;
 #[path = "../../../bindings/rust/tests/model/ours.rs"]
 #[allow(dead_code)]
 mod ours;
 mod plain;
+mod pool;
+mod rest;
 
 use fordlinnet::{Closed, Cursor, Group, Links, Message, Opening, RToken, Read, Record, Remote};
 use std::hint::black_box;
@@ -384,10 +389,15 @@ fn main() {
         Some("tables") => return tables(),
         Some("link-message") => return link_message(),
         Some("gather") => std::process::exit(i32::from(gather::rows() > 0)),
+        Some("rest-names") => return rest::names().iter().for_each(|name| println!("{name}")),
+        Some("rest-count") => {
+            let word = |k: usize| std::env::args().nth(k).expect("rest-count ROW ours|plain|none TURNS");
+            return rest::count(word(2).parse().expect("a row"), &word(3), word(4).parse().expect("how often"));
+        }
         _ => {}
     }
     if only.is_none() {
-        let calls = check::check(100_000);
+        let calls = check::check(100_000) + rest::check(400_000);
         eprintln!("{calls} random calls: the plain calls answer and leave the same");
     }
     println!("| call | run | message | bytes | ours, ns | plain, ns | ratio |");
@@ -452,6 +462,8 @@ urgent send: {worst_urgent:.2} (target {TARGET_URGENT}); {over} rows over"
     if only.is_none() {
         over += gather::rows();
     }
+    println!();
+    over += rest::table(only.as_deref());
     if over > 0 {
         std::process::exit(1);
     }

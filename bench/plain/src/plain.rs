@@ -100,7 +100,7 @@ fn place_ok(n: u32, from: Cursor, to: Cursor, u: Urgent) -> bool {
     in_range(n, u.place) && good(n, ahead) && 1 <= ahead && ahead <= distance(n, from, to)
 }
 
-fn coherent(n: u32, r: &Record) -> bool {
+pub fn coherent(n: u32, r: &Record) -> bool {
     let peer = &r.remote;
     if r.id.own == 0 || r.id.peer == 0 || !(1..=4).contains(&r.id.link) || !(8..=65_540).contains(&peer.size) {
         return false;
@@ -129,7 +129,7 @@ fn coherent(n: u32, r: &Record) -> bool {
 }
 
 /// The message of a record.
-fn written(r: &Record, sequence: u16) -> Bytes44 {
+pub fn written(r: &Record, sequence: u16) -> Bytes44 {
     let mut m = [0; 44];
     let (q, c) = (r.outbound.producer, r.inbound.consumer);
     let urgent = u8::from(r.outbound.urgent.standing);
@@ -160,7 +160,7 @@ fn mark(m: &mut Marks) {
 }
 
 impl Group<'_> {
-    fn sizes_ok(&self) -> bool {
+    pub fn sizes_ok(&self) -> bool {
         (1..=255).contains(&self.s)
             && (8..=65_540).contains(&self.n)
             && self.memory.len() == self.s as usize * self.n as usize

@@ -2,17 +2,18 @@
 -- Assumes nothing.
 use mathlib.Core.Path.{_≡_, _∙_, refl, ap, subst, sym}
 use mathlib.Core.Bool.{Bool, true, false, _&&_}
-use mathlib.Core.List.{List, [], _∷_, _++_}
+use mathlib.Core.List.{List, [], _∷_, _++_, map}
 use Prim.Native.Nat.{ℕ, zero, suc, _+_, _^_, _≤_, _<_}
 use native.Mathlib.Nat.{add-zero, zero-add, add-suc, suc-add, le-of-suc-le-suc, not-suc-le-zero}
 use native.Mathlib.Omega.{arith}
 use lib.Dec.{T, eqb, eqb→eq}
-use lib.ListN.{length, getD, drop, List·getD-append}
+use lib.ListN.{length, getD, drop, List·getD-append, List·getD-map}
 use lib.Seq.{getD-drop}
 use Rattle.llcfields.specs.declared.Kind.{Kind}
 use Rattle.llcfields.specs.declared.Kind.the-variants.{ConfirmLink, AddLink, AddLinkContinuation, DeleteLink, ConfirmRkey, TestLink, ConfirmRkeyContinuation, DeleteRkey}
 use Rattle.llcfields.specs.declared.Place.{Place}
-use Rattle.llcfields.specs.Layouts.{tableOf, startRow, countOf, noPlace, mostRows}
+use Rattle.llcfields.specs.declared.Row.{Row}
+use Rattle.llcfields.specs.Layouts.{place, tableOf, startRow, countOf, noPlace, mostRows}
 
 left : (a b : Bool) → T (a && b) → T a
 left true b t = tt
@@ -109,3 +110,16 @@ rows-right t k at i e s h =
     ∙ sym (getD-drop (startRow k) allRows i noPlace)
     ∙ ap (λ (l : List Place). getD l i noPlace) (starts k)
     ∙ List·getD-append (tableOf k) (later k) noPlace i (omega (arith, count-is k))
+
+-- the rows of bytes
+abbrev pub rowOf : Place → Row
+rowOf p = record { 0 = p .0; 1 = p .1; 2 = p .2; 3 = p .3 }
+
+abbrev placeIn : Row → Place
+placeIn r = place (r .0) (r .1) (r .2) (r .3)
+
+pub place-right : (k : Kind) (at i a b c d : ℕ) → a ≡ getD (map rowOf allRows) at (rowOf noPlace) .0
+    → b ≡ getD (map rowOf allRows) at (rowOf noPlace) .1 → c ≡ getD (map rowOf allRows) at (rowOf noPlace) .2
+    → d ≡ getD (map rowOf allRows) at (rowOf noPlace) .3 → at ≡ startRow k + i → i < countOf k → place a b c d ≡ getD (tableOf k) i noPlace
+place-right k at i a b c d p q r s f h =
+    (λ j. place (p j) (q j) (r j) (s j)) ∙ ap placeIn (List·getD-map rowOf allRows at noPlace) ∙ rows-right allRows k at i refl f h

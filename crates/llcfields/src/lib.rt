@@ -20,79 +20,82 @@ pub enum Kind {
 // A row: first byte, bytes, low, bits. The field is (the number of those bytes / 2^low) mod 2^bits.
 pub struct Place(pub usize, pub usize, pub usize, pub usize);
 
+// The same in bytes: where a row is looked up, the whole table is laid on the stack.
+pub struct Row(pub u8, pub u8, pub u8, pub u8);
+
 // The rows, kind after kind.
-const ROWS: [Place; 71] = [
-    Place(3, 1, 7, 1), // 01 CONFIRM LINK: R
-    Place(4, 6, 0, 48), // mac
-    Place(10, 8, 0, 64), // gid1
-    Place(18, 8, 0, 64), // gid2
-    Place(26, 3, 0, 24), // qp
-    Place(29, 1, 0, 8), // link
-    Place(30, 4, 0, 32), // user
-    Place(34, 1, 0, 8), // max
-    Place(3, 1, 7, 1), // 02 ADD LINK: R
-    Place(3, 1, 6, 1), // Z
-    Place(2, 1, 0, 4), // reason
-    Place(4, 6, 0, 48), // mac
-    Place(10, 8, 0, 64), // gid1
-    Place(18, 8, 0, 64), // gid2
-    Place(26, 3, 0, 24), // qp
-    Place(29, 1, 0, 8), // link
-    Place(30, 1, 0, 4), // mtu
-    Place(31, 3, 0, 24), // psn
-    Place(3, 1, 7, 1), // 03 ADD LINK CONTINUATION: R
-    Place(4, 1, 0, 8), // link
-    Place(5, 1, 0, 8), // num
-    Place(8, 4, 0, 32), // ref1
-    Place(12, 4, 0, 32), // key1
-    Place(16, 8, 0, 64), // addr1
-    Place(24, 4, 0, 32), // ref2
-    Place(28, 4, 0, 32), // key2
-    Place(32, 8, 0, 64), // addr2
-    Place(3, 1, 7, 1), // 04 DELETE LINK: R
-    Place(3, 1, 6, 1), // A
-    Place(3, 1, 5, 1), // O
-    Place(4, 1, 0, 8), // link
-    Place(5, 4, 0, 32), // reason
-    Place(3, 1, 7, 1), // 06 CONFIRM RKEY: R
-    Place(3, 1, 5, 1), // Z
-    Place(3, 1, 4, 1), // C
-    Place(4, 1, 0, 8), // num
-    Place(5, 4, 0, 32), // key
-    Place(9, 8, 0, 64), // addr
-    Place(17, 1, 0, 8), // link1
-    Place(18, 4, 0, 32), // key1
-    Place(22, 8, 0, 64), // addr1
-    Place(30, 1, 0, 8), // link2
-    Place(31, 4, 0, 32), // key2
-    Place(35, 8, 0, 64), // addr2
-    Place(3, 1, 7, 1), // 07 TEST LINK: R
-    Place(4, 8, 0, 64), // user1
-    Place(12, 8, 0, 64), // user2
-    Place(3, 1, 7, 1), // 08 CONFIRM RKEY CONTINUATION: R
-    Place(3, 1, 5, 1), // Z
-    Place(4, 1, 0, 8), // num
-    Place(5, 1, 0, 8), // link1
-    Place(6, 4, 0, 32), // key1
-    Place(10, 8, 0, 64), // addr1
-    Place(18, 1, 0, 8), // link2
-    Place(19, 4, 0, 32), // key2
-    Place(23, 8, 0, 64), // addr2
-    Place(31, 1, 0, 8), // link3
-    Place(32, 4, 0, 32), // key3
-    Place(36, 8, 0, 64), // addr3
-    Place(3, 1, 7, 1), // 09 DELETE RKEY: R
-    Place(3, 1, 5, 1), // Z
-    Place(4, 1, 0, 8), // count
-    Place(5, 1, 0, 8), // mask
-    Place(8, 4, 0, 32), // key1
-    Place(12, 4, 0, 32), // key2
-    Place(16, 4, 0, 32), // key3
-    Place(20, 4, 0, 32), // key4
-    Place(24, 4, 0, 32), // key5
-    Place(28, 4, 0, 32), // key6
-    Place(32, 4, 0, 32), // key7
-    Place(36, 4, 0, 32), // key8
+const ROWS: [Row; 71] = [
+    Row(3, 1, 7, 1), // 01 CONFIRM LINK: R
+    Row(4, 6, 0, 48), // mac
+    Row(10, 8, 0, 64), // gid1
+    Row(18, 8, 0, 64), // gid2
+    Row(26, 3, 0, 24), // qp
+    Row(29, 1, 0, 8), // link
+    Row(30, 4, 0, 32), // user
+    Row(34, 1, 0, 8), // max
+    Row(3, 1, 7, 1), // 02 ADD LINK: R
+    Row(3, 1, 6, 1), // Z
+    Row(2, 1, 0, 4), // reason
+    Row(4, 6, 0, 48), // mac
+    Row(10, 8, 0, 64), // gid1
+    Row(18, 8, 0, 64), // gid2
+    Row(26, 3, 0, 24), // qp
+    Row(29, 1, 0, 8), // link
+    Row(30, 1, 0, 4), // mtu
+    Row(31, 3, 0, 24), // psn
+    Row(3, 1, 7, 1), // 03 ADD LINK CONTINUATION: R
+    Row(4, 1, 0, 8), // link
+    Row(5, 1, 0, 8), // num
+    Row(8, 4, 0, 32), // ref1
+    Row(12, 4, 0, 32), // key1
+    Row(16, 8, 0, 64), // addr1
+    Row(24, 4, 0, 32), // ref2
+    Row(28, 4, 0, 32), // key2
+    Row(32, 8, 0, 64), // addr2
+    Row(3, 1, 7, 1), // 04 DELETE LINK: R
+    Row(3, 1, 6, 1), // A
+    Row(3, 1, 5, 1), // O
+    Row(4, 1, 0, 8), // link
+    Row(5, 4, 0, 32), // reason
+    Row(3, 1, 7, 1), // 06 CONFIRM RKEY: R
+    Row(3, 1, 5, 1), // Z
+    Row(3, 1, 4, 1), // C
+    Row(4, 1, 0, 8), // num
+    Row(5, 4, 0, 32), // key
+    Row(9, 8, 0, 64), // addr
+    Row(17, 1, 0, 8), // link1
+    Row(18, 4, 0, 32), // key1
+    Row(22, 8, 0, 64), // addr1
+    Row(30, 1, 0, 8), // link2
+    Row(31, 4, 0, 32), // key2
+    Row(35, 8, 0, 64), // addr2
+    Row(3, 1, 7, 1), // 07 TEST LINK: R
+    Row(4, 8, 0, 64), // user1
+    Row(12, 8, 0, 64), // user2
+    Row(3, 1, 7, 1), // 08 CONFIRM RKEY CONTINUATION: R
+    Row(3, 1, 5, 1), // Z
+    Row(4, 1, 0, 8), // num
+    Row(5, 1, 0, 8), // link1
+    Row(6, 4, 0, 32), // key1
+    Row(10, 8, 0, 64), // addr1
+    Row(18, 1, 0, 8), // link2
+    Row(19, 4, 0, 32), // key2
+    Row(23, 8, 0, 64), // addr2
+    Row(31, 1, 0, 8), // link3
+    Row(32, 4, 0, 32), // key3
+    Row(36, 8, 0, 64), // addr3
+    Row(3, 1, 7, 1), // 09 DELETE RKEY: R
+    Row(3, 1, 5, 1), // Z
+    Row(4, 1, 0, 8), // count
+    Row(5, 1, 0, 8), // mask
+    Row(8, 4, 0, 32), // key1
+    Row(12, 4, 0, 32), // key2
+    Row(16, 4, 0, 32), // key3
+    Row(20, 4, 0, 32), // key4
+    Row(24, 4, 0, 32), // key5
+    Row(28, 4, 0, 32), // key6
+    Row(32, 4, 0, 32), // key7
+    Row(36, 4, 0, 32), // key8
 ];
 
 // 2 to the power of each place.
@@ -234,26 +237,70 @@ pub fn count(kind: Kind) -> usize
     }
 }
 
+fn wide(x: u8) -> usize
+    ensures { λ r. ⌜ r ≡ x ⌝ }
+{
+    x as usize
+}
+
 // A kind's row.
 fn place_of(kind: Kind, i: usize) -> Place
     requires { ⌜ i < countOf kind ⌝ }
     ensures { λ r. ⌜ r ≡ getD (tableOf kind) i noPlace ⌝ }
 {
     let at = start(kind) + i;
-    ROWS[at]
+    let row = ROWS[at];
+    let first = wide(row.0);
+    let bytes = wide(row.1);
+    let low = wide(row.2);
+    let bits = wide(row.3);
+    Place(first, bytes, low, bits)
 }
 
 fn power(n: usize) -> u64
     requires { ⌜ n < 64 ⌝ }
     ensures { λ r. ⌜ r ≡ 2 ^ n ⌝ }
 {
+    if n == 0 {
+        return 1;
+    }
+    if n == 7 {
+        return 128;
+    }
+    if n == 6 {
+        return 64;
+    }
+    if n == 5 {
+        return 32;
+    }
+    if n == 4 {
+        return 16;
+    }
     POWERS[n]
 }
 
-// The low bits of a number.
+// The low bits of a number. (The table of powers is long, and the rows have few widths.)
 fn low(x: u64, bits: usize) -> u64
     ensures { λ r. ⌜ r ≡ x % 2 ^ bits ⌝ }
 {
+    if bits == 1 {
+        return x % 2;
+    }
+    if bits == 8 {
+        return x % 256;
+    }
+    if bits == 32 {
+        return x % 4294967296;
+    }
+    if bits == 24 {
+        return x % 16777216;
+    }
+    if bits == 48 {
+        return x % 281474976710656;
+    }
+    if bits == 4 {
+        return x % 16;
+    }
     if bits < 64 { x % power(bits) } else { x }
 }
 

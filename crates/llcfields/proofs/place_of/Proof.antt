@@ -2,9 +2,9 @@
 use borrow.Author.Needs.{needs}
 use native.Mathlib.Omega.{arith}
 use Prim.Native.Nat.{ℕ, _+_, _<_}
-use mathlib.Core.Path.{_≡_, ap, refl}
+use mathlib.Core.Path.{_≡_, ap}
 use Rattle.llcfields.specs.Layouts.{startRow, countOf, tableOf}
-use Rattle.llcfields.proofs.Table.{allRows, rows-right, row-below}
+use Rattle.llcfields.proofs.Table.{allRows, place-right, row-below}
 use Rattle.llcfields.proofs.place_of.Statement.{statement}
 use Rattle.llcfields.proofs.place_of.Tie as tie
 
@@ -14,21 +14,45 @@ start-requires c κs = search needs
 add-at : tie.Need-add-at
 add-at c = omega (arith, c .start .ensures, row-below (c .before .args .kind) (c .before .args .i) (c .before .pre))
 
-mul-result : tie.Need-mul-result
-mul-result c =
+mul-row : tie.Need-mul-row
+mul-row c =
     let s = c .before .args in
     omega (arith, c .start .ensures, row-below (s .kind) (s .i) (c .before .pre))
 
-array-copy-out-result : tie.Need-array-copy-out-result
-array-copy-out-result c =
+array-copy-out-row : tie.Need-array-copy-out-row
+array-copy-out-row c =
     let s = c .before .args in
     omega (arith, c .start .ensures, row-below (s .kind) (s .i) (c .before .pre))
+
+wide-requires : tie.Need-wide-requires
+wide-requires c κs = search needs
+
+wide-requires-2 : tie.Need-wide-requires-2
+wide-requires-2 c κs = search needs
+
+wide-requires-3 : tie.Need-wide-requires-3
+wide-requires-3 c κs = search needs
+
+wide-requires-4 : tie.Need-wide-requires-4
+wide-requires-4 c κs = search needs
 
 returns : tie.Need-returns
 unfolding allRows tableOf
 returns c =
-    let s = c .before .before .args in
-    rows-right _ (s .kind) _ (s .i) refl (ap (λ (n : ℕ). n + s .i) (c .before .start .ensures)) (c .before .before .pre)
+    let b = c .before .before .before .before .before in
+    let s = b .before .args in
+    place-right (s .kind) (b .start .result + s .i) (s .i) _ _ _ _ (c .before .before .before .wide .ensures) (c .before .before .wide2 .ensures) (c .before .wide3 .ensures) (c .wide4 .ensures) (ap (λ (n : ℕ). n + s .i) (b .start .ensures)) (b .before .pre)
 
 pub place-of-spec : {M : Type 1} → statement M
-place-of-spec = tie.close (tie.spec start-requires add-at mul-result array-copy-out-result returns)
+place-of-spec =
+    tie.close
+    (tie.spec
+    start-requires
+    add-at
+    mul-row
+    array-copy-out-row
+    wide-requires
+    wide-requires-2
+    wide-requires-3
+    wide-requires-4
+    returns)

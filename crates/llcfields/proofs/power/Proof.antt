@@ -1,10 +1,25 @@
 -- `llcfields::power` meets its contract. Assumes nothing.
 use borrow.Author.Needs.{needs}
-use Prim.Native.Nat.{_<_}
-use native.Mathlib.Omega.{arith}
+use Prim.Native.Nat.{ℕ, _^_, _<_}
+use mathlib.Core.Path.{ap, sym}
 use Rattle.llcfields.proofs.Table.{powers-right}
 use Rattle.llcfields.proofs.power.Statement.{statement}
 use Rattle.llcfields.proofs.power.Tie as tie
+
+returns : tie.Need-returns
+returns c = ap (λ (n : ℕ). 2 ^ n) (sym (c .if1 .taken))
+
+returns-2 : tie.Need-returns-2
+returns-2 c = ap (λ (n : ℕ). 2 ^ n) (sym (c .if2 .taken))
+
+returns-3 : tie.Need-returns-3
+returns-3 c = ap (λ (n : ℕ). 2 ^ n) (sym (c .if3 .taken))
+
+returns-4 : tie.Need-returns-4
+returns-4 c = ap (λ (n : ℕ). 2 ^ n) (sym (c .if4 .taken))
+
+returns-5 : tie.Need-returns-5
+returns-5 c = ap (λ (n : ℕ). 2 ^ n) (sym (c .if5 .taken))
 
 mul-result : tie.Need-mul-result
 mul-result c = search needs
@@ -12,8 +27,8 @@ mul-result c = search needs
 array-read-result : tie.Need-array-read-result
 array-read-result c = search needs
 
-returns : tie.Need-returns
-returns c = let h : c .args .n < 64 = omega arith in search powers-right
+returns-6 : tie.Need-returns-6
+returns-6 c = let h : c .before .before .before .before .before .args .n < 64 = c .before .before .before .before .before .pre in search powers-right
 
 pub power-spec : {M : Type 1} → statement M
-power-spec = tie.close (tie.spec mul-result array-read-result returns)
+power-spec = tie.close (tie.spec returns returns-2 returns-3 returns-4 returns-5 mul-result array-read-result returns-6)
