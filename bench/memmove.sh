@@ -4,8 +4,8 @@
 set -eu
 cd "$(dirname "$0")/.."
 mkdir -p target
-rt staticlib element_c >target/bench.log 2>&1 || { cat target/bench.log; exit 1; }
-lib=target/staticlib/libelement_c.a
+rt staticlib bench_element >target/bench.log 2>&1 || { cat target/bench.log; exit 1; }
+lib=target/staticlib/libbench_element.a
 bad=0
 
 has() { # FUNCTION CALLEE COUNT

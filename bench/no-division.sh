@@ -12,8 +12,8 @@ if sed -e 's://.*$::' crates/cursor/src/lib.rt | grep -vE '^ghost |^ *(requires|
     bad=1
 fi
 
-rt staticlib cursor_c >target/bench.log 2>&1 || { cat target/bench.log; exit 1; }
-code=$(objdump -d -j .text.cursor_step target/staticlib/libcursor_c.a)
+rt staticlib bench_cursor >target/bench.log 2>&1 || { cat target/bench.log; exit 1; }
+code=$(objdump -d -j .text.cursor_step target/staticlib/libbench_cursor.a)
 case $code in
 *cursor_step*ret*) ;;
 *)

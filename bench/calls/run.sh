@@ -1,14 +1,14 @@
 #!/bin/sh
 # Times calls over a lent table, and the send of a head and a body. The crates are copied to target/calls, and group_c, beside this script,
-# which calls `group::make` without flat structs, is proved with them and built. Takes some minutes.
+# which calls `group_make::make` without flat structs, is proved with them and built. Takes some minutes.
 # The files of group_c end in .in, since it is no crate that crates.txt lists.
 set -eu
 cd "$(dirname "$0")/../.."
 copy=$PWD/target/calls
-below="cursor cdc llc layout llcfields exchange closing gauge flow element connection outcome produced transmit pieces receive heard hear"
-below="$below finish table slots failover"
-below="$below linkcalls rules sending receiving ending calls opening linkstate management group"
-below="$below gathering"
+below="cursor cdc link_message layout link_exchange closing gauge flow element conn_record conn_answer conn_send conn_gather conn_receive conn_hear"
+below="$below conn_finish group_table link_failover"
+below="$below link_calls group_rules group_calls group_desk group_make"
+below="$below group_gather"
 rm -rf "$copy/crates"
 mkdir -p "$copy"
 cp -r crates tools "$copy/"

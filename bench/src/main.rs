@@ -7,7 +7,7 @@ use std::time::Instant;
 
 /// The library's functions, which ask for nothing: a slice is its pointer and its length.
 mod element {
-    #[link(name = "element_c", kind = "static")]
+    #[link(name = "bench_element", kind = "static")]
     extern "C" {
         fn element_store(mem: *mut u8, len: usize, at: usize, bytes: *const u8, n: usize);
         fn element_read(
@@ -47,7 +47,7 @@ mod cursor {
         pub wrap: u16,
     }
 
-    #[link(name = "cursor_c", kind = "static")]
+    #[link(name = "bench_cursor", kind = "static")]
     extern "C" {
         fn cursor_step(n: u32, offset: u32, wrap: u16, k: u32) -> Cursor;
         fn cursor_step_by_remainder(n: u32, offset: u32, wrap: u16, k: u32) -> Cursor;

@@ -17,7 +17,7 @@
  *
  * When an element may be used again (RFC 7609, 4.4.2). A slot that closed by C sent and C heard, or by A heard, has nothing of its
  * connection under way to it, if the peer keeps the order of writes and messages: that is proved (NothingUnderWay, in
- * crates/only_sent/specs/Reuse.antt), and it may be opened again. A slot closed by fordlinnet_free may be opened again only when no write
+ * crates/thm_sent/specs/Reuse.antt), and it may be opened again. A slot closed by fordlinnet_free may be opened again only when no write
  * of the old connection can arrive: the queue pair is down, or the key was revoked. No call can know that, and none is refused: a write
  * that does arrive is read as the new connection's bytes (bindings/c/reuse.c shows it). fordlinnet_free_when_no_write_can_arrive is free
  * under a name that says what the caller swears.

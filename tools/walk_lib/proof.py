@@ -80,7 +80,7 @@ class Proof:
 
     def declaring(self, crate, kind, name):
         """The module of a crate's specs or proofs that declares a name; `Laws`, if none does yet."""
-        declares = re.compile(rf'^ *(abbrev |unfoldable )?pub {re.escape(name)} :', re.M)
+        declares = re.compile(rf'^ *((abbrev |unfoldable )?pub {re.escape(name)} :|pub record {re.escape(name)} )', re.M)
         for path in sorted(glob.glob(os.path.join(self.root, 'crates', crate, kind, '*.antt'))):
             if declares.search(open(path, encoding='utf-8').read()):
                 return f'{self.module(crate, kind)}.{os.path.basename(path)[:-5]}'

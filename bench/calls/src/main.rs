@@ -1,7 +1,7 @@
-//! Two tables, in nanoseconds. Send, hear and read of 64 bytes through the proved `group::make`, over lent tables of 1, 16 and 255 records.
+//! Two tables, in nanoseconds. Send, hear and read of 64 bytes through the proved `group_make::make`, over lent tables of 1, 16 and 255 records.
 //! The connection stands in the last slot, so that hear's search goes through the whole table. Before each call its record is laid back,
 //! a copy of its 168 bytes, so that every call does the same work; "laid" is the time of that alone. Then the send of a head and a body
-//! through the proved `gathering::gather` and `pieces`, against joining them in a buffer and sending that.
+//! through the proved `group_gather::gather` and `pieces`, against joining them in a buffer and sending that.
 
 use std::hint::black_box;
 use std::time::Instant;

@@ -59,7 +59,7 @@
 //! # When an element may be used again
 //!
 //! A slot that closed by C sent and C heard, or by A heard, has nothing of its connection under way to it, if the peer keeps the order of
-//! writes and messages. That is proved (`NothingUnderWay`, in `crates/only_sent/specs/Reuse.antt`). A slot closed by [`Group::free`] may
+//! writes and messages. That is proved (`NothingUnderWay`, in `crates/thm_sent/specs/Reuse.antt`). A slot closed by [`Group::free`] may
 //! be opened again only when no write of the old connection can arrive: the queue pair is down, or the key was revoked. No call can know
 //! that. A write that does arrive is read as the new connection's bytes, and no call is refused.
 //!

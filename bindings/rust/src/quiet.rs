@@ -11,7 +11,7 @@ use core::fmt;
 /// - by a fresh group, once for each slot ([`Group::never_opened`](crate::Group::never_opened));
 /// - by the call that closes the slot in order: by [`close`](crate::Group::close) where C was heard, and by
 ///   [`hear`](crate::Group::hear) where C was sent, or of A. Then nothing of the connection is under way to the element, if the peer's
-///   writes arrive before the messages that announce them: that is proved (`NothingUnderWay`, in `crates/only_sent/specs/Reuse.antt`);
+///   writes arrive before the messages that announce them: that is proved (`NothingUnderWay`, in `crates/thm_sent/specs/Reuse.antt`);
 /// - by the caller's word, after a [`free`](crate::Group::free) ([`Freed::no_write_can_arrive`]), or of a group over lent parts
 ///   ([`Quiet::no_write_can_arrive`]).
 ///

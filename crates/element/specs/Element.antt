@@ -68,7 +68,7 @@ abbrev pub inData : ℕ → ℕ → ℕ → Bool
 inData n x k = leb 4 x && leb (x + k) n
 
 -- then they are stored and nothing else. What `element::store` does for all inputs: bytes that lie in the memory, and are no more than the
--- largest D, are stored; elsewhere the memory stays. Place's rule is `mayPlace` of crate receive, and a splice of the element
+-- largest D, are stored; elsewhere the memory stays. Place's rule is `mayPlace` of crate conn_receive, and a splice of the element
 abbrev pub stores : List ℕ → ℕ → List ℕ → Bool
 stores m at b = leb (length b) 65536 && within m at (length b)
 

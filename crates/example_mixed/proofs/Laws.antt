@@ -3,25 +3,25 @@ use Prim.Native.Nat.{ℕ}
 use mathlib.Core.Path.{_≡_, refl, sym, subst}
 use mathlib.Core.List.{List, []}
 use lib.ListN.{replicate}
-use Rattle.connection.specs.declared.Record.{Record}
-use Rattle.table.specs.declared.Links.{Links}
-use Rattle.table.specs.declared.Answered.{Answered}
-use Rattle.rules.specs.Rules.{on, send, manage, linkMessage, Did, groupOf, answerOf, answer}
-use Rattle.direct.specs.declared.LinkStates.{LinkStates}
-use Rattle.transmitting.specs.declared.SendAnswer.{SendAnswer}
-use Rattle.direct_made.specs.DirectMade.{InEveryGroup}
-use Rattle.direct_send.specs.DirectSend.{SendMade}
-use Rattle.gathering.specs.declared.Gathered.{Gathered}
-use Rattle.gathering.specs.Gathering.{DidGather}
-use Rattle.linkdesk.specs.declared.LinkCommand.{LinkCommand}
-use Rattle.linkdesk.specs.declared.LinkCommand.the-variants.{Message}
-use Rattle.linkdesk.specs.declared.LinkDone.{LinkDone}
-use Rattle.linkdesk.specs.declared.Values.{Values}
-use Rattle.linkdesk.specs.LinkDesk.{answerIn}
-use Rattle.linkdesk.specs.LinkDesk as LinkDesk
-use Rattle.group.specs.declared.Command.{Command}
-use Rattle.group.specs.Group.{callOf, outLeft, OutKept}
-use Rattle.order.specs.Statement.{none-made, one-made}
+use Rattle.conn_record.specs.declared.Record.{Record}
+use Rattle.group_table.specs.declared.Links.{Links}
+use Rattle.group_table.specs.declared.Answered.{Answered}
+use Rattle.group_rules.specs.Rules.{on, send, manage, linkMessage, Did, groupOf, answerOf, answer}
+use Rattle.plan.specs.declared.LinkStates.{LinkStates}
+use Rattle.plan_send.specs.declared.SendAnswer.{SendAnswer}
+use Rattle.plan.specs.DirectMade.{InEveryGroup}
+use Rattle.c_send.specs.DirectSend.{SendMade}
+use Rattle.group_gather.specs.declared.Gathered.{Gathered}
+use Rattle.group_gather.specs.Gathering.{DidGather}
+use Rattle.group_link.specs.declared.LinkCommand.{LinkCommand}
+use Rattle.group_link.specs.declared.LinkCommand.the-variants.{Message}
+use Rattle.group_link.specs.declared.LinkDone.{LinkDone}
+use Rattle.group_link.specs.declared.Values.{Values}
+use Rattle.group_link.specs.LinkDesk.{answerIn}
+use Rattle.group_link.specs.LinkDesk as LinkDesk
+use Rattle.group_make.specs.declared.Command.{Command}
+use Rattle.group_make.specs.Group.{callOf, outLeft, OutKept}
+use Rattle.thm_order.specs.Statement.{none-made, one-made}
 use Rattle.example_mixed.specs.declared.Four.{Four}
 use Rattle.example_mixed.specs.Mixed.{LeftDid, DirectDid, fourOf, MadeFour}
 

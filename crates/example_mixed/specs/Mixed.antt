@@ -3,22 +3,22 @@ use Prim.Native.Nat.{ℕ}
 use mathlib.Core.Path.{_≡_}
 use mathlib.Core.Bool.{cond}
 use mathlib.Core.List.{List, [], _∷_}
-use Rattle.table.specs.declared.Answered.{Answered}
-use Rattle.rules.specs.Rules.{Group, Call, on, send, gather, manage, linkMessage, Answer, answer, next, Did, answerOf}
-use Rattle.direct_made.specs.DirectMade as Direct
-use Rattle.transmitting.specs.declared.SendAnswer.{SendAnswer}
-use Rattle.direct_send.specs.DirectSend.{sendAnswerOf}
-use Rattle.gathering.specs.declared.Gathered.{Gathered}
-use Rattle.gathering.specs.Gathering.{gatherAnswer}
-use Rattle.linkdesk.specs.declared.LinkCommand.the-variants.{Message}
-use Rattle.linkdesk.specs.declared.LinkDone.{LinkDone}
-use Rattle.linkdesk.specs.LinkDesk.{answerIn}
-use Rattle.group.specs.declared.Command.{Command}
-use Rattle.group.specs.Group.{callOf, outLeft, OutKept}
-use Rattle.order.specs.Statement.{Made}
+use Rattle.group_table.specs.declared.Answered.{Answered}
+use Rattle.group_rules.specs.Rules.{Group, Call, on, send, gather, manage, linkMessage, Answer, answer, next, Did, answerOf}
+use Rattle.plan.specs.DirectMade as Direct
+use Rattle.plan_send.specs.declared.SendAnswer.{SendAnswer}
+use Rattle.c_send.specs.DirectSend.{sendAnswerOf}
+use Rattle.group_gather.specs.declared.Gathered.{Gathered}
+use Rattle.group_gather.specs.Gathering.{gatherAnswer}
+use Rattle.group_link.specs.declared.LinkCommand.the-variants.{Message}
+use Rattle.group_link.specs.declared.LinkDone.{LinkDone}
+use Rattle.group_link.specs.LinkDesk.{answerIn}
+use Rattle.group_make.specs.declared.Command.{Command}
+use Rattle.group_make.specs.Group.{callOf, outLeft, OutKept}
+use Rattle.thm_order.specs.Statement.{Made}
 use Rattle.example_mixed.specs.declared.Four.{Four}
 
--- FROM A CONTRACT TO `Did`. `group::make` and, of link changes, messages and sends, `linkdesk::make` promise it as it is; a gather's
+-- FROM A CONTRACT TO `Did`. `group_make::make` and, of link changes, messages and sends, `group_link::make` promise it as it is; a gather's
 -- promise has it as a field. Where a promise says that what the rules leave is left, it follows, with the rules' answer. The flat forms'
 -- say so (`CallMade` and `LinkMade`, of a number that is known, and `GatherMade`)
 abbrev pub LeftDid : Type 0

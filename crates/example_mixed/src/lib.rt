@@ -2,20 +2,20 @@
 // table, the links and the memory as the last one left them, so they are a list of calls made (demand 3).
 ghost use mathlib.Core.Path.{_≡_};
 ghost use lib.ListN.{replicate};
-ghost use Rattle.linkdesk.specs.declared.LinkCommand.the-variants.{Message};
-ghost use Rattle.linkdesk.specs.LinkDesk.{answerIn};
-ghost use Rattle.rules.specs.Rules.{Did, groupOf, linkMessage, manage};
+ghost use Rattle.group_link.specs.declared.LinkCommand.the-variants.{Message};
+ghost use Rattle.group_link.specs.LinkDesk.{answerIn};
+ghost use Rattle.group_rules.specs.Rules.{Did, groupOf, linkMessage, manage};
 ghost use Rattle.example_mixed.specs.Mixed.{fourOf, MadeFour};
-use connection::Record;
-use direct::LinkStates;
-use gathering::Gathered;
-use group::Command;
-use linkdesk::LinkCommand;
-use linkdesk::LinkDone;
-use linkdesk::Values;
-use table::Answered;
-use table::Links;
-use transmitting::SendAnswer;
+use conn_record::Record;
+use group_gather::Gathered;
+use group_link::LinkCommand;
+use group_link::LinkDone;
+use group_link::Values;
+use group_make::Command;
+use group_table::Answered;
+use group_table::Links;
+use plan::LinkStates;
+use plan_send::SendAnswer;
 
 // What the four calls answered.
 pub struct Four {
@@ -72,7 +72,7 @@ fn hear_link(
 {
     let command = message_on(link);
     let none = no_values();
-    linkdesk::make(s, n, mem, table, links, command, told, none, buffer)
+    group_link::make(s, n, mem, table, links, command, told, none, buffer)
 }
 
 fn after_message(d: LinkDone) -> Links
@@ -122,11 +122,11 @@ pub fn make_four(
         (groupOf s n (now (table .exit)) (r .made .links) (now (mem .exit))) ⌝ }
 {
     let states = states_of(links);
-    let sent = direct_send::fordlinnet_make_send(s, n, mem, table, states, slot, bytes, message);
-    let gathered = gathering::gather(s, n, mem, table, links, other, head, body);
+    let sent = c_send::fordlinnet_make_send(s, n, mem, table, states, slot, bytes, message);
+    let gathered = group_gather::gather(s, n, mem, table, links, other, head, body);
     let second = after_gather(gathered);
     let heard = hear_link(s, n, mem, table, second, link, told, buffer);
     let third = after_message(heard);
-    let made = group::make(s, n, mem, table, third, command, lent, out);
+    let made = group_make::make(s, n, mem, table, third, command, lent, out);
     all(sent, gathered, heard, made)
 }

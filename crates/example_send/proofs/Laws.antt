@@ -2,15 +2,15 @@
 use Prim.Native.Nat.{ℕ}
 use mathlib.Core.Path.{_≡_, sym, subst}
 use mathlib.Core.List.{List, []}
-use Rattle.connection.specs.declared.Record.{Record}
-use Rattle.table.specs.declared.Links.{Links}
-use Rattle.table.specs.declared.Answered.{Answered}
-use Rattle.calls.specs.declared.Request.the-variants.{Send, Shutdown}
-use Rattle.rules.specs.Rules.{Did, on, send, shutdown, groupOf, answerOf}
-use Rattle.group.specs.declared.Command.{Command}
-use Rattle.group.specs.declared.Command.the-variants.{On}
-use Rattle.group.specs.Group.{callOf, outLeft, OutKept}
-use Rattle.order.specs.Statement.{none-made, one-made}
+use Rattle.conn_record.specs.declared.Record.{Record}
+use Rattle.group_table.specs.declared.Links.{Links}
+use Rattle.group_table.specs.declared.Answered.{Answered}
+use Rattle.group_calls.specs.declared.Request.the-variants.{Send, Shutdown}
+use Rattle.group_rules.specs.Rules.{Did, on, send, shutdown, groupOf, answerOf}
+use Rattle.group_make.specs.declared.Command.{Command}
+use Rattle.group_make.specs.declared.Command.the-variants.{On}
+use Rattle.group_make.specs.Group.{callOf, outLeft, OutKept}
+use Rattle.thm_order.specs.Statement.{none-made, one-made}
 use Rattle.example_send.specs.declared.Said.{Said}
 use Rattle.example_send.specs.Example.{LastWords, saidOf}
 

@@ -1,15 +1,15 @@
 // A caller of the core: it sends its last bytes and says that it is done. The table is lent to both calls, and the links that the first one
 // leaves go into the second.
 ghost use mathlib.Core.Path.{_≡_};
-ghost use Rattle.calls.specs.declared.Request.the-variants.{Send, Shutdown};
-ghost use Rattle.group.specs.declared.Command.the-variants.{On};
-ghost use Rattle.rules.specs.Rules.{groupOf};
+ghost use Rattle.group_calls.specs.declared.Request.the-variants.{Send, Shutdown};
+ghost use Rattle.group_make.specs.declared.Command.the-variants.{On};
+ghost use Rattle.group_rules.specs.Rules.{groupOf};
 ghost use Rattle.example_send.specs.Example.{LastWords, saidOf};
-use calls::Request;
-use connection::Record;
-use group::Command;
-use table::Answered;
-use table::Links;
+use conn_record::Record;
+use group_calls::Request;
+use group_make::Command;
+use group_table::Answered;
+use group_table::Links;
 
 pub struct Said {
     sent: Answered,
@@ -58,8 +58,8 @@ pub fn last_words(
         ⌜ LastWords (groupOf s n (now (table .entry)) links (now (mem .entry))) slot (now (bytes .entry)) r
         (now (table .exit)) (now (mem .exit)) ⌝ }
 {
-    let sent = group::make(s, n, mem, table, links, send_on(slot), bytes, out);
+    let sent = group_make::make(s, n, mem, table, links, send_on(slot), bytes, out);
     let left = links_after(sent);
-    let done = group::make(s, n, mem, table, left, shutdown_on(slot), bytes, out);
+    let done = group_make::make(s, n, mem, table, left, shutdown_on(slot), bytes, out);
     both(sent, done)
 }

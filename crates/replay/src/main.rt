@@ -1,31 +1,31 @@
 // Replays calls on one group: reads a call from each line of the standard input, makes it, and prints its answer. What a line may be and
 // what is printed is fixed by the replay format; what a call answers is the group's alone. Lines are parsed by `lines`, calls made by
-// `replay_calls`, and `replay_state` has the group and the lines that are no calls; answers are printed by `answers`, all over the streams
-// of `stream`; a record's numbers are read and printed by `records`, a gauge's by `gauge_text`, lines on links by `link_read` and
-// `link_text`. On the standard error it says why a line is bad and, started with words or where the input cannot be read, how it is used:
+// `text_replay`, and `text_state` has the group and the lines that are no calls; answers are printed by `answers`, all over the streams
+// of `stream`; a record's numbers are read and printed by `records`, a gauge's by `text_gauge`, lines on links by `text_link_read` and
+// `text_link`. On the standard error it says why a line is bad and, started with words or where the input cannot be read, how it is used:
 // a Rattle program has no exit status (`examples/replay` gives one).
 //
 // Six buffers are lent throughout: `mem` the receive memory, `given` the bytes of a line, `body` the second bytes of a line, `out` the
 // buffer of a read and of the calls on links, `buf` the input and `o` the output.
 use libc::STDERR_FILENO;
-use lines::Line;
-use replay_state::World;
-use stream::input;
-use stream::output;
+use text_lines::Line;
+use text_state::World;
+use text_stream::input;
+use text_stream::output;
 
 // The lines that are no calls of the group.
 fn aside(mem: &mut [u8], given: &[u8], o: &mut [u8; 65536], w: World, line: Line) -> World {
     match line {
-        Line::Group(s, n, len, count) => replay_calls::start_over(mem, o, w, s, n, len, count),
-        Line::Record(slot, c) => replay_state::lay_record(o, w, slot, c),
-        Line::Poke(at, count) => replay_state::poke(mem, given, o, w, at, count),
-        Line::Table => replay_state::table(o, w),
-        Line::Memory(at, count) => replay_state::memory(mem, o, w, at, count),
-        Line::Health(link) => replay_state::health(o, w, link),
-        Line::Gauge(link, g) => replay_state::lay_gauge(o, w, link, g),
-        Line::Pool(p) => replay_calls::pool_line(given, o, w, p),
+        Line::Group(s, n, len, count) => text_replay::start_over(mem, o, w, s, n, len, count),
+        Line::Record(slot, c) => text_state::lay_record(o, w, slot, c),
+        Line::Poke(at, count) => text_state::poke(mem, given, o, w, at, count),
+        Line::Table => text_state::table(o, w),
+        Line::Memory(at, count) => text_state::memory(mem, o, w, at, count),
+        Line::Health(link) => text_state::health(o, w, link),
+        Line::Gauge(link, g) => text_state::lay_gauge(o, w, link, g),
+        Line::Pool(p) => text_replay::pool_line(given, o, w, p),
         Line::Skipped => w,
-        _ => replay_state::bad(o, w),
+        _ => text_state::bad(o, w),
     }
 }
 
@@ -39,7 +39,7 @@ fn act<'a>(
     line: Line,
 ) -> World {
     match line {
-        Line::Call(command, count, room) => replay_calls::lent(
+        Line::Call(command, count, room) => text_replay::lent(
             mem,
             given,
             out,
@@ -49,9 +49,9 @@ fn act<'a>(
             count,
             room,
         ),
-        Line::Gather(slot, h, b) => replay_calls::gather_line(mem, given, body, o, w, slot, h, b),
-        Line::Setup(l) => replay_calls::setup_line(given, out, o, w, l),
-        Line::LinkCall(command, count, room) => replay_calls::link_lent(
+        Line::Gather(slot, h, b) => text_replay::gather_line(mem, given, body, o, w, slot, h, b),
+        Line::Setup(l) => text_replay::setup_line(given, out, o, w, l),
+        Line::LinkCall(command, count, room) => text_replay::link_lent(
             mem,
             given,
             out,
@@ -61,7 +61,7 @@ fn act<'a>(
             count,
             room,
         ),
-        Line::Link(l) => replay_calls::link_line(given, o, w, l),
+        Line::Link(l) => text_replay::link_line(given, o, w, l),
         _ => aside(mem, given, o, w, line),
     }
 }
@@ -117,17 +117,17 @@ fn other_reason(why: u8) {
     if why == input::UNREAD {
         say(b"it could not be read to its end");
     }
-    if why == lines::SLOT {
+    if why == text_lines::SLOT {
         say(b"the table has no such slot");
     }
-    if why == lines::MEMORY {
+    if why == text_lines::MEMORY {
         say(b"bytes outside of the memory");
     }
 }
 
 // On the standard error: a bad line's number, and why it is bad.
 fn complain(line: Line, number: u64, count: usize, len: usize) {
-    let why = lines::why(line, count, len);
+    let why = text_lines::why(line, count, len);
     if why != input::FINE {
         say(b"line ");
         io::print_decimal(STDERR_FILENO, number);
@@ -164,11 +164,11 @@ fn run(
     buf: &mut [u8; 65536],
     o: &mut [u8; 65536],
 ) {
-    let mut w = replay_calls::first();
+    let mut w = text_replay::first();
     let mut number: u64 = 0;
     let mut scan = input::begin(buf);
     while 0 < scan.left {
-        let p = lines::parse(buf, given, body, scan);
+        let p = text_lines::parse(buf, given, body, scan);
         let line = p.line;
         scan = p.scan;
         number = next_number(number);

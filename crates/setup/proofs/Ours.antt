@@ -12,18 +12,18 @@ use borrow.Author.Tests.{le-leb, lt-ltb, leb-true}
 use Rattle.layout.specs.Layout.{writtenOf}
 use Rattle.layout.proofs.Bits.{and-left, gather-length}
 use Rattle.layout.proofs.Places.{zeros-bytes}
-use Rattle.clc.specs.declared.Kind.{Kind}
-use Rattle.clc.specs.declared.Kind.the-variants.{Nothing, Accept, Confirm}
-use Rattle.clc.specs.declared.Message.{Message}
-use Rattle.clc.specs.Codes.{codeOf, noCode}
-use Rattle.clc.specs.Clc.{typeOf, table, chosen, restored, values, messageOf, linesOf, chosenOf, sizeOf, fitsOf, encodeOf, writesB}
-use Rattle.clc.specs.Clc.{writtenCount, writtenOver, messageB, kindIn, messageIn, readOf, tidyOf}
-use Rattle.clc.specs.Places.{zeros}
-use Rattle.clc.proofs.Codes.{code-most}
-use Rattle.clc.proofs.Messages.{kind-none}
-use Rattle.clcwrite.proofs.Known as K
-use Rattle.clcwrite.proofs.Fits.{endpointFits, proposal-fit, decline-fit, endpoint-fit}
-use Rattle.clcwrite.proofs.RoundTrip.{reads-back}
+use Rattle.setup_read.specs.declared.Kind.{Kind}
+use Rattle.setup_read.specs.declared.Kind.the-variants.{Nothing, Accept, Confirm}
+use Rattle.setup_read.specs.declared.Message.{Message}
+use Rattle.setup_read.specs.Codes.{codeOf, noCode}
+use Rattle.setup_read.specs.Clc.{typeOf, table, chosen, restored, values, messageOf, linesOf, chosenOf, sizeOf, fitsOf, encodeOf, writesB}
+use Rattle.setup_read.specs.Clc.{writtenCount, writtenOver, messageB, kindIn, messageIn, readOf, tidyOf}
+use Rattle.setup_read.specs.Places.{zeros}
+use Rattle.setup_read.proofs.Codes.{code-most}
+use Rattle.setup_read.proofs.Messages.{kind-none}
+use Rattle.setup_write.proofs.Known as K
+use Rattle.setup_write.proofs.Fits.{endpointFits, proposal-fit, decline-fit, endpoint-fit}
+use Rattle.setup_write.proofs.RoundTrip.{reads-back}
 use Rattle.setup.specs.declared.Settings.{Settings}
 use Rattle.setup.specs.declared.Outcome.{Outcome}
 use Rattle.setup.specs.Setup.{ourProposal, ours, ourAccept, ourConfirm, ourDecline, saying}

@@ -11,15 +11,15 @@ use lib.Dec.{eqb, leb}
 use Rattle.layout.specs.Layout.{numberAt}
 use borrow.Author.Tests.{ne-eqb, le-leb, leb-true, leb-false, eqb-true, eqb-false}
 use Rattle.layout.proofs.Bits.{and-left, and-right}
-use Rattle.clc.specs.declared.Kind.{Kind}
-use Rattle.clc.specs.declared.Kind.the-variants.{Nothing, Proposal, Accept, Confirm, Decline}
-use Rattle.clc.specs.declared.Message.{Message}
-use Rattle.clc.specs.Codes.{bytesOfCode, codeOf, noCode}
-use Rattle.clc.specs.Clc.{typeOf, beginsB, messageB, kindOf, kindIn, messageOf, messageIn, readOf, tidyOf}
-use Rattle.clc.specs.Places.{declineAt, endpointAt}
-use Rattle.clc.proofs.Codes.{code-most, size-back, small}
-use Rattle.clc.proofs.Messages.{is-message, endpoint-size, kind-in, kind-none, read-kind, decline-of}
-use Rattle.clc.proofs.Reading.{accept-read, confirm-read}
+use Rattle.setup_read.specs.declared.Kind.{Kind}
+use Rattle.setup_read.specs.declared.Kind.the-variants.{Nothing, Proposal, Accept, Confirm, Decline}
+use Rattle.setup_read.specs.declared.Message.{Message}
+use Rattle.setup_read.specs.Codes.{bytesOfCode, codeOf, noCode}
+use Rattle.setup_read.specs.Clc.{typeOf, beginsB, messageB, kindOf, kindIn, messageOf, messageIn, readOf, tidyOf}
+use Rattle.setup_read.specs.Places.{declineAt, endpointAt}
+use Rattle.setup_read.proofs.Codes.{code-most, size-back, small}
+use Rattle.setup_read.proofs.Messages.{is-message, endpoint-size, kind-in, kind-none, read-kind, decline-of}
+use Rattle.setup_read.proofs.Reading.{accept-read, confirm-read}
 use Rattle.setup.specs.declared.Settings.{Settings}
 use Rattle.setup.specs.declared.Due.{Due}
 use Rattle.setup.specs.declared.Arguments.{Arguments}

@@ -4,12 +4,12 @@ use Prim.Native.Nat.{ℕ, _%_, min}
 use mathlib.Core.Bool.{Bool, false, _&&_, cond}
 use mathlib.Core.List.{List}
 use lib.Dec.{leb, eqb}
-use Rattle.clc.specs.declared.Kind.{Kind}
-use Rattle.clc.specs.declared.Kind.the-variants.{Nothing, Proposal, Accept, Confirm, Decline}
-use Rattle.clc.specs.declared.Message.{Message}
-use Rattle.clc.specs.Codes.{bytesOfCode, codeOf, noCode}
-use Rattle.clc.specs.Clc.{typeOf, readOf, writtenCount, writtenOver}
-use Rattle.clc.specs.Places.{zeros}
+use Rattle.setup_read.specs.declared.Kind.{Kind}
+use Rattle.setup_read.specs.declared.Kind.the-variants.{Nothing, Proposal, Accept, Confirm, Decline}
+use Rattle.setup_read.specs.declared.Message.{Message}
+use Rattle.setup_read.specs.Codes.{bytesOfCode, codeOf, noCode}
+use Rattle.setup_read.specs.Clc.{typeOf, readOf, writtenCount, writtenOver}
+use Rattle.setup_read.specs.Places.{zeros}
 use Rattle.setup.specs.declared.Settings.{Settings}
 use Rattle.setup.specs.declared.Due.{Due}
 use Rattle.setup.specs.declared.Arguments.{Arguments}

@@ -8,11 +8,11 @@ use mathlib.Core.List.{List}
 use lib.ListN.{length, take, drop}
 use lib.Dec.{eqb}
 use Rattle.layout.specs.Layout.{areBytes, numberAt}
-use Rattle.clc.specs.declared.Kind.the-variants.{Proposal, Accept, Confirm, Decline}
-use Rattle.clc.specs.declared.Message.{Message}
-use Rattle.clc.specs.Codes.{codeOf, noCode}
-use Rattle.clc.specs.Clc.{encodeOf, messageB, kindIn, readOf, tidyOf}
-use Rattle.clc.specs.Places.{zeros}
+use Rattle.setup_read.specs.declared.Kind.the-variants.{Proposal, Accept, Confirm, Decline}
+use Rattle.setup_read.specs.declared.Message.{Message}
+use Rattle.setup_read.specs.Codes.{codeOf, noCode}
+use Rattle.setup_read.specs.Clc.{encodeOf, messageB, kindIn, readOf, tidyOf}
+use Rattle.setup_read.specs.Places.{zeros}
 use Rattle.setup.specs.declared.Settings.{Settings}
 use Rattle.setup.specs.declared.Due.{Due}
 use Rattle.setup.specs.declared.Arguments.{Arguments}

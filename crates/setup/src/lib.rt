@@ -3,11 +3,11 @@ ghost use mathlib.Core.Path.{_≡_};
 ghost use mathlib.Core.Bool.{cond};
 ghost use Prim.Native.Nat.{min};
 ghost use lib.Dec.{eqb};
-ghost use Rattle.clc.specs.Places.{zeros};
+ghost use Rattle.setup_read.specs.Places.{zeros};
 ghost use Rattle.setup.specs.Setup.{dueType, ourProposal, ours, ourDecline, argumentsOf, silent, saying, sending};
 ghost use Rattle.setup.specs.Setup.{takenB, answeredOf, heardOf, setupOf};
-use clc::Kind;
-use clc::Message;
+use setup_read::Kind;
+use setup_read::Message;
 
 #[repr(C)]
 pub struct Settings {
@@ -114,7 +114,7 @@ fn say(m: Message, outcome: Outcome) -> Answer
     ensures { λ r. ⌜ r ≡ saying m outcome ⌝ }
 {
     let mut bytes = [0u8; 188];
-    let n = clcwrite::write(m, &mut bytes);
+    let n = setup_write::write(m, &mut bytes);
     Answer {
         outcome: outcome,
         count: n,
@@ -186,7 +186,7 @@ fn endpoint(s: Settings, kind: Kind, first: bool) -> Message
     let peer = s.peer;
     let gid = s.gid;
     let mac = s.mac;
-    let code = clc::code_of(s.size);
+    let code = setup_read::code_of(s.size);
     Message {
         kind: kind,
         version: 1,
@@ -256,7 +256,7 @@ fn base_at(here: bool, heard: u64, other: u64) -> u64
 fn arguments_of(s: Settings, m: Message) -> Arguments
     ensures { λ r. ⌜ r ≡ argumentsOf s m ⌝ }
 {
-    let size = clc::size_of(m.code);
+    let size = setup_read::size_of(m.code);
     let key1 = key_at(s.link == 1, m.key, s.key1);
     let base1 = base_at(s.link == 1, m.base, s.base1);
     let key2 = key_at(s.link == 2, m.key, s.key2);
@@ -287,7 +287,7 @@ fn arguments_of(s: Settings, m: Message) -> Arguments
 fn taken(code: u8) -> bool
     ensures { λ r. ⌜ r ≡ takenB code ⌝ }
 {
-    let n = clc::size_of(code);
+    let n = setup_read::size_of(code);
     (1 <= n) & (n <= 65540)
 }
 
@@ -327,7 +327,7 @@ fn heard(s: Settings, due: u8, m: Message) -> Answer
     ensures { λ r. ⌜ r ≡ heardOf s due m ⌝ }
 {
     let k = m.kind;
-    let kind = clc::type_of(k);
+    let kind = setup_read::type_of(k);
     if kind == 0 {
         return quiet(Outcome::Refused(2));
     }
@@ -345,7 +345,7 @@ fn heard(s: Settings, due: u8, m: Message) -> Answer
 pub fn setup(s: Settings, due: Due, bytes: &[u8]) -> Answer
     ensures { λ r. ⌜ r ≡ setupOf s due (now (bytes .entry)) ⌝ }
 {
-    if clc::code_of(s.size) == 16 {
+    if setup_read::code_of(s.size) == 16 {
         return quiet(Outcome::Refused(1));
     }
     let kind = due_type(due);
@@ -353,5 +353,5 @@ pub fn setup(s: Settings, due: Due, bytes: &[u8]) -> Answer
         let plain = Outcome::Answered(Opening::NoOpen, Diagnosis::NoDiagnosis);
         return send(Kind::Proposal, s, plain);
     }
-    heard(s, kind, clc::read(bytes))
+    heard(s, kind, setup_read::read(bytes))
 }

@@ -1,6 +1,6 @@
 //! The books of one connection (2026-14, part 1): what is under way to each end, which byte a placing put where, the bytes taken and the
 //! bytes read. Of each call the premises are asked before, and the claims checked after. The names are those of
-//! `crates/only_sent/specs`.
+//! `crates/thm_sent/specs`.
 
 use crate::call::{other, Answer, Call, How, SIDES};
 use crate::plain::{carries, in_order, Mark, Plain};

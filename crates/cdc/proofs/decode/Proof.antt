@@ -9,24 +9,15 @@ returns : tie.Need-returns
 unfolding decodeOf
 returns c = simp (ne-eqb _ _ (c .if1 .taken))
 
-shared-slice-read-if2 : tie.Need-shared-slice-read-if2
-shared-slice-read-if2 c = search needs
-
 returns-2 : tie.Need-returns-2
 unfolding decodeOf
 returns-2 c = simp (eq-eqb _ _ (c .before .before .if1 .left), ne-eqb _ _ (c .if2 .taken))
-
-shared-slice-read-if3 : tie.Need-shared-slice-read-if3
-shared-slice-read-if3 c = search needs
 
 returns-3 : tie.Need-returns-3
 unfolding decodeOf
 returns-3 c =
     let b = c .before .before in
     simp (eq-eqb _ _ (b .before .before .if1 .left), eq-eqb _ _ (b .if2 .left), ne-eqb _ _ (c .if3 .taken))
-
-fields-requires : tie.Need-fields-requires
-fields-requires c κs = search needs
 
 returns-4 : tie.Need-returns-4
 unfolding decodeOf
@@ -39,9 +30,9 @@ decode-spec =
     tie.close
     (tie.spec
     returns
-    shared-slice-read-if2
+    (λ c. search needs)
     returns-2
-    shared-slice-read-if3
+    (λ c. search needs)
     returns-3
-    fields-requires
+    (λ c κs. search needs)
     returns-4)

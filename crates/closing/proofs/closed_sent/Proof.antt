@@ -6,9 +6,6 @@ use Rattle.closing.specs.Closing.{closedSent}
 use Rattle.closing.proofs.closed_sent.Statement.{statement}
 use Rattle.closing.proofs.closed_sent.Tie as tie
 
-ours-first-requires : tie.Need-ours-first-requires
-ours-first-requires c κs = search needs
-
 returns : tie.Need-returns
 unfolding closedSent
 returns c =
@@ -17,4 +14,4 @@ returns c =
     record { sent = record { done = m .sent .done; closed = true }; heard = m .heard; first = c .before .ours-first .ensures i; abort = m .abort }
 
 pub closed-sent-spec : {M : Type 1} → statement M
-closed-sent-spec = tie.close (tie.spec ours-first-requires returns)
+closed-sent-spec = tie.close (tie.spec (λ c κs. search needs) returns)

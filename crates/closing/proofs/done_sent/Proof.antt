@@ -6,9 +6,6 @@ use Rattle.closing.specs.Closing.{doneSent}
 use Rattle.closing.proofs.done_sent.Statement.{statement}
 use Rattle.closing.proofs.done_sent.Tie as tie
 
-ours-first-requires : tie.Need-ours-first-requires
-ours-first-requires c κs = search needs
-
 returns : tie.Need-returns
 unfolding doneSent
 returns c =
@@ -17,4 +14,4 @@ returns c =
     record { sent = record { done = true; closed = m .sent .closed }; heard = m .heard; first = c .before .ours-first .ensures i; abort = m .abort }
 
 pub done-sent-spec : {M : Type 1} → statement M
-done-sent-spec = tie.close (tie.spec ours-first-requires returns)
+done-sent-spec = tie.close (tie.spec (λ c κs. search needs) returns)

@@ -6,15 +6,9 @@ use Rattle.closing.proofs.Table.{table-right}
 use Rattle.closing.proofs.number.Statement.{statement}
 use Rattle.closing.proofs.number.Tie as tie
 
-packed-requires : tie.Need-packed-requires
-packed-requires c κs = search needs
-
-array-read-result : tie.Need-array-read-result
-array-read-result c = search needs
-
 returns : tie.Need-returns
 unfolding closeStateOf packedOf
 returns c = search table-right
 
 pub number-spec : {M : Type 1} → statement M
-number-spec = tie.close (tie.spec packed-requires array-read-result returns)
+number-spec = tie.close (tie.spec (λ c κs. search needs) (λ c. search needs) returns)

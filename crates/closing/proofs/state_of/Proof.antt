@@ -7,12 +7,6 @@ use Rattle.closing.proofs.Laws.{state-back, state-aborted, state-unabor
 use Rattle.closing.proofs.state_of.Statement.{statement}
 use Rattle.closing.proofs.state_of.Tie as tie
 
-number-requires : tie.Need-number-requires
-number-requires c κs = search needs
-
-named-requires : tie.Need-named-requires
-named-requires c κs = search needs
-
 returns : tie.Need-returns
 returns c = sym (state-aborted _ (c .if1 .taken))
 
@@ -22,4 +16,4 @@ returns-2 c =
     ∙ sym (state-unaborted _ (c .before .before .if1 .left))
 
 pub state-of-spec : {M : Type 1} → statement M
-state-of-spec = tie.close (tie.spec number-requires named-requires returns returns-2)
+state-of-spec = tie.close (tie.spec (λ c κs. search needs) (λ c κs. search needs) returns returns-2)

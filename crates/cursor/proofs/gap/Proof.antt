@@ -5,12 +5,6 @@ use Rattle.cursor.proofs.Laws.{gap-is}
 use Rattle.cursor.proofs.gap.Statement.{statement}
 use Rattle.cursor.proofs.gap.Tie as tie
 
-lead-requires : tie.Need-lead-requires
-lead-requires c κs = search needs
-
-cast-low : tie.Need-cast-low
-cast-low c = search needs
-
 returns : tie.Need-returns
 returns c =
     let b = c .before .before .before .args in
@@ -24,4 +18,4 @@ returns-2 c =
     (omega arith, omega arith)
 
 pub gap-spec : {M : Type 1} → statement M
-gap-spec = tie.close (tie.spec lead-requires cast-low returns returns-2)
+gap-spec = tie.close (tie.spec (λ c κs. search needs) (λ c. search needs) returns returns-2)

@@ -6,17 +6,8 @@ use Rattle.cursor.specs.Cursor.{leadOf}
 use Rattle.cursor.proofs.lead.Statement.{statement}
 use Rattle.cursor.proofs.lead.Tie as tie
 
-turns-requires : tie.Need-turns-requires
-turns-requires c κs = search needs
-
-cast-result : tie.Need-cast-result
-cast-result c = search needs
-
 mul-result : tie.Need-mul-result
 mul-result c = omega (arith, mul-le-mul-right {m = c .turns .result} {n = 65535} (c .before .args .d) (omega arith))
-
-cast-result-2 : tie.Need-cast-result-2
-cast-result-2 c = search needs
 
 add-result : tie.Need-add-result
 add-result c =
@@ -30,4 +21,4 @@ returns c =
 
 pub lead-spec : {M : Type 1} → statement M
 lead-spec =
-    tie.close (tie.spec turns-requires cast-result mul-result cast-result-2 add-result returns)
+    tie.close (tie.spec (λ c κs. search needs) (λ c. search needs) mul-result (λ c. search needs) add-result returns)

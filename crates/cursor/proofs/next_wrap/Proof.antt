@@ -4,9 +4,6 @@ use borrow.Author.Needs.{needs}
 use Rattle.cursor.proofs.next_wrap.Statement.{statement}
 use Rattle.cursor.proofs.next_wrap.Tie as tie
 
-add-result : tie.Need-add-result
-add-result c = search needs
-
 returns : tie.Need-returns
 returns c = omega arith
 
@@ -14,4 +11,4 @@ returns-2 : tie.Need-returns-2
 returns-2 c = omega arith
 
 pub next-wrap-spec : {M : Type 1} → statement M
-next-wrap-spec = tie.close (tie.spec add-result returns returns-2)
+next-wrap-spec = tie.close (tie.spec (λ c. search needs) returns returns-2)

@@ -7,12 +7,6 @@ use Rattle.cursor.proofs.Laws.{step-asks, step-is}
 use Rattle.cursor.proofs.step.Statement.{statement}
 use Rattle.cursor.proofs.step.Tie as tie
 
-in-range-requires : tie.Need-in-range-requires
-in-range-requires c κs = search needs
-
-add-ok : tie.Need-add-ok
-add-ok c = search needs
-
 moved-requires : tie.Need-moved-requires
 moved-requires c κs =
     let k = c .before .before .args .k in
@@ -27,4 +21,4 @@ returns-2 : tie.Need-returns-2
 returns-2 c = sym (step-is _ _ _ _ false (c .before .in-range .ensures) (c .if1 .left))
 
 pub step-spec : {M : Type 1} → statement M
-step-spec = tie.close (tie.spec in-range-requires add-ok moved-requires returns returns-2)
+step-spec = tie.close (tie.spec (λ c κs. search needs) (λ c. search needs) moved-requires returns returns-2)

@@ -15,15 +15,9 @@ returns-2 c = sym (all-free-empty _ _ _ _ _ (c .if2 .taken) (omega arith))
 returns-3 : tie.Need-returns-3
 returns-3 c = sym (all-free-whole _ (omega arith) _ _ (omega arith) _ _)
 
-past-requires : tie.Need-past-requires
-past-requires c κs = search needs
-
 returns-4 : tie.Need-returns-4
 returns-4 c =
     sym (all-free-not _ (omega arith) _ _ (omega arith) _ _ (omega arith) (omega (arith, c .before .past .ensures .0)))
-
-cast-result : tie.Need-cast-result
-cast-result c = search needs
 
 returns-5 : tie.Need-returns-5
 returns-5 c =
@@ -31,4 +25,4 @@ returns-5 c =
 
 pub all-free-spec : {M : Type 1} → statement M
 all-free-spec =
-    tie.close (tie.spec returns returns-2 returns-3 past-requires returns-4 cast-result returns-5)
+    tie.close (tie.spec returns returns-2 returns-3 (λ c κs. search needs) returns-4 (λ c. search needs) returns-5)

@@ -17,9 +17,6 @@ returns c =
     let a = c .before .args in
     sym (zero-mul (a .n)) ∙ sym (ap (λ (k : ℕ). baseOf (a .n) k) (c .if1 .taken))
 
-sub-result : tie.Need-sub-result
-sub-result c = search needs
-
 mul-result : tie.Need-mul-result
 mul-result c = record { fits = product (c .before .args .slot - 1) (c .before .args .n) (omega arith) (omega arith) }
 
@@ -27,4 +24,4 @@ returns-2 : tie.Need-returns-2
 returns-2 c = refl
 
 pub base-of-spec : {M : Type 1} → statement M
-base-of-spec = tie.close (tie.spec returns sub-result mul-result returns-2)
+base-of-spec = tie.close (tie.spec returns (λ c. search needs) mul-result returns-2)

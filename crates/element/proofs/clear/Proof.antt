@@ -13,24 +13,6 @@ use borrow.Author.Needs.{needs}
 use Rattle.element.proofs.clear.Statement.{statement}
 use Rattle.element.proofs.clear.Tie as tie
 
-add-e : tie.Need-add-e
-add-e c = search needs
-
-sub-fresh : tie.Need-sub-fresh
-sub-fresh c = search needs
-
-part-fresh-start : tie.Need-part-fresh-start
-part-fresh-start c = search needs
-
-part-fresh-end : tie.Need-part-fresh-end
-part-fresh-end c = search needs
-
-fresh-requires : tie.Need-fresh-requires
-fresh-requires c κs = search needs
-
-same-length : tie.Need-same-length
-same-length c = search needs
-
 returns : tie.Need-returns
 returns c =
     let at-fresh = c .before .before in
@@ -59,12 +41,12 @@ pub clear-spec : {M : Type 1} → statement M
 clear-spec =
     tie.close
     (tie.spec
-    add-e
-    sub-fresh
-    part-fresh-start
-    part-fresh-end
-    fresh-requires
-    same-length
+    (λ c. search needs)
+    (λ c. search needs)
+    (λ c. search needs)
+    (λ c. search needs)
+    (λ c κs. search needs)
+    (λ c. search needs)
     returns
     returns-2
     returns-3

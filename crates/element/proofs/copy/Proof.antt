@@ -22,21 +22,6 @@ Inv-loop2 src dst₀ n tmp i j₀ dst j =
 abbrev μ-loop2 : tie.MeasureT-loop2
 μ-loop2 src dst₀ n tmp i j₀ dst j = n - j
 
-loop-holds : tie.Need-loop-holds Inv-loop μ-loop Inv-loop2 μ-loop2
-loop-holds c = search needs
-
-shared-slice-read-tmp : tie.Need-shared-slice-read-tmp Inv-loop μ-loop Inv-loop2 μ-loop2
-shared-slice-read-tmp c = search needs
-
-array-write-tmp : tie.Need-array-write-tmp Inv-loop μ-loop Inv-loop2 μ-loop2
-array-write-tmp c = search needs
-
-add-i : tie.Need-add-i Inv-loop μ-loop Inv-loop2 μ-loop2
-add-i c = search needs
-
-loop-less : tie.Need-loop-less Inv-loop μ-loop Inv-loop2 μ-loop2
-loop-less c = search needs
-
 loop-again : tie.Need-loop-again Inv-loop μ-loop Inv-loop2 μ-loop2
 loop-again c =
     let at-loop = c .before .before in
@@ -56,18 +41,6 @@ loop2-holds c =
     let e : at-loop .loop .i ≡ length s = omega arith in
     (search needs, refl, at-loop .loop .inv .2, rw e at (at-loop .loop .inv .3), refl, refl)
 
-array-read-dst : tie.Need-array-read-dst Inv-loop μ-loop Inv-loop2 μ-loop2
-array-read-dst c = search needs
-
-slice-write-dst : tie.Need-slice-write-dst Inv-loop μ-loop Inv-loop2 μ-loop2
-slice-write-dst c = search needs
-
-add-j : tie.Need-add-j Inv-loop μ-loop Inv-loop2 μ-loop2
-add-j c = search needs
-
-loop2-less : tie.Need-loop2-less Inv-loop μ-loop Inv-loop2 μ-loop2
-loop2-less c = search needs
-
 loop2-again : tie.Need-loop2-again Inv-loop μ-loop Inv-loop2 μ-loop2
 loop2-again c =
     let at-loop = c .before in
@@ -81,9 +54,6 @@ loop2-again c =
       grab-more 0 t (at-loop .loop2 .dst) (at-loop .loop2 .j) h k (at-loop .loop2 .inv .4),
       simp length-set (at-loop .loop2 .inv .5),
     )
-
-same-length : tie.Need-same-length Inv-loop μ-loop Inv-loop2 μ-loop2
-same-length c = search needs
 
 returns : tie.Need-returns Inv-loop μ-loop Inv-loop2 μ-loop2
 returns c =
@@ -101,17 +71,17 @@ copy-spec =
     μ-loop
     Inv-loop2
     μ-loop2
-    loop-holds
-    shared-slice-read-tmp
-    array-write-tmp
-    add-i
-    loop-less
+    (λ c. search needs)
+    (λ c. search needs)
+    (λ c. search needs)
+    (λ c. search needs)
+    (λ c. search needs)
     loop-again
     loop2-holds
-    array-read-dst
-    slice-write-dst
-    add-j
-    loop2-less
+    (λ c. search needs)
+    (λ c. search needs)
+    (λ c. search needs)
+    (λ c. search needs)
     loop2-again
-    same-length
+    (λ c. search needs)
     returns)

@@ -8,21 +8,6 @@ use borrow.Author.Needs.{needs}
 use Rattle.element.proofs.past.Statement.{statement}
 use Rattle.element.proofs.past.Tie as tie
 
-rem-result : tie.Need-rem-result
-rem-result c = search needs
-
-sub-result : tie.Need-sub-result
-sub-result c = search needs
-
-sub-result-2 : tie.Need-sub-result-2
-sub-result-2 c = search needs
-
-sub-result-3 : tie.Need-sub-result-3
-sub-result-3 c = search needs
-
-rem-result-2 : tie.Need-rem-result-2
-rem-result-2 c = search needs
-
 sub-result-4 : tie.Need-sub-result-4
 sub-result-4 c = omega (arith, mod-lt (c .before .args .p - c .before .args .x - 1) (c .before .pre))
 
@@ -36,11 +21,11 @@ pub past-spec : {M : Type 1} → statement M
 past-spec =
     tie.close
     (tie.spec
-    rem-result
-    sub-result
-    sub-result-2
-    sub-result-3
-    rem-result-2
+    (λ c. search needs)
+    (λ c. search needs)
+    (λ c. search needs)
+    (λ c. search needs)
+    (λ c. search needs)
     sub-result-4
     returns
     returns-2)

@@ -6,15 +6,6 @@ use borrow.Author.Needs.{needs}
 use Rattle.element.proofs.read.Statement.{statement}
 use Rattle.element.proofs.read.Tie as tie
 
-sub-if7 : tie.Need-sub-if7
-sub-if7 c = search needs
-
-read-ring-requires : tie.Need-read-ring-requires
-read-ring-requires c κs = search needs
-
-same-length : tie.Need-same-length
-same-length c = search needs
-
 returns : tie.Need-returns
 returns c =
     c .before .before .read-ring .ensures
@@ -46,9 +37,9 @@ pub read-spec : {M : Type 1} → statement M
 read-spec =
     tie.close
     (tie.spec
-    sub-if7
-    read-ring-requires
-    same-length
+    (λ c. search needs)
+    (λ c κs. search needs)
+    (λ c. search needs)
     returns
     returns-2
     returns-3

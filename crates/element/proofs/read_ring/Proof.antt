@@ -12,93 +12,6 @@ use borrow.Author.Needs.{needs}
 use Rattle.element.proofs.read_ring.Statement.{statement}
 use Rattle.element.proofs.read_ring.Tie as tie
 
-sub-room : tie.Need-sub-room
-sub-room c = search needs
-
-add-a : tie.Need-add-a
-add-a c = search needs
-
-add-copy : tie.Need-add-copy
-add-copy c = search needs
-
-sub-copy : tie.Need-sub-copy
-sub-copy c = search needs
-
-part-copy-start : tie.Need-part-copy-start
-part-copy-start c = search needs
-
-part-copy-end : tie.Need-part-copy-end
-part-copy-end c = search needs
-
-sub-copy-2 : tie.Need-sub-copy-2
-sub-copy-2 c = search needs
-
-part-copy-start-2 : tie.Need-part-copy-start-2
-part-copy-start-2 c = search needs
-
-part-copy-end-2 : tie.Need-part-copy-end-2
-part-copy-end-2 c = search needs
-
-copy-requires : tie.Need-copy-requires
-copy-requires c κs = search needs
-
-add-e : tie.Need-add-e
-add-e c = search needs
-
-sub-copy-3 : tie.Need-sub-copy-3
-sub-copy-3 c = search needs
-
-part-copy-start-3 : tie.Need-part-copy-start-3
-part-copy-start-3 c = search needs
-
-part-copy-end-3 : tie.Need-part-copy-end-3
-part-copy-end-3 c = search needs
-
-sub-copy-4 : tie.Need-sub-copy-4
-sub-copy-4 c = search needs
-
-part-copy-start-4 : tie.Need-part-copy-start-4
-part-copy-start-4 c = search needs
-
-part-copy-end-4 : tie.Need-part-copy-end-4
-part-copy-end-4 c = search needs
-
-copy-requires-2 : tie.Need-copy-requires-2
-copy-requires-2 c κs = search needs
-
-add-b : tie.Need-add-b
-add-b c = search needs
-
-sub-rest : tie.Need-sub-rest
-sub-rest c = search needs
-
-add-copy-2 : tie.Need-add-copy-2
-add-copy-2 c = search needs
-
-sub-copy-5 : tie.Need-sub-copy-5
-sub-copy-5 c = search needs
-
-part-copy-start-5 : tie.Need-part-copy-start-5
-part-copy-start-5 c = search needs
-
-part-copy-end-5 : tie.Need-part-copy-end-5
-part-copy-end-5 c = search needs
-
-sub-copy-6 : tie.Need-sub-copy-6
-sub-copy-6 c = search needs
-
-part-copy-start-6 : tie.Need-part-copy-start-6
-part-copy-start-6 c = search needs
-
-part-copy-end-6 : tie.Need-part-copy-end-6
-part-copy-end-6 c = search needs
-
-copy-requires-3 : tie.Need-copy-requires-3
-copy-requires-3 c κs = search needs
-
-same-length : tie.Need-same-length
-same-length c = search needs
-
 returns : tie.Need-returns
 returns c =
     let at-copy = c .before .before in
@@ -112,9 +25,6 @@ returns c =
     ap (λ (l : List ℕ). l ++ postOf 0 (n - 0) o)
     (at-copy .copy .ensures ∙ ap (λ (k : ℕ). take k (drop a m)) e ∙ straight m (s .args .base) (s .args .size) (s .pre .0) (s .args .offset) n h)
     ∙ ap (λ (l : List ℕ). unread (part m (s .args .base) (s .args .size)) (s .args .offset) n ++ l) (post-is 0 n o zero-le)
-
-same-length-2 : tie.Need-same-length-2
-same-length-2 c = search needs
 
 returns-2 : tie.Need-returns-2
 returns-2 c =
@@ -149,35 +59,35 @@ pub read-ring-spec : {M : Type 1} → statement M
 read-ring-spec =
     tie.close
     (tie.spec
-    sub-room
-    add-a
-    add-copy
-    sub-copy
-    part-copy-start
-    part-copy-end
-    sub-copy-2
-    part-copy-start-2
-    part-copy-end-2
-    copy-requires
-    add-e
-    sub-copy-3
-    part-copy-start-3
-    part-copy-end-3
-    sub-copy-4
-    part-copy-start-4
-    part-copy-end-4
-    copy-requires-2
-    add-b
-    sub-rest
-    add-copy-2
-    sub-copy-5
-    part-copy-start-5
-    part-copy-end-5
-    sub-copy-6
-    part-copy-start-6
-    part-copy-end-6
-    copy-requires-3
-    same-length
+    (λ c. search needs)
+    (λ c. search needs)
+    (λ c. search needs)
+    (λ c. search needs)
+    (λ c. search needs)
+    (λ c. search needs)
+    (λ c. search needs)
+    (λ c. search needs)
+    (λ c. search needs)
+    (λ c κs. search needs)
+    (λ c. search needs)
+    (λ c. search needs)
+    (λ c. search needs)
+    (λ c. search needs)
+    (λ c. search needs)
+    (λ c. search needs)
+    (λ c. search needs)
+    (λ c κs. search needs)
+    (λ c. search needs)
+    (λ c. search needs)
+    (λ c. search needs)
+    (λ c. search needs)
+    (λ c. search needs)
+    (λ c. search needs)
+    (λ c. search needs)
+    (λ c. search needs)
+    (λ c. search needs)
+    (λ c κs. search needs)
+    (λ c. search needs)
     returns
-    same-length-2
+    (λ c. search needs)
     returns-2)

@@ -1,23 +1,23 @@
 -- `example_mixed::hear_link` meets its contract: a walk of its MIR, written by `tools/walk example_mixed hear_link`, not by hand. Assumes nothing.
-use Rattle.slots.proofs.Walk.{_≡_, refl, ℕ, _<_, _^_, List, [], _∷_, length, URA, fullShare, named, erased, imm, mut, tyRef, w8, w32, tyInt, Val, vint, SProp, ent, emp, via, id⊢, fst∗, Lft, GName, Share, Fml, ftrue, fat, froom, fdies, flft, Memory, Routine, Heap, Env, Calls, Loops, WpFn, Tables, Atoms, Lfts, Shares, Fun, givenOf, tables, tablesOf, Given, mean, ‵, runs, atRet, Sq, _⊛_, ⋆, _$_, _∵_, !, qed, by, move, keep, drop, use1, split, join, fsplit, fjoin, feqL, suffices, frame, done, agg, whole, sub, look-in, look, init, forget, stop, hop, fld, from, load, addr, and-then, no-more, assigns, land, returns, enter, alloc1, alloc0, params1, pass1, pass0, free1, free0, FmC, fmOf, WpFn-mono, owns, pointee, Is, shows, uint-vals, uint-tells, uint-makes, u8, u32, RefT, sliceTy, sliceVal, MutSlice, ShrSlice, Room, slice-vals, mut-slice-tells, shr-slice-tells, shr-slice-copy, finally, plain, shrSliceOf, owned, peeks, nothing, Vals, onEntry, Meets, tripleOf, Contract, Triple, lasts, entered, cited, says, Stays, stay-dropped, gave-slice, walkOf, goes-dropped, goes-gave-slice, Walks, ends-at, walked, walk-meets, yes, after, answered, calls-by}
+use Rattle.group_table.proofs.Walk.{_≡_, refl, ℕ, _<_, _^_, List, [], _∷_, length, URA, fullShare, named, erased, imm, mut, tyRef, w8, w32, tyInt, Val, vint, SProp, ent, emp, via, id⊢, fst∗, Lft, GName, Share, Fml, ftrue, fat, froom, fdies, flft, Memory, Routine, Heap, Env, Calls, Loops, WpFn, Tables, Atoms, Lfts, Shares, Fun, givenOf, tables, tablesOf, Given, mean, ‵, runs, atRet, Sq, _⊛_, ⋆, _$_, _∵_, !, qed, by, move, keep, drop, use1, split, join, fsplit, fjoin, feqL, suffices, frame, done, agg, whole, sub, look-in, look, init, forget, stop, hop, fld, from, load, addr, and-then, no-more, assigns, land, returns, enter, alloc1, alloc0, params1, pass1, pass0, free1, free0, FmC, fmOf, WpFn-mono, owns, pointee, Is, shows, uint-vals, uint-tells, uint-makes, u8, u32, RefT, sliceTy, sliceVal, MutSlice, ShrSlice, Room, slice-vals, mut-slice-tells, shr-slice-tells, shr-slice-copy, finally, plain, shrSliceOf, owned, peeks, nothing, Vals, onEntry, Meets, tripleOf, Contract, Triple, lasts, entered, cited, says, Stays, stay-dropped, gave-slice, walkOf, goes-dropped, goes-gave-slice, Walks, ends-at, walked, walk-meets, yes, after, answered, calls-by}
 use denote.Struct.Laws as LL
 use denote.Enum.Laws as EL
-use Rattle.connection.specs.declared.Record.{Record}
-use Rattle.connection.proofs.Record as RecordT
-use Rattle.connection.proofs.Record.Laws as RecordL
-use Rattle.table.specs.declared.Links.{Links}
-use Rattle.table.proofs.Links as LinksT
-use Rattle.table.proofs.Links.Laws as LinksL
-use Rattle.linkdesk.specs.declared.LinkDone.{LinkDone}
-use Rattle.linkdesk.proofs.LinkDone as LinkDoneT
-use Rattle.linkdesk.proofs.LinkDone.Laws as LinkDoneL
-use Rattle.linkdesk.specs.declared.LinkCommand.{LinkCommand}
-use Rattle.linkdesk.proofs.LinkCommand as LinkCommandT
-use Rattle.linkdesk.proofs.LinkCommand.Laws as LinkCommandL
-use Rattle.linkdesk.specs.declared.Values.{Values}
-use Rattle.linkdesk.proofs.Values as ValuesT
-use Rattle.linkdesk.proofs.Values.Laws as ValuesL
-use Rattle.connection.specs.Connection.{zeroRecord}
+use Rattle.conn_record.specs.declared.Record.{Record}
+use Rattle.conn_record.proofs.Record as RecordT
+use Rattle.conn_record.proofs.Record.Laws as RecordL
+use Rattle.group_table.specs.declared.Links.{Links}
+use Rattle.group_table.proofs.Links as LinksT
+use Rattle.group_table.proofs.Links.Laws as LinksL
+use Rattle.group_link.specs.declared.LinkDone.{LinkDone}
+use Rattle.group_link.proofs.LinkDone as LinkDoneT
+use Rattle.group_link.proofs.LinkDone.Laws as LinkDoneL
+use Rattle.group_link.specs.declared.LinkCommand.{LinkCommand}
+use Rattle.group_link.proofs.LinkCommand as LinkCommandT
+use Rattle.group_link.proofs.LinkCommand.Laws as LinkCommandL
+use Rattle.group_link.specs.declared.Values.{Values}
+use Rattle.group_link.proofs.Values as ValuesT
+use Rattle.group_link.proofs.Values.Laws as ValuesL
+use Rattle.conn_record.specs.Connection.{zeroRecord}
 use Rattle.example_mixed.proofs.message_on as f-message-on
 use Rattle.example_mixed.proofs.message_on.Symbol as f-message-on-def
 use Rattle.example_mixed.proofs.message_on.Symbol.{name as #f-message-on}
@@ -26,17 +26,17 @@ use Rattle.example_mixed.proofs.no_values as f-no-values
 use Rattle.example_mixed.proofs.no_values.Symbol as f-no-values-def
 use Rattle.example_mixed.proofs.no_values.Symbol.{name as #f-no-values}
 use Rattle.example_mixed.proofs.no_values.Met as f-no-values-thm
-use Rattle.linkdesk.proofs.make as f-make
-use Rattle.linkdesk.proofs.make.Symbol as f-make-def
-use Rattle.linkdesk.proofs.make.Symbol.{name as #f-make}
-use Rattle.linkdesk.proofs.make.Met as f-make-thm
+use Rattle.group_link.proofs.make as f-make
+use Rattle.group_link.proofs.make.Symbol as f-make-def
+use Rattle.group_link.proofs.make.Symbol.{name as #f-make}
+use Rattle.group_link.proofs.make.Met as f-make-thm
 use Rattle.example_mixed.proofs.hear_link.Key.{name as #call}
 use Rattle.example_mixed.proofs.hear_link as call
 use Rattle.example_mixed.proofs.hear_link.Statement as stated
 use Rattle.example_mixed.proofs.hear_link.Code as code
-use Rattle.linkdesk.specs.LinkDesk.{answerIn, callOf}
-use Rattle.linkdesk.specs.declared.LinkCommand.the-variants.{Message}
-use Rattle.rules.specs.Rules.{Did, groupOf, linkMessage, manage}
+use Rattle.group_link.specs.LinkDesk.{answerIn, callOf}
+use Rattle.group_link.specs.declared.LinkCommand.the-variants.{Message}
+use Rattle.group_rules.specs.Rules.{Did, groupOf, linkMessage, manage}
 use lib.ListN.{replicate}
 use Rattle.example_mixed.proofs.Laws.{hear-link-returns}
 
@@ -200,4 +200,4 @@ hear-link-spec 𝓤 H 𝓜 𝓖 𝓡 =
     (call-meets 𝓤 H (𝓖 .A) (givenOf 𝓤 H 𝓜 𝓖) (𝓜 .mem) (𝓡 .run) (tablesOf 𝓤 H 𝓜 (tables 𝓤 H 𝓜 𝓡 code.env))
     (cited 𝓤 H (C-f-message-on 𝓤 H (𝓖 .A) (𝓜 .mem) (𝓡 .run)) 𝓜 𝓡 code.env #f-message-on f-message-on-def.routine code.calls-example-mixed·message-on (f-message-on-thm.met 𝓤 H 𝓜 𝓖 𝓡))
     (cited 𝓤 H (C-f-no-values 𝓤 H (𝓖 .A) (𝓜 .mem) (𝓡 .run)) 𝓜 𝓡 code.env #f-no-values f-no-values-def.routine code.calls-example-mixed·no-values (f-no-values-thm.met 𝓤 H 𝓜 𝓖 𝓡))
-    (cited 𝓤 H (C-f-make 𝓤 H (𝓖 .A) (𝓜 .mem) (𝓡 .run)) 𝓜 𝓡 code.env #f-make f-make-def.routine code.calls-linkdesk·make (f-make-thm.met 𝓤 H 𝓜 𝓖 𝓡)))
+    (cited 𝓤 H (C-f-make 𝓤 H (𝓖 .A) (𝓜 .mem) (𝓡 .run)) 𝓜 𝓡 code.env #f-make f-make-def.routine code.calls-group-link·make (f-make-thm.met 𝓤 H 𝓜 𝓖 𝓡)))

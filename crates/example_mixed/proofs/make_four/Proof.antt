@@ -1,47 +1,47 @@
 -- `example_mixed::make_four` meets its contract: a walk of its MIR, written by `tools/walk example_mixed make_four`, not by hand. Assumes nothing.
-use Rattle.slots.proofs.Walk.{_≡_, refl, sym, _∙_, subst, ℕ, _<_, _^_, List, [], _∷_, length, URA, fullShare, named, erased, imm, mut, tyRef, w8, w32, tyInt, Val, vint, vptr, SProp, ent, emp, via, id⊢, fst∗, Lft, GName, Share, Fml, ftrue, fat, froom, fdies, flft, fobs, fres, fbor, Memory, Routine, Heap, Env, Calls, Loops, WpFn, Tables, Atoms, Lfts, Shares, Fun, givenOf, tables, tablesOf, Given, mean, ‵, runs, atRet, Sq, _⊛_, ⋆, _$_, _∵_, !, qed, by, move, keep, drop, use1, split, join, rewrite, fsplit, fjoin, feqL, suffices, frame, done, agg, whole, sub, look-in, look, init, forget, stop, hop, fld, from, load, addr, and-then, no-more, assigns, land, returns, enter, alloc1, alloc0, params1, pass1, pass0, free1, free0, FmC, fmOf, WpFn-mono, owns, pointee, Is, shows, uint-vals, uint-tells, uint-makes, u8, u32, RefT, MutRef, ptr-vals, mut-tells, sliceTy, sliceVal, MutSlice, ShrSlice, Room, slice-vals, mut-slice-tells, shr-slice-tells, shr-slice-copy, heres, codedHoleys, finally, Held, plain, shrSliceOf, owned, peeks, nothing, Vals, onEntry, Meets, tripleOf, Contract, Triple, lasts, entered, cited, says, Stays, stay-dropped, gave-slice, walkOf, goes-dropped, goes-gave-slice, Walks, ends-at, walked, walk-meets, gave-ref, goes-gave-ref, yes, Array, arrayOf, after, lentAs, relends, comes-back, lends-shared, shared-back, says-last, answered, calls-by}
+use Rattle.group_table.proofs.Walk.{_≡_, refl, sym, _∙_, subst, ℕ, _<_, _^_, List, [], _∷_, length, URA, fullShare, named, erased, imm, mut, tyRef, w8, w32, tyInt, Val, vint, vptr, SProp, ent, emp, via, id⊢, fst∗, Lft, GName, Share, Fml, ftrue, fat, froom, fdies, flft, fobs, fres, fbor, Memory, Routine, Heap, Env, Calls, Loops, WpFn, Tables, Atoms, Lfts, Shares, Fun, givenOf, tables, tablesOf, Given, mean, ‵, runs, atRet, Sq, _⊛_, ⋆, _$_, _∵_, !, qed, by, move, keep, drop, use1, split, join, rewrite, fsplit, fjoin, feqL, suffices, frame, done, agg, whole, sub, look-in, look, init, forget, stop, hop, fld, from, load, addr, and-then, no-more, assigns, land, returns, enter, alloc1, alloc0, params1, pass1, pass0, free1, free0, FmC, fmOf, WpFn-mono, owns, pointee, Is, shows, uint-vals, uint-tells, uint-makes, u8, u32, RefT, MutRef, ptr-vals, mut-tells, sliceTy, sliceVal, MutSlice, ShrSlice, Room, slice-vals, mut-slice-tells, shr-slice-tells, shr-slice-copy, heres, codedHoleys, finally, Held, plain, shrSliceOf, owned, peeks, nothing, Vals, onEntry, Meets, tripleOf, Contract, Triple, lasts, entered, cited, says, Stays, stay-dropped, gave-slice, walkOf, goes-dropped, goes-gave-slice, Walks, ends-at, walked, walk-meets, gave-ref, goes-gave-ref, yes, Array, arrayOf, after, lentAs, relends, comes-back, lends-shared, shared-back, says-last, answered, calls-by}
 use denote.Struct.Laws as LL
 use denote.Enum.Laws as EL
-use Rattle.connection.specs.declared.Record.{Record}
-use Rattle.connection.proofs.Record as RecordT
-use Rattle.connection.proofs.Record.Laws as RecordL
-use Rattle.table.specs.declared.Links.{Links}
-use Rattle.table.proofs.Links as LinksT
-use Rattle.table.proofs.Links.Laws as LinksL
-use Rattle.group.specs.declared.Command.{Command}
-use Rattle.group.proofs.Command as CommandT
-use Rattle.group.proofs.Command.Laws as CommandL
+use Rattle.conn_record.specs.declared.Record.{Record}
+use Rattle.conn_record.proofs.Record as RecordT
+use Rattle.conn_record.proofs.Record.Laws as RecordL
+use Rattle.group_table.specs.declared.Links.{Links}
+use Rattle.group_table.proofs.Links as LinksT
+use Rattle.group_table.proofs.Links.Laws as LinksL
+use Rattle.group_make.specs.declared.Command.{Command}
+use Rattle.group_make.proofs.Command as CommandT
+use Rattle.group_make.proofs.Command.Laws as CommandL
 use Rattle.example_mixed.specs.declared.Four.{Four}
 use Rattle.example_mixed.proofs.Four as FourT
 use Rattle.example_mixed.proofs.Four.Laws as FourL
-use Rattle.direct.specs.declared.LinkStates.{LinkStates}
-use Rattle.direct.proofs.LinkStates as LinkStatesT
-use Rattle.direct.proofs.LinkStates.Laws as LinkStatesL
-use Rattle.transmitting.specs.declared.SendAnswer.{SendAnswer}
-use Rattle.transmitting.proofs.SendAnswer as SendAnswerT
-use Rattle.transmitting.proofs.SendAnswer.Laws as SendAnswerL
-use Rattle.gathering.specs.declared.Gathered.{Gathered}
-use Rattle.gathering.proofs.Gathered as GatheredT
-use Rattle.gathering.proofs.Gathered.Laws as GatheredL
-use Rattle.linkdesk.specs.declared.LinkDone.{LinkDone}
-use Rattle.linkdesk.proofs.LinkDone as LinkDoneT
-use Rattle.linkdesk.proofs.LinkDone.Laws as LinkDoneL
-use Rattle.table.specs.declared.Answered.{Answered}
-use Rattle.table.proofs.Answered as AnsweredT
-use Rattle.table.proofs.Answered.Laws as AnsweredL
-use Rattle.connection.specs.Connection.{zeroRecord}
+use Rattle.plan.specs.declared.LinkStates.{LinkStates}
+use Rattle.plan.proofs.LinkStates as LinkStatesT
+use Rattle.plan.proofs.LinkStates.Laws as LinkStatesL
+use Rattle.plan_send.specs.declared.SendAnswer.{SendAnswer}
+use Rattle.plan_send.proofs.SendAnswer as SendAnswerT
+use Rattle.plan_send.proofs.SendAnswer.Laws as SendAnswerL
+use Rattle.group_gather.specs.declared.Gathered.{Gathered}
+use Rattle.group_gather.proofs.Gathered as GatheredT
+use Rattle.group_gather.proofs.Gathered.Laws as GatheredL
+use Rattle.group_link.specs.declared.LinkDone.{LinkDone}
+use Rattle.group_link.proofs.LinkDone as LinkDoneT
+use Rattle.group_link.proofs.LinkDone.Laws as LinkDoneL
+use Rattle.group_table.specs.declared.Answered.{Answered}
+use Rattle.group_table.proofs.Answered as AnsweredT
+use Rattle.group_table.proofs.Answered.Laws as AnsweredL
+use Rattle.conn_record.specs.Connection.{zeroRecord}
 use Rattle.example_mixed.proofs.states_of as f-states-of
 use Rattle.example_mixed.proofs.states_of.Symbol as f-states-of-def
 use Rattle.example_mixed.proofs.states_of.Symbol.{name as #f-states-of}
 use Rattle.example_mixed.proofs.states_of.Met as f-states-of-thm
-use Rattle.direct_send.proofs.fordlinnet_make_send as f-fordlinnet-make-send
-use Rattle.direct_send.proofs.fordlinnet_make_send.Symbol as f-fordlinnet-make-send-def
-use Rattle.direct_send.proofs.fordlinnet_make_send.Symbol.{name as #f-fordlinnet-make-send}
-use Rattle.direct_send.proofs.fordlinnet_make_send.Met as f-fordlinnet-make-send-thm
-use Rattle.gathering.proofs.gather as f-gather
-use Rattle.gathering.proofs.gather.Symbol as f-gather-def
-use Rattle.gathering.proofs.gather.Symbol.{name as #f-gather}
-use Rattle.gathering.proofs.gather.Met as f-gather-thm
+use Rattle.c_send.proofs.fordlinnet_make_send as f-fordlinnet-make-send
+use Rattle.c_send.proofs.fordlinnet_make_send.Symbol as f-fordlinnet-make-send-def
+use Rattle.c_send.proofs.fordlinnet_make_send.Symbol.{name as #f-fordlinnet-make-send}
+use Rattle.c_send.proofs.fordlinnet_make_send.Met as f-fordlinnet-make-send-thm
+use Rattle.group_gather.proofs.gather as f-gather
+use Rattle.group_gather.proofs.gather.Symbol as f-gather-def
+use Rattle.group_gather.proofs.gather.Symbol.{name as #f-gather}
+use Rattle.group_gather.proofs.gather.Met as f-gather-thm
 use Rattle.example_mixed.proofs.after_gather as f-after-gather
 use Rattle.example_mixed.proofs.after_gather.Symbol as f-after-gather-def
 use Rattle.example_mixed.proofs.after_gather.Symbol.{name as #f-after-gather}
@@ -54,10 +54,10 @@ use Rattle.example_mixed.proofs.after_message as f-after-message
 use Rattle.example_mixed.proofs.after_message.Symbol as f-after-message-def
 use Rattle.example_mixed.proofs.after_message.Symbol.{name as #f-after-message}
 use Rattle.example_mixed.proofs.after_message.Met as f-after-message-thm
-use Rattle.group.proofs.make as f-make
-use Rattle.group.proofs.make.Symbol as f-make-def
-use Rattle.group.proofs.make.Symbol.{name as #f-make}
-use Rattle.group.proofs.make.Met as f-make-thm
+use Rattle.group_make.proofs.make as f-make
+use Rattle.group_make.proofs.make.Symbol as f-make-def
+use Rattle.group_make.proofs.make.Symbol.{name as #f-make}
+use Rattle.group_make.proofs.make.Met as f-make-thm
 use Rattle.example_mixed.proofs.all as f-all
 use Rattle.example_mixed.proofs.all.Symbol as f-all-def
 use Rattle.example_mixed.proofs.all.Symbol.{name as #f-all}
@@ -66,15 +66,15 @@ use Rattle.example_mixed.proofs.make_four.Key.{name as #call}
 use Rattle.example_mixed.proofs.make_four as call
 use Rattle.example_mixed.proofs.make_four.Statement as stated
 use Rattle.example_mixed.proofs.make_four.Code as code
-use Rattle.direct_made.specs.DirectMade.{InEveryGroup}
-use Rattle.direct_send.specs.DirectSend.{SendMade}
+use Rattle.c_send.specs.DirectSend.{SendMade}
 use Rattle.example_mixed.specs.Mixed.{MadeFour, fourOf}
-use Rattle.gathering.specs.Gathering.{DidGather}
-use Rattle.group.specs.Group.{OutKept, callOf, outLeft}
-use Rattle.linkdesk.specs.LinkDesk.{answerIn}
-use Rattle.linkdesk.specs.declared.LinkCommand.the-variants.{Message}
-use Rattle.rules.specs.Rules.{Did, answerOf, groupOf, linkMessage, manage}
-use Rattle.table.specs.declared.Links.{Links}
+use Rattle.group_gather.specs.Gathering.{DidGather}
+use Rattle.group_link.specs.LinkDesk.{answerIn}
+use Rattle.group_link.specs.declared.LinkCommand.the-variants.{Message}
+use Rattle.group_make.specs.Group.{OutKept, callOf, outLeft}
+use Rattle.group_rules.specs.Rules.{Did, answerOf, groupOf, linkMessage, manage}
+use Rattle.group_table.specs.declared.Links.{Links}
+use Rattle.plan.specs.DirectMade.{InEveryGroup}
 use Rattle.example_mixed.proofs.Laws.{make-four-returns}
 
 abbrev stayed : Stays (call.ended .signature .params) (call.ended .kept)
@@ -407,10 +407,10 @@ make-four-spec 𝓤 H 𝓜 𝓖 𝓡 =
     (tables 𝓤 H 𝓜 𝓡 code.env .C) (tables 𝓤 H 𝓜 𝓡 code.env .Λ) #call code.function (code.unfolded 𝓤 H 𝓜 𝓡)
     (call-meets 𝓤 H (𝓖 .A) (givenOf 𝓤 H 𝓜 𝓖) (𝓜 .mem) (𝓡 .run) (tablesOf 𝓤 H 𝓜 (tables 𝓤 H 𝓜 𝓡 code.env))
     (cited 𝓤 H (C-f-states-of 𝓤 H (𝓖 .A) (𝓜 .mem) (𝓡 .run)) 𝓜 𝓡 code.env #f-states-of f-states-of-def.routine code.calls-example-mixed·states-of (f-states-of-thm.met 𝓤 H 𝓜 𝓖 𝓡))
-    (cited 𝓤 H (C-f-fordlinnet-make-send 𝓤 H (𝓖 .A) (𝓜 .mem) (𝓡 .run)) 𝓜 𝓡 code.env #f-fordlinnet-make-send f-fordlinnet-make-send-def.routine code.calls-direct-send·fordlinnet-make-send (f-fordlinnet-make-send-thm.met 𝓤 H 𝓜 𝓖 𝓡))
-    (cited 𝓤 H (C-f-gather 𝓤 H (𝓖 .A) (𝓜 .mem) (𝓡 .run)) 𝓜 𝓡 code.env #f-gather f-gather-def.routine code.calls-gathering·gather (f-gather-thm.met 𝓤 H 𝓜 𝓖 𝓡))
+    (cited 𝓤 H (C-f-fordlinnet-make-send 𝓤 H (𝓖 .A) (𝓜 .mem) (𝓡 .run)) 𝓜 𝓡 code.env #f-fordlinnet-make-send f-fordlinnet-make-send-def.routine code.calls-c-send·fordlinnet-make-send (f-fordlinnet-make-send-thm.met 𝓤 H 𝓜 𝓖 𝓡))
+    (cited 𝓤 H (C-f-gather 𝓤 H (𝓖 .A) (𝓜 .mem) (𝓡 .run)) 𝓜 𝓡 code.env #f-gather f-gather-def.routine code.calls-group-gather·gather (f-gather-thm.met 𝓤 H 𝓜 𝓖 𝓡))
     (cited 𝓤 H (C-f-after-gather 𝓤 H (𝓖 .A) (𝓜 .mem) (𝓡 .run)) 𝓜 𝓡 code.env #f-after-gather f-after-gather-def.routine code.calls-example-mixed·after-gather (f-after-gather-thm.met 𝓤 H 𝓜 𝓖 𝓡))
     (cited 𝓤 H (C-f-hear-link 𝓤 H (𝓖 .A) (𝓜 .mem) (𝓡 .run)) 𝓜 𝓡 code.env #f-hear-link f-hear-link-def.routine code.calls-example-mixed·hear-link (f-hear-link-thm.met 𝓤 H 𝓜 𝓖 𝓡))
     (cited 𝓤 H (C-f-after-message 𝓤 H (𝓖 .A) (𝓜 .mem) (𝓡 .run)) 𝓜 𝓡 code.env #f-after-message f-after-message-def.routine code.calls-example-mixed·after-message (f-after-message-thm.met 𝓤 H 𝓜 𝓖 𝓡))
-    (cited 𝓤 H (C-f-make 𝓤 H (𝓖 .A) (𝓜 .mem) (𝓡 .run)) 𝓜 𝓡 code.env #f-make f-make-def.routine code.calls-group·make (f-make-thm.met 𝓤 H 𝓜 𝓖 𝓡))
+    (cited 𝓤 H (C-f-make 𝓤 H (𝓖 .A) (𝓜 .mem) (𝓡 .run)) 𝓜 𝓡 code.env #f-make f-make-def.routine code.calls-group-make·make (f-make-thm.met 𝓤 H 𝓜 𝓖 𝓡))
     (cited 𝓤 H (C-f-all 𝓤 H (𝓖 .A) (𝓜 .mem) (𝓡 .run)) 𝓜 𝓡 code.env #f-all f-all-def.routine code.calls-example-mixed·all (f-all-thm.met 𝓤 H 𝓜 𝓖 𝓡)))

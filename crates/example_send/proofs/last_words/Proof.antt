@@ -1,31 +1,31 @@
 -- `example_send::last_words` meets its contract: a walk of its MIR, written by `tools/walk example_send last_words`, not by hand. Assumes nothing.
-use Rattle.slots.proofs.Walk.{_≡_, refl, sym, _∙_, subst, ℕ, _<_, _^_, List, [], _∷_, length, URA, fullShare, named, erased, imm, mut, tyRef, w8, w32, tyInt, Val, vint, vptr, SProp, ent, emp, via, id⊢, fst∗, Lft, GName, Share, Fml, ftrue, fat, froom, fdies, flft, fobs, fbor, Memory, Routine, Heap, Env, Calls, Loops, WpFn, Tables, Atoms, Lfts, Shares, Fun, givenOf, tables, tablesOf, Given, mean, ‵, runs, atRet, Sq, _⊛_, ⋆, _$_, _∵_, !, qed, by, move, keep, drop, use1, split, join, rewrite, fsplit, fjoin, feqL, suffices, frame, done, agg, whole, sub, look-in, look, store, init, forget, stop, hop, fld, from, load, addr, and-then, no-more, assigns, land, returns, enter, alloc1, alloc0, params1, pass1, pass0, free1, free0, FmC, fmOf, WpFn-mono, owns, pointee, Is, shows, uint-vals, uint-tells, uint-makes, u8, u32, RefT, sliceTy, sliceVal, MutSlice, ShrSlice, Room, slice-vals, mut-slice-tells, shr-slice-tells, shr-slice-copy, heres, codedHoleys, finally, Held, plain, shrSliceOf, owned, peeks, nothing, Vals, onEntry, Meets, tripleOf, Contract, Triple, lasts, entered, cited, says, Stays, stay-dropped, gave-slice, walkOf, goes-dropped, goes-gave-slice, Walks, ends-at, walked, walk-meets, yes, after, lentAs, relends, comes-back, says-last, answered, calls-by}
+use Rattle.group_table.proofs.Walk.{_≡_, refl, sym, _∙_, subst, ℕ, _<_, _^_, List, [], _∷_, length, URA, fullShare, named, erased, imm, mut, tyRef, w8, w32, tyInt, Val, vint, vptr, SProp, ent, emp, via, id⊢, fst∗, Lft, GName, Share, Fml, ftrue, fat, froom, fdies, flft, fobs, fbor, Memory, Routine, Heap, Env, Calls, Loops, WpFn, Tables, Atoms, Lfts, Shares, Fun, givenOf, tables, tablesOf, Given, mean, ‵, runs, atRet, Sq, _⊛_, ⋆, _$_, _∵_, !, qed, by, move, keep, drop, use1, split, join, rewrite, fsplit, fjoin, feqL, suffices, frame, done, agg, whole, sub, look-in, look, store, init, forget, stop, hop, fld, from, load, addr, and-then, no-more, assigns, land, returns, enter, alloc1, alloc0, params1, pass1, pass0, free1, free0, FmC, fmOf, WpFn-mono, owns, pointee, Is, shows, uint-vals, uint-tells, uint-makes, u8, u32, RefT, sliceTy, sliceVal, MutSlice, ShrSlice, Room, slice-vals, mut-slice-tells, shr-slice-tells, shr-slice-copy, heres, codedHoleys, finally, Held, plain, shrSliceOf, owned, peeks, nothing, Vals, onEntry, Meets, tripleOf, Contract, Triple, lasts, entered, cited, says, Stays, stay-dropped, gave-slice, walkOf, goes-dropped, goes-gave-slice, Walks, ends-at, walked, walk-meets, yes, after, lentAs, relends, comes-back, says-last, answered, calls-by}
 use denote.Struct.Laws as LL
 use denote.Enum.Laws as EL
-use Rattle.connection.specs.declared.Record.{Record}
-use Rattle.connection.proofs.Record as RecordT
-use Rattle.connection.proofs.Record.Laws as RecordL
-use Rattle.table.specs.declared.Links.{Links}
-use Rattle.table.proofs.Links as LinksT
-use Rattle.table.proofs.Links.Laws as LinksL
+use Rattle.conn_record.specs.declared.Record.{Record}
+use Rattle.conn_record.proofs.Record as RecordT
+use Rattle.conn_record.proofs.Record.Laws as RecordL
+use Rattle.group_table.specs.declared.Links.{Links}
+use Rattle.group_table.proofs.Links as LinksT
+use Rattle.group_table.proofs.Links.Laws as LinksL
 use Rattle.example_send.specs.declared.Said.{Said}
 use Rattle.example_send.proofs.Said as SaidT
 use Rattle.example_send.proofs.Said.Laws as SaidL
-use Rattle.group.specs.declared.Command.{Command}
-use Rattle.group.proofs.Command as CommandT
-use Rattle.group.proofs.Command.Laws as CommandL
-use Rattle.table.specs.declared.Answered.{Answered}
-use Rattle.table.proofs.Answered as AnsweredT
-use Rattle.table.proofs.Answered.Laws as AnsweredL
-use Rattle.connection.specs.Connection.{zeroRecord}
+use Rattle.group_make.specs.declared.Command.{Command}
+use Rattle.group_make.proofs.Command as CommandT
+use Rattle.group_make.proofs.Command.Laws as CommandL
+use Rattle.group_table.specs.declared.Answered.{Answered}
+use Rattle.group_table.proofs.Answered as AnsweredT
+use Rattle.group_table.proofs.Answered.Laws as AnsweredL
+use Rattle.conn_record.specs.Connection.{zeroRecord}
 use Rattle.example_send.proofs.send_on as f-send-on
 use Rattle.example_send.proofs.send_on.Symbol as f-send-on-def
 use Rattle.example_send.proofs.send_on.Symbol.{name as #f-send-on}
 use Rattle.example_send.proofs.send_on.Met as f-send-on-thm
-use Rattle.group.proofs.make as f-make
-use Rattle.group.proofs.make.Symbol as f-make-def
-use Rattle.group.proofs.make.Symbol.{name as #f-make}
-use Rattle.group.proofs.make.Met as f-make-thm
+use Rattle.group_make.proofs.make as f-make
+use Rattle.group_make.proofs.make.Symbol as f-make-def
+use Rattle.group_make.proofs.make.Symbol.{name as #f-make}
+use Rattle.group_make.proofs.make.Met as f-make-thm
 use Rattle.example_send.proofs.links_after as f-links-after
 use Rattle.example_send.proofs.links_after.Symbol as f-links-after-def
 use Rattle.example_send.proofs.links_after.Symbol.{name as #f-links-after}
@@ -42,11 +42,11 @@ use Rattle.example_send.proofs.last_words.Key.{name as #call}
 use Rattle.example_send.proofs.last_words as call
 use Rattle.example_send.proofs.last_words.Statement as stated
 use Rattle.example_send.proofs.last_words.Code as code
-use Rattle.calls.specs.declared.Request.the-variants.{Send, Shutdown}
 use Rattle.example_send.specs.Example.{LastWords, saidOf}
-use Rattle.group.specs.Group.{OutKept, callOf, outLeft}
-use Rattle.group.specs.declared.Command.the-variants.{On}
-use Rattle.rules.specs.Rules.{Did, answerOf, groupOf}
+use Rattle.group_calls.specs.declared.Request.the-variants.{Send, Shutdown}
+use Rattle.group_make.specs.Group.{OutKept, callOf, outLeft}
+use Rattle.group_make.specs.declared.Command.the-variants.{On}
+use Rattle.group_rules.specs.Rules.{Did, answerOf, groupOf}
 use Rattle.example_send.proofs.Laws.{last-words-returns}
 
 abbrev stayed : Stays (call.ended .signature .params) (call.ended .kept)
@@ -270,7 +270,7 @@ last-words-spec 𝓤 H 𝓜 𝓖 𝓡 =
     (tables 𝓤 H 𝓜 𝓡 code.env .C) (tables 𝓤 H 𝓜 𝓡 code.env .Λ) #call code.function (code.unfolded 𝓤 H 𝓜 𝓡)
     (call-meets 𝓤 H (𝓖 .A) (givenOf 𝓤 H 𝓜 𝓖) (𝓜 .mem) (𝓡 .run) (tablesOf 𝓤 H 𝓜 (tables 𝓤 H 𝓜 𝓡 code.env))
     (cited 𝓤 H (C-f-send-on 𝓤 H (𝓖 .A) (𝓜 .mem) (𝓡 .run)) 𝓜 𝓡 code.env #f-send-on f-send-on-def.routine code.calls-example-send·send-on (f-send-on-thm.met 𝓤 H 𝓜 𝓖 𝓡))
-    (cited 𝓤 H (C-f-make 𝓤 H (𝓖 .A) (𝓜 .mem) (𝓡 .run)) 𝓜 𝓡 code.env #f-make f-make-def.routine code.calls-group·make (f-make-thm.met 𝓤 H 𝓜 𝓖 𝓡))
+    (cited 𝓤 H (C-f-make 𝓤 H (𝓖 .A) (𝓜 .mem) (𝓡 .run)) 𝓜 𝓡 code.env #f-make f-make-def.routine code.calls-group-make·make (f-make-thm.met 𝓤 H 𝓜 𝓖 𝓡))
     (cited 𝓤 H (C-f-links-after 𝓤 H (𝓖 .A) (𝓜 .mem) (𝓡 .run)) 𝓜 𝓡 code.env #f-links-after f-links-after-def.routine code.calls-example-send·links-after (f-links-after-thm.met 𝓤 H 𝓜 𝓖 𝓡))
     (cited 𝓤 H (C-f-shutdown-on 𝓤 H (𝓖 .A) (𝓜 .mem) (𝓡 .run)) 𝓜 𝓡 code.env #f-shutdown-on f-shutdown-on-def.routine code.calls-example-send·shutdown-on (f-shutdown-on-thm.met 𝓤 H 𝓜 𝓖 𝓡))
     (cited 𝓤 H (C-f-both 𝓤 H (𝓖 .A) (𝓜 .mem) (𝓡 .run)) 𝓜 𝓡 code.env #f-both f-both-def.routine code.calls-example-send·both (f-both-thm.met 𝓤 H 𝓜 𝓖 𝓡)))

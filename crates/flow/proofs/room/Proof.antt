@@ -5,21 +5,6 @@ use Rattle.flow.specs.Flow.{roomOf}
 use Rattle.flow.proofs.room.Statement.{statement}
 use Rattle.flow.proofs.room.Tie as tie
 
-data-size-requires : tie.Need-data-size-requires
-data-size-requires c κs = search needs
-
-gap-requires : tie.Need-gap-requires
-gap-requires c κs = search needs
-
-cast-if1 : tie.Need-cast-if1
-cast-if1 c = search needs
-
-cast-result : tie.Need-cast-result
-cast-result c = search needs
-
-sub-result : tie.Need-sub-result
-sub-result c = search needs
-
 returns : tie.Need-returns
 unfolding roomOf
 returns c =
@@ -35,4 +20,4 @@ returns-2 c =
 pub room-spec : {M : Type 1} → statement M
 room-spec =
     tie.close
-    (tie.spec data-size-requires gap-requires cast-if1 cast-result sub-result returns returns-2)
+    (tie.spec (λ c κs. search needs) (λ c κs. search needs) (λ c. search needs) (λ c. search needs) (λ c. search needs) returns returns-2)

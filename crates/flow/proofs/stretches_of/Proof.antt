@@ -5,9 +5,6 @@ use Rattle.flow.specs.Flow.{stretchesOf}
 use Rattle.flow.proofs.stretches_of.Statement.{statement}
 use Rattle.flow.proofs.stretches_of.Tie as tie
 
-first-part-requires : tie.Need-first-part-requires
-first-part-requires c κs = search needs
-
 returns : tie.Need-returns
 unfolding stretchesOf
 returns c = simp (eq-eqb _ _ (c .if1 .taken))
@@ -18,9 +15,6 @@ returns-2 c =
     let b = c .before .before in
     simp (ne-eqb _ _ (c .before .if1 .left), ← (b .first-part .ensures .0), eq-eqb _ _ (c .if2 .taken))
 
-sub-t8 : tie.Need-sub-t8
-sub-t8 c = search needs
-
 returns-3 : tie.Need-returns-3
 unfolding stretchesOf
 returns-3 c =
@@ -28,4 +22,4 @@ returns-3 c =
     simp (ne-eqb _ _ (c .before .if1 .left), ← (b .first-part .ensures .0), ne-eqb _ _ (c .if2 .left))
 
 pub stretches-of-spec : {M : Type 1} → statement M
-stretches-of-spec = tie.close (tie.spec first-part-requires returns returns-2 sub-t8 returns-3)
+stretches-of-spec = tie.close (tie.spec (λ c κs. search needs) returns returns-2 (λ c. search needs) returns-3)

@@ -4,9 +4,6 @@ use Rattle.flow.specs.Flow.{takenOf}
 use Rattle.flow.proofs.taken.Statement.{statement}
 use Rattle.flow.proofs.taken.Tie as tie
 
-cast-result : tie.Need-cast-result
-cast-result c = search needs
-
 returns : tie.Need-returns
 unfolding takenOf
 returns c = search needs
@@ -16,4 +13,4 @@ unfolding takenOf
 returns-2 c = search needs
 
 pub taken-spec : {M : Type 1} → statement M
-taken-spec = tie.close (tie.spec cast-result returns returns-2)
+taken-spec = tie.close (tie.spec (λ c. search needs) returns returns-2)

@@ -4,12 +4,9 @@ use Rattle.flow.specs.Flow.{roomOf, windowOf}
 use Rattle.flow.proofs.window.Statement.{statement}
 use Rattle.flow.proofs.window.Tie as tie
 
-room-requires : tie.Need-room-requires
-room-requires c κs = search needs
-
 returns : tie.Need-returns
 unfolding roomOf windowOf
 returns c = c .room .ensures
 
 pub window-spec : {M : Type 1} → statement M
-window-spec = tie.close (tie.spec room-requires returns)
+window-spec = tie.close (tie.spec (λ c κs. search needs) returns)

@@ -5,9 +5,6 @@ use borrow.Author.Tests.{leb-true}
 use Rattle.gauge.proofs.sampled.Statement.{statement}
 use Rattle.gauge.proofs.sampled.Tie as tie
 
-is-sample-requires : tie.Need-is-sample-requires
-is-sample-requires c κs = search needs
-
 next-requires : tie.Need-next-requires
 next-requires c κs = leb-true _ _ (sym (c .before .is-sample .ensures) ∙ c .if1 .taken)
 
@@ -18,4 +15,4 @@ returns-2 : tie.Need-returns-2
 returns-2 c = rw (← (c .before .is-sample .ensures), c .if1 .left)
 
 pub sampled-spec : {M : Type 1} → statement M
-sampled-spec = tie.close (tie.spec is-sample-requires next-requires returns returns-2)
+sampled-spec = tie.close (tie.spec (λ c κs. search needs) next-requires returns returns-2)

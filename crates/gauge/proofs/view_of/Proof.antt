@@ -6,15 +6,6 @@ use Rattle.gauge.specs.Gauge.{viewOf}
 use Rattle.gauge.proofs.view_of.Statement.{statement}
 use Rattle.gauge.proofs.view_of.Tie as tie
 
-enum-told : tie.Need-enum-told
-enum-told c = search needs
-
-enum-known-h : tie.Need-enum-known-h
-enum-known-h c = search needs
-
-enum-known-h-2 : tie.Need-enum-known-h-2
-enum-known-h-2 c = search needs
-
 returns : tie.Need-returns
 unfolding viewOf ofBits
 returns c = rw (c .enum-told .given .1)
@@ -29,4 +20,4 @@ returns-3 c = rw (c .before .h2 .given .1)
 
 pub view-of-spec : {M : Type 1} → statement M
 view-of-spec =
-    tie.close (tie.spec enum-told enum-known-h enum-known-h-2 returns returns-2 returns-3)
+    tie.close (tie.spec (λ c. search needs) (λ c. search needs) (λ c. search needs) returns returns-2 returns-3)

@@ -7,15 +7,6 @@ use borrow.Author.Needs.{needs}
 use Rattle.layout.proofs.byte.Statement.{statement}
 use Rattle.layout.proofs.byte.Tie as tie
 
-left-requires : tie.Need-left-requires
-left-requires c κs = search needs
-
-add-result : tie.Need-add-result
-add-result c = search needs
-
-shared-slice-read-result : tie.Need-shared-slice-read-result
-shared-slice-read-result c = search needs
-
 returns : tie.Need-returns
 returns c = let a = c .before .before .before .before .args in
     sym (getD-drop (a .at) (a .s .now) (a .i) 0)
@@ -26,4 +17,4 @@ returns-2 c = let b = c .before .before .before in
 
 pub byte-spec : {M : Type 1} → statement M
 byte-spec =
-    tie.close (tie.spec left-requires add-result shared-slice-read-result returns returns-2)
+    tie.close (tie.spec (λ c κs. search needs) (λ c. search needs) (λ c. search needs) returns returns-2)

@@ -16,15 +16,6 @@ Inv-loop s at n end x₀ i₀ x i = (i ≤ end) × (x ≡ numberAt s at i) × (x
 abbrev μ-loop : tie.MeasureT-loop
 μ-loop s at n end x₀ i₀ x i = end - i
 
-least-requires : tie.Need-least-requires Inv-loop μ-loop
-least-requires c κs = search needs
-
-left-requires : tie.Need-left-requires Inv-loop μ-loop
-left-requires c κs = search needs
-
-least-requires-2 : tie.Need-least-requires-2 Inv-loop μ-loop
-least-requires-2 c κs = search needs
-
 loop-holds : tie.Need-loop-holds Inv-loop μ-loop
 loop-holds c = (omega arith, sym (number-none _ _), omega arith)
 
@@ -33,25 +24,10 @@ mul-x c = let l = c .before .loop in
     let e : l .i ≤ 7 = omega arith in
     omega (arith, pow-mono {i = 8 * l .i} {j = 56} (omega arith))
 
-add-wide : tie.Need-add-wide Inv-loop μ-loop
-add-wide c = search needs
-
-shared-slice-read-wide : tie.Need-shared-slice-read-wide Inv-loop μ-loop
-shared-slice-read-wide c = search needs
-
-wide-requires : tie.Need-wide-requires Inv-loop μ-loop
-wide-requires c κs = search needs
-
 add-x : tie.Need-add-x Inv-loop μ-loop
 add-x c = let l = c .before .before .before .loop in
     let e : l .i ≤ 7 = omega arith in
     omega (arith, pow-mono {i = 8 * l .i} {j = 56} (omega arith))
-
-add-i : tie.Need-add-i Inv-loop μ-loop
-add-i c = search needs
-
-loop-less : tie.Need-loop-less Inv-loop μ-loop
-loop-less c = search needs
 
 loop-again : tie.Need-loop-again Inv-loop μ-loop
 loop-again c = let l = c .before .before .before .loop in
@@ -80,16 +56,16 @@ number-spec =
     (tie.spec
     Inv-loop
     μ-loop
-    least-requires
-    left-requires
-    least-requires-2
+    (λ c κs. search needs)
+    (λ c κs. search needs)
+    (λ c κs. search needs)
     loop-holds
     mul-x
-    add-wide
-    shared-slice-read-wide
-    wide-requires
+    (λ c. search needs)
+    (λ c. search needs)
+    (λ c κs. search needs)
     add-x
-    add-i
-    loop-less
+    (λ c. search needs)
+    (λ c. search needs)
     loop-again
     returns)

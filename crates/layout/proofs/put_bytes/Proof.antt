@@ -6,15 +6,6 @@ use borrow.Author.Needs.{needs}
 use Rattle.layout.proofs.put_bytes.Statement.{statement}
 use Rattle.layout.proofs.put_bytes.Tie as tie
 
-sub-if2 : tie.Need-sub-if2
-sub-if2 c = search needs
-
-copy-requires : tie.Need-copy-requires
-copy-requires c κs = search needs
-
-same-length : tie.Need-same-length
-same-length c = search needs
-
 returns : tie.Need-returns
 returns c = let b = c .before .before in
     b .copy .ensures ∙ sym (laid-in _ _ _ (omega arith))
@@ -26,4 +17,4 @@ returns-3 : tie.Need-returns-3
 returns-3 c = sym (laid-out _ _ _ (omega arith))
 
 pub put-bytes-spec : {M : Type 1} → statement M
-put-bytes-spec = tie.close (tie.spec sub-if2 copy-requires same-length returns returns-2 returns-3)
+put-bytes-spec = tie.close (tie.spec (λ c. search needs) (λ c κs. search needs) (λ c. search needs) returns returns-2 returns-3)

@@ -9,15 +9,6 @@ use borrow.Author.Needs.{needs}
 use Rattle.layout.proofs.put_zeros.Statement.{statement}
 use Rattle.layout.proofs.put_zeros.Tie as tie
 
-sub-if2 : tie.Need-sub-if2
-sub-if2 c = search needs
-
-wipe-requires : tie.Need-wipe-requires
-wipe-requires c κs = search needs
-
-same-length : tie.Need-same-length
-same-length c = search needs
-
 returns : tie.Need-returns
 returns c = let b = c .before .before in
     let a = b .before .before .before .before .before .args in
@@ -35,4 +26,4 @@ returns-3 c = let a = c .before .before .args in
     sym (laid-out (a .out .now) (replicate (a .n) 0) (a .at) (omega (arith, length-replicate {A = ℕ} (a .n) 0)))
 
 pub put-zeros-spec : {M : Type 1} → statement M
-put-zeros-spec = tie.close (tie.spec sub-if2 wipe-requires same-length returns returns-2 returns-3)
+put-zeros-spec = tie.close (tie.spec (λ c. search needs) (λ c κs. search needs) (λ c. search needs) returns returns-2 returns-3)

@@ -8,12 +8,6 @@ use Rattle.pool.proofs.Answers.{did, gives-3, gives-20, gives-back, giv
 use Rattle.pool.proofs.give_back.Statement.{statement}
 use Rattle.pool.proofs.give_back.Tie as tie
 
-is-sound-requires : tie.Need-is-sound-requires
-is-sound-requires c κs = search needs
-
-refused-requires : tie.Need-refused-requires
-refused-requires c κs = search needs
-
 returns : tie.Need-returns
 returns c =
     let r = c .refused .ensures in
@@ -25,12 +19,6 @@ is-sound c = sym (c .before .is-sound .ensures) ∙ not-false _ (c .if1 .left)
 
 was-given-out : (c : tie.Else2) → let a = c .before .before .before .before .before .before .args in givenOutB (a .t1) (a .start) (a .units) ≡ true
 was-given-out c = sym (c .before .is-given-out .ensures) ∙ not-false _ (c .if2 .left)
-
-is-given-out-requires : tie.Need-is-given-out-requires
-is-given-out-requires c κs = search needs
-
-refused-requires-2 : tie.Need-refused-requires-2
-refused-requires-2 c κs = search needs
 
 returns-2 : tie.Need-returns-2
 returns-2 c =
@@ -48,11 +36,11 @@ pub give-back-spec : {M : Type 1} → statement M
 give-back-spec =
     tie.close
     (tie.spec
-    is-sound-requires
-    refused-requires
+    (λ c κs. search needs)
+    (λ c κs. search needs)
     returns
-    is-given-out-requires
-    refused-requires-2
+    (λ c κs. search needs)
+    (λ c κs. search needs)
     returns-2
     array-write-after
     returns-3)

@@ -6,18 +6,9 @@ use Rattle.pool.specs.Steps.{aloneB}
 use Rattle.pool.proofs.is_alone.Statement.{statement}
 use Rattle.pool.proofs.is_alone.Tie as tie
 
-element-copy-out-wide : tie.Need-element-copy-out-wide
-element-copy-out-wide c = search needs
-
-wide-requires : tie.Need-wide-requires
-wide-requires c κs = search needs
-
 returns : tie.Need-returns
 unfolding aloneB
 returns c = rw (← c .before .wide .ensures .0, eq-eqb _ _ (c .if1 .taken))
-
-is-size-requires : tie.Need-is-size-requires
-is-size-requires c κs = search needs
 
 returns-2 : tie.Need-returns-2
 unfolding aloneB
@@ -25,32 +16,17 @@ returns-2 c =
     let w = c .before .before .before .wide in
     rw (← w .ensures .0, ne-eqb _ _ (c .before .before .if1 .left), ← c .before .is-size .ensures, not-true (c .before .is-size .result) (c .if2 .taken))
 
-rem-if3 : tie.Need-rem-if3
-rem-if3 c = search needs
-
 returns-3 : tie.Need-returns-3
 unfolding aloneB
 returns-3 c =
     let w = c .before .before .before .before .wide in
     rw (← w .ensures .0, ne-eqb _ _ (c .before .before .before .if1 .left), ← c .before .before .is-size .ensures, not-false (c .before .before .is-size .result) (c .before .if2 .left), ne-eqb _ _ (c .if3 .taken))
 
-add-if4 : tie.Need-add-if4
-add-if4 c = search needs
-
 returns-4 : tie.Need-returns-4
 unfolding aloneB
 returns-4 c =
     let w = c .before .before .before .before .before .wide in
     rw (← w .ensures .0, ne-eqb _ _ (c .before .before .before .before .if1 .left), ← c .before .before .before .is-size .ensures, not-false (c .before .before .before .is-size .result) (c .before .before .if2 .left), eq-eqb _ _ (c .before .if3 .left), lt-leb _ _ (c .if4 .taken))
-
-add-none-starts : tie.Need-add-none-starts
-add-none-starts c = search needs
-
-sub-none-starts : tie.Need-sub-none-starts
-sub-none-starts c = search needs
-
-none-starts-requires : tie.Need-none-starts-requires
-none-starts-requires c κs = search needs
 
 returns-5 : tie.Need-returns-5
 unfolding aloneB
@@ -62,16 +38,16 @@ pub is-alone-spec : {M : Type 1} → statement M
 is-alone-spec =
     tie.close
     (tie.spec
-    element-copy-out-wide
-    wide-requires
+    (λ c. search needs)
+    (λ c κs. search needs)
     returns
-    is-size-requires
+    (λ c κs. search needs)
     returns-2
-    rem-if3
+    (λ c. search needs)
     returns-3
-    add-if4
+    (λ c. search needs)
     returns-4
-    add-none-starts
-    sub-none-starts
-    none-starts-requires
+    (λ c. search needs)
+    (λ c. search needs)
+    (λ c κs. search needs)
     returns-5)

@@ -22,9 +22,6 @@ add-end c = omega arith
 loop-holds : tie.Need-loop-holds Inv-loop μ-loop
 loop-holds c = (omega arith, every-start _ _ _)
 
-is-free-requires : tie.Need-is-free-requires Inv-loop μ-loop
-is-free-requires c κs = search needs
-
 returns : tie.Need-returns Inv-loop μ-loop
 returns c =
     let a = c .before .before .before .before .args in
@@ -59,7 +56,7 @@ is-block-free-spec =
     μ-loop
     add-end
     loop-holds
-    is-free-requires
+    (λ c κs. search needs)
     returns
     add-u
     loop-less

@@ -23,9 +23,6 @@ loop-holds : tie.Need-loop-holds Inv-loop μ-loop
 unfolding freeB
 loop-holds c = (omega arith, refl)
 
-holds-requires : tie.Need-holds-requires Inv-loop μ-loop
-holds-requires c κs = search needs
-
 returns : tie.Need-returns Inv-loop μ-loop
 returns c =
     let a = c .before .before .before .before .args in
@@ -53,4 +50,4 @@ returns-2 c =
     sym (l .inv .1 ∙ every-end (spared (now (a .b)) (a .u)) (l .i) 64 (c .loop-test .left))
 
 pub is-free-spec : {M : Type 1} → statement M
-is-free-spec = tie.close (tie.spec Inv-loop μ-loop loop-holds holds-requires returns add-i loop-less loop-again returns-2)
+is-free-spec = tie.close (tie.spec Inv-loop μ-loop loop-holds (λ c κs. search needs) returns add-i loop-less loop-again returns-2)

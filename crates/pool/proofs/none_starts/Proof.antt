@@ -26,9 +26,6 @@ loop-holds c = (omega arith, every-start _ _ _)
 element-copy-out-wide : tie.Need-element-copy-out-wide Inv-loop μ-loop
 element-copy-out-wide c = omega arith
 
-wide-requires : tie.Need-wide-requires Inv-loop μ-loop
-wide-requires c κs = search needs
-
 returns : tie.Need-returns Inv-loop μ-loop
 returns c =
     let a = c .before .before .before .before .before .args in
@@ -64,7 +61,7 @@ none-starts-spec =
     add-end
     loop-holds
     element-copy-out-wide
-    wide-requires
+    (λ c κs. search needs)
     returns
     add-k
     loop-less

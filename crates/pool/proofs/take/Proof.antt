@@ -10,22 +10,10 @@ use Rattle.pool.proofs.Answers.{did, takes-3, takes-18, takes-19, takes
 use Rattle.pool.proofs.take.Statement.{statement}
 use Rattle.pool.proofs.take.Tie as tie
 
-is-sound-requires : tie.Need-is-sound-requires
-is-sound-requires c κs = search needs
-
-refused-requires : tie.Need-refused-requires
-refused-requires c κs = search needs
-
 returns : tie.Need-returns
 returns c =
     let r = c .refused .ensures in
     did _ _ _ (takes-3 _ _ (sym (c .before .before .is-sound .ensures) ∙ not-true _ (c .before .if1 .taken))) (r .0) (r .1)
-
-is-size-requires : tie.Need-is-size-requires
-is-size-requires c κs = search needs
-
-refused-requires-2 : tie.Need-refused-requires-2
-refused-requires-2 c κs = search needs
 
 -- what the two tests have shown
 is-sound : (c : tie.Else1) → soundB (c .before .before .before .args .t1) ≡ true
@@ -41,15 +29,6 @@ returns-2 c =
 
 find-requires : tie.Need-find-requires
 find-requires c κs = whole-pool _ (has-size (c .before))
-
-enum-told : tie.Need-enum-told
-enum-told c = search needs
-
-refused-requires-3 : tie.Need-refused-requires-3
-refused-requires-3 c κs = search needs
-
-enum-known-lowest : tie.Need-enum-known-lowest
-enum-known-lowest c = search needs
 
 cast-first : tie.Need-cast-first
 cast-first c =
@@ -77,16 +56,16 @@ pub take-spec : {M : Type 1} → statement M
 take-spec =
     tie.close
     (tie.spec
-    is-sound-requires
-    refused-requires
+    (λ c κs. search needs)
+    (λ c κs. search needs)
     returns
-    is-size-requires
-    refused-requires-2
+    (λ c κs. search needs)
+    (λ c κs. search needs)
     returns-2
     find-requires
-    enum-told
-    refused-requires-3
-    enum-known-lowest
+    (λ c. search needs)
+    (λ c κs. search needs)
+    (λ c. search needs)
     cast-first
     cast-after
     array-write-after

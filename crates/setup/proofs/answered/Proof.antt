@@ -5,21 +5,9 @@ use Rattle.setup.specs.Setup.{answeredOf}
 use Rattle.setup.proofs.answered.Statement.{statement}
 use Rattle.setup.proofs.answered.Tie as tie
 
-send-requires : tie.Need-send-requires
-send-requires c κs = search needs
-
 returns : tie.Need-returns
 unfolding answeredOf
 returns c = simp (c .send .ensures, eq-eqb _ 1 (c .before .if1 .taken))
-
-taken-requires : tie.Need-taken-requires
-taken-requires c κs = search needs
-
-arguments-of-requires : tie.Need-arguments-of-requires
-arguments-of-requires c κs = search needs
-
-send-requires-2 : tie.Need-send-requires-2
-send-requires-2 c κs = search needs
 
 returns-2 : tie.Need-returns-2
 unfolding answeredOf
@@ -35,9 +23,6 @@ returns-2 c =
       ne-eqb _ 1 (b .before .before .if1 .left),
     )
 
-send-requires-3 : tie.Need-send-requires-3
-send-requires-3 c κs = search needs
-
 returns-3 : tie.Need-returns-3
 unfolding answeredOf
 returns-3 c =
@@ -52,9 +37,6 @@ returns-3 c =
       ne-eqb _ 1 (b .before .before .if1 .left),
     )
 
-send-requires-4 : tie.Need-send-requires-4
-send-requires-4 c κs = search needs
-
 returns-4 : tie.Need-returns-4
 unfolding answeredOf
 returns-4 c =
@@ -65,13 +47,13 @@ pub answered-spec : {M : Type 1} → statement M
 answered-spec =
     tie.close
     (tie.spec
-    send-requires
+    (λ c κs. search needs)
     returns
-    taken-requires
-    arguments-of-requires
-    send-requires-2
+    (λ c κs. search needs)
+    (λ c κs. search needs)
+    (λ c κs. search needs)
     returns-2
-    send-requires-3
+    (λ c κs. search needs)
     returns-3
-    send-requires-4
+    (λ c κs. search needs)
     returns-4)

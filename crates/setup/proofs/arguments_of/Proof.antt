@@ -4,33 +4,6 @@ use Rattle.setup.specs.Setup.{argumentsOf}
 use Rattle.setup.proofs.arguments_of.Statement.{statement}
 use Rattle.setup.proofs.arguments_of.Tie as tie
 
-size-of-requires : tie.Need-size-of-requires
-size-of-requires c κs = search needs
-
-key-at-requires : tie.Need-key-at-requires
-key-at-requires c κs = search needs
-
-base-at-requires : tie.Need-base-at-requires
-base-at-requires c κs = search needs
-
-key-at-requires-2 : tie.Need-key-at-requires-2
-key-at-requires-2 c κs = search needs
-
-base-at-requires-2 : tie.Need-base-at-requires-2
-base-at-requires-2 c κs = search needs
-
-key-at-requires-3 : tie.Need-key-at-requires-3
-key-at-requires-3 c κs = search needs
-
-base-at-requires-3 : tie.Need-base-at-requires-3
-base-at-requires-3 c κs = search needs
-
-key-at-requires-4 : tie.Need-key-at-requires-4
-key-at-requires-4 c κs = search needs
-
-base-at-requires-4 : tie.Need-base-at-requires-4
-base-at-requires-4 c κs = search needs
-
 returns : tie.Need-returns
 unfolding argumentsOf
 returns c =
@@ -57,13 +30,13 @@ pub arguments-of-spec : {M : Type 1} → statement M
 arguments-of-spec =
     tie.close
     (tie.spec
-    size-of-requires
-    key-at-requires
-    base-at-requires
-    key-at-requires-2
-    base-at-requires-2
-    key-at-requires-3
-    base-at-requires-3
-    key-at-requires-4
-    base-at-requires-4
+    (λ c κs. search needs)
+    (λ c κs. search needs)
+    (λ c κs. search needs)
+    (λ c κs. search needs)
+    (λ c κs. search needs)
+    (λ c κs. search needs)
+    (λ c κs. search needs)
+    (λ c κs. search needs)
+    (λ c κs. search needs)
     returns)

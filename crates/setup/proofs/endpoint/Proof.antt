@@ -4,9 +4,6 @@ use Rattle.setup.specs.Setup.{ours}
 use Rattle.setup.proofs.endpoint.Statement.{statement}
 use Rattle.setup.proofs.endpoint.Tie as tie
 
-code-of-requires : tie.Need-code-of-requires
-code-of-requires c κs = search needs
-
 returns : tie.Need-returns
 unfolding ours
 returns c = simp (c .before .before .before .code-of .ensures)
@@ -15,5 +12,5 @@ pub endpoint-spec : {M : Type 1} → statement M
 endpoint-spec =
     tie.close
     (tie.spec
-    code-of-requires
+    (λ c κs. search needs)
     returns)

@@ -5,27 +5,15 @@ use Rattle.setup.specs.Setup.{heardOf}
 use Rattle.setup.proofs.heard.Statement.{statement}
 use Rattle.setup.proofs.heard.Tie as tie
 
-type-of-requires : tie.Need-type-of-requires
-type-of-requires c κs = search needs
-
-quiet-requires : tie.Need-quiet-requires
-quiet-requires c κs = search needs
-
 returns : tie.Need-returns
 unfolding heardOf
 returns c = simp (c .quiet .ensures, ← (c .before .before .type-of .ensures), eq-eqb _ 0 (c .before .if1 .taken))
-
-send-requires : tie.Need-send-requires
-send-requires c κs = search needs
 
 returns-2 : tie.Need-returns-2
 unfolding heardOf
 returns-2 c =
     let b = c .before in
     simp (c .send .ensures, ← (b .before .before .type-of .ensures), ne-eqb _ 0 (b .before .if1 .left), eq-eqb _ 4 (b .if2 .taken))
-
-quiet-requires-2 : tie.Need-quiet-requires-2
-quiet-requires-2 c κs = search needs
 
 returns-3 : tie.Need-returns-3
 unfolding heardOf
@@ -39,9 +27,6 @@ returns-3 c =
       ne-eqb _ 4 (b .before .if2 .left),
       ne-eqb _ _ (b .if3 .taken),
     )
-
-answered-requires : tie.Need-answered-requires
-answered-requires c κs = search needs
 
 returns-4 : tie.Need-returns-4
 unfolding heardOf
@@ -60,12 +45,12 @@ pub heard-spec : {M : Type 1} → statement M
 heard-spec =
     tie.close
     (tie.spec
-    type-of-requires
-    quiet-requires
+    (λ c κs. search needs)
+    (λ c κs. search needs)
     returns
-    send-requires
+    (λ c κs. search needs)
     returns-2
-    quiet-requires-2
+    (λ c κs. search needs)
     returns-3
-    answered-requires
+    (λ c κs. search needs)
     returns-4)

@@ -3,48 +3,6 @@ use borrow.Author.Needs.{needs}
 use Rattle.setup.proofs.send.Statement.{statement}
 use Rattle.setup.proofs.send.Tie as tie
 
-enum-told : tie.Need-enum-told
-enum-told c = search needs
-
-quiet-requires : tie.Need-quiet-requires
-quiet-requires c κs = search needs
-
-enum-told-2 : tie.Need-enum-told-2
-enum-told-2 c = search needs
-
-proposal-requires : tie.Need-proposal-requires
-proposal-requires c κs = search needs
-
-say-requires : tie.Need-say-requires
-say-requires c κs = search needs
-
-enum-told-3 : tie.Need-enum-told-3
-enum-told-3 c = search needs
-
-endpoint-requires : tie.Need-endpoint-requires
-endpoint-requires c κs = search needs
-
-say-requires-2 : tie.Need-say-requires-2
-say-requires-2 c κs = search needs
-
-enum-told-4 : tie.Need-enum-told-4
-enum-told-4 c = search needs
-
-endpoint-requires-2 : tie.Need-endpoint-requires-2
-endpoint-requires-2 c κs = search needs
-
-say-requires-3 : tie.Need-say-requires-3
-say-requires-3 c κs = search needs
-
-enum-told-5 : tie.Need-enum-told-5
-enum-told-5 c = search needs
-
-decline-requires : tie.Need-decline-requires
-decline-requires c κs = search needs
-
-say-requires-4 : tie.Need-say-requires-4
-say-requires-4 c κs = search needs
-
 returns : tie.Need-returns
 returns c = rw (c .before .enum-told .given .1) (c .quiet .ensures)
 
@@ -64,20 +22,20 @@ pub send-spec : {M : Type 1} → statement M
 send-spec =
     tie.close
     (tie.spec
-    enum-told
-    quiet-requires
-    enum-told-2
-    proposal-requires
-    say-requires
-    enum-told-3
-    endpoint-requires
-    say-requires-2
-    enum-told-4
-    endpoint-requires-2
-    say-requires-3
-    enum-told-5
-    decline-requires
-    say-requires-4
+    (λ c. search needs)
+    (λ c κs. search needs)
+    (λ c. search needs)
+    (λ c κs. search needs)
+    (λ c κs. search needs)
+    (λ c. search needs)
+    (λ c κs. search needs)
+    (λ c κs. search needs)
+    (λ c. search needs)
+    (λ c κs. search needs)
+    (λ c κs. search needs)
+    (λ c. search needs)
+    (λ c κs. search needs)
+    (λ c κs. search needs)
     returns
     returns-2
     returns-3

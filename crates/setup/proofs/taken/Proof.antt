@@ -4,9 +4,6 @@ use Rattle.setup.specs.Setup.{takenB}
 use Rattle.setup.proofs.taken.Statement.{statement}
 use Rattle.setup.proofs.taken.Tie as tie
 
-size-of-requires : tie.Need-size-of-requires
-size-of-requires c κs = search needs
-
 returns : tie.Need-returns
 unfolding takenB
 returns c = simp (c .size-of .ensures)
@@ -15,5 +12,5 @@ pub taken-spec : {M : Type 1} → statement M
 taken-spec =
     tie.close
     (tie.spec
-    size-of-requires
+    (λ c κs. search needs)
     returns)

@@ -1,0 +1,3 @@
+pub mod HeardLaws
+pub mod Parts
+pub mod Laws

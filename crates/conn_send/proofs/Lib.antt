@@ -1,0 +1,2 @@
+pub mod ProducedLaws
+pub mod Laws

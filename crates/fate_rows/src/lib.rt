@@ -1,1 +1,0 @@
-// Definitions and theorems only: link messages and link sends as worked rows, each through the rules of a whole group.

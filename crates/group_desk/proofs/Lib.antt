@@ -1,0 +1,3 @@
+pub mod LinkstateLaws
+pub mod OpeningLaws
+pub mod Laws

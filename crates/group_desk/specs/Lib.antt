@@ -1,0 +1,2 @@
+pub mod Linkstate
+pub mod Management

@@ -1,0 +1,4 @@
+pub mod MovingLaws
+pub mod Laws
+pub mod Returns
+pub mod LinkRowsLaws

@@ -1,0 +1,2 @@
+pub mod LinkDesk
+pub mod LinkRows

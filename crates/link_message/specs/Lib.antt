@@ -1,0 +1,3 @@
+pub mod Llc
+pub mod Layouts
+pub mod Names

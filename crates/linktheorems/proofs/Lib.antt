@@ -1,5 +1,0 @@
-pub mod Theorems
-pub mod Course
-pub mod TwoEnds
-pub mod TestLink
-pub mod Down

@@ -1,5 +1,0 @@
-pub mod Named
-pub mod Rows
-pub mod RoundTrip
-pub mod Table
-pub mod Adding

@@ -1,0 +1,3 @@
+pub mod DirectMade
+pub mod Direct
+pub mod Step

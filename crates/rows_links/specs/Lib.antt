@@ -1,0 +1,11 @@
+pub mod Vectors
+pub mod Rows
+pub mod Example
+pub mod Fates
+pub mod Stages
+pub mod Sends
+pub mod Refused
+pub mod Waiting
+pub mod Downs
+pub mod Samples
+pub mod All

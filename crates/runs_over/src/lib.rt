@@ -1,1 +1,0 @@
-// Definitions and theorems only: over which links an exchange is run, in the page's words.

@@ -1,3 +1,0 @@
-pub mod Steps
-pub mod Held
-pub mod Does

@@ -1,0 +1,27 @@
+-- `text_stream::output::text` is safe and ends: the loop stays within the text. Assumes nothing.
+use borrow.Author.Needs.{needs}
+use Prim.Native.Nat.{_-_, _≤_}
+use lib.ListN.{length}
+use Rattle.text_stream.proofs.output.text.Statement.{statement}
+use Rattle.text_stream.proofs.output.text.Tie as tie
+
+abbrev Inv-loop : tie.InvT-loop
+Inv-loop o₀ at s to₀ k₀ o to k = (k ≤ length s) × (to ≤ 65536)
+
+abbrev μ-loop : tie.MeasureT-loop
+μ-loop o₀ at s to₀ k₀ o to k = length s - k
+
+pub text-spec : {M : Type 1} → statement M
+text-spec =
+    tie.close
+    (tie.spec
+    Inv-loop
+    μ-loop
+    (λ c κs. search needs)
+    (λ c. search needs)
+    (λ c. search needs)
+    (λ c κs. search needs)
+    (λ c. search needs)
+    (λ c. search needs)
+    (λ c. search needs)
+    (λ c. search needs))

@@ -1,0 +1,4 @@
+pub mod RunsOver
+pub mod Statements
+pub mod Course
+pub mod TestLink
