@@ -51,7 +51,7 @@ impl<'a> Gathered<'a> {
 pub struct Pieces<'b, 'a> {
     head: &'a [u8],
     body: &'a [u8],
-    left: std::slice::Iter<'b, RawPiece>,
+    left: core::slice::Iter<'b, RawPiece>,
 }
 
 impl<'a> Iterator for Pieces<'_, 'a> {
