@@ -10,7 +10,7 @@ use borrow.Author.Tests.{ltb-true, ltb-false}
 use lib.Seq.{set-set, set-getD}
 use Rattle.pool.specs.Pool.{Books, sizeAt, sizeB}
 use Rattle.pool.specs.Statement.{In, Starts, Held, Fits, Sound, GivenOut}
-use Rattle.pool.proofs.Halves.{size-some}
+use Rattle.pool.proofs.Sizes.{size-some}
 use Rattle.pool.proofs.Sound.{own}
 use Rattle.pool.proofs.Units.{size-here, size-there, which, starts-there, in-there, held-then, then-held, here-held}
 

@@ -1,8 +1,10 @@
 pub mod Every
-pub mod Halves
+pub mod Sizes
 pub mod Sound
 pub mod Answers
 pub mod Units
+pub mod BlockByBlock
+pub mod Halves
 pub mod Changes
 pub mod Count
 pub mod Theorem

@@ -6,7 +6,7 @@ use native.Mathlib.Omega.{arith}
 use lib.Dec.{ltb, leb, eqb}
 use borrow.Author.Tests.{ltb-true, ltb-false, leb-true, eqb-true, eqb-false, not-false, lt-ltb, le-leb, eq-eqb, ne-eqb}
 use Rattle.pool.specs.Pool.{Books, sizeAt, inB, holdsB, every, freeB, sizeB, apartB, blockB, soundB}
-use Rattle.pool.specs.Steps.{emptyB, aloneB}
+use Rattle.pool.specs.Steps.{emptyB, placeB, aloneB}
 use Rattle.pool.specs.Statement.{In, Starts, Held, Sound}
 use Rattle.pool.proofs.Every.{every-at, every-of, every-not, every-false}
 
@@ -31,7 +31,7 @@ in-of start size u e = let p = both (leb start u) (ltb u (start + size)) e in (l
 pub of-in : (start size u : ℕ) → In start size u → inB start size u ≡ true
 of-in start size u p = rw (le-leb start u (p .0), lt-ltb u (start + size) (p .1))
 
-some-of : (x : ℕ) → eqb x 0 ≡ false → 0 < x
+pub some-of : (x : ℕ) → eqb x 0 ≡ false → 0 < x
 some-of zero e = absurd (eqb-false 0 0 e refl)
 some-of (suc x) e = omega arith
 
@@ -131,19 +131,19 @@ of-sound b S = every-of (blockB b) 0 64 (λ i _ l. by i l (eqb (sizeAt b i) 0) r
                 eqb-false k i f (sym (S .apart i k u (starts b i u l p) (starts b k u m q) p q))
 
 -- ---- and so does the code's
-record Alone (b : Books) (i : ℕ) : Type 0 where
-  sized : sizeB (sizeAt b i) ≡ true
-  multiple : eqb (i % sizeAt b i) 0 ≡ true
-  within : leb (i + sizeAt b i) 64 ≡ true
-  none : every (emptyB b) (i + 1) (sizeAt b i - 1) ≡ true
+pub record Alone (b : Books) (i : ℕ) : Type 0 where
+  pub sized : sizeB (sizeAt b i) ≡ true
+  pub multiple : eqb (i % sizeAt b i) 0 ≡ true
+  pub within : leb (i + sizeAt b i) 64 ≡ true
+  pub none : every (emptyB b) (i + 1) (sizeAt b i - 1) ≡ true
 
-alone : (b : Books) (i : ℕ) → aloneB b i ≡ true → Starts b i → Alone b i
-unfolding aloneB
+pub alone : (b : Books) (i : ℕ) → aloneB b i ≡ true → Starts b i → Alone b i
+unfolding aloneB placeB
 alone b i e s =
-    let p = both (sizeB (sizeAt b i)) _ (rw (empty-false b i s) at e) in
-    let q = both (eqb (i % sizeAt b i) 0) _ (p .1) in
-    let r = both (leb (i + sizeAt b i) 64) _ (q .1) in
-    record { sized = p .0; multiple = q .0; within = r .0; none = r .1 }
+    let p = both (sizeB (sizeAt b i) && eqb (i % sizeAt b i) 0) _ (rw (empty-false b i s) at e) in
+    let q = both (sizeB (sizeAt b i)) _ (p .0) in
+    let r = both (leb (i + sizeAt b i) 64) _ (p .1) in
+    record { sized = q .0; multiple = q .1; within = r .0; none = r .1 }
 
 alone-sound : (b : Books) → every (aloneB b) 0 64 ≡ true → Sound b
 alone-sound b e =
@@ -169,7 +169,7 @@ alone-sound b e =
     by i k u s t p q false x false y = let a : k ≤ i = ltb-false i k x in let c : i ≤ k = ltb-false k i y in omega arith
 
 sound-alone : (b : Books) → Sound b → every (aloneB b) 0 64 ≡ true
-unfolding aloneB
+unfolding aloneB placeB
 sound-alone b S = every-of (aloneB b) 0 64 (λ i _ l. by i l (eqb (sizeAt b i) 0) refl)
   where
     by : (i : ℕ) → i < 0 + 64 → (t : Bool) → eqb (sizeAt b i) 0 ≡ t → aloneB b i ≡ true

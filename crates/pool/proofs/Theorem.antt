@@ -14,7 +14,7 @@ use Rattle.pool.specs.declared.Found.the-variants.{At, Nothing}
 use Rattle.pool.specs.Pool.{Books, sizeAt, freePool, freeB, sizeB, soundB, fitsB, lowest, givenOutB, Call, take, giveBack, Says, refusal, block, returned, Done, refuses, takes, givesBack, answer, next}
 use Rattle.pool.specs.Statement.{In, Starts, Held, Fits, Lowest, Sound, GivenOut, NoneFree, EachAnswer, WhatIsLeft, Made, none-made, one-made, givenBy, returnedBy, sum, notFree, Tally}
 use Rattle.pool.proofs.Every.{lowest-at, lowest-is}
-use Rattle.pool.proofs.Halves.{size-some}
+use Rattle.pool.proofs.Sizes.{size-some}
 use Rattle.pool.proofs.Sound.{same-bool, sound-of, of-sound, held-of, of-held}
 use Rattle.pool.proofs.Answers.{takes-3, takes-18, takes-19, takes-at, gives-3, gives-20, gives-back}
 use Rattle.pool.proofs.Units.{free-of, not-held, fits-of, of-fits, none-free, of-none-free, given-of, of-given}

@@ -12,7 +12,7 @@ use Rattle.pool.specs.Pool.{Books, sizeAt, freeB, sizeB, fitsB, lowest, 
 use Rattle.pool.specs.Statement.{In, Starts, Held, Fits, GivenOut, NoneFree}
 use Rattle.pool.specs.declared.Found.the-variants.{Nothing}
 use Rattle.pool.proofs.Every.{every-at, every-of, every-not, lowest-none, none-lowest}
-use Rattle.pool.proofs.Halves.{fits-on, size-some}
+use Rattle.pool.proofs.Sizes.{fits-on, size-some}
 use Rattle.pool.proofs.Sound.{both, starts, held-of, of-held}
 
 pub free-of : (b : Books) (u : ℕ) → (Held b u → ⊥) → freeB b u ≡ true

@@ -2,9 +2,10 @@
 // none starts. Any books and numbers may be handed in. A call answers with what it says and the books that it leaves.
 ghost use mathlib.Core.Path.{_≡_};
 ghost use Prim.Native.Nat.{_+_, _≤_, _<_};
-ghost use Rattle.pool.specs.Pool.{holdsB, freeB, blockFreeB, every, sizeB, soundB, fitsB, lowest, givenOutB};
+ghost use mathlib.Core.Bool.{true};
+ghost use Rattle.pool.specs.Pool.{every, sizeB, soundB, fitsB, lowest, givenOutB};
 ghost use Rattle.pool.specs.Pool.{freePool, Call, Says, saysOf, Did};
-ghost use Rattle.pool.specs.Steps.{emptyB, aloneB, Part};
+ghost use Rattle.pool.specs.Steps.{emptyB, placeB, aloneB, Part, placeOf};
 
 // What a call says.
 pub enum Reply {
@@ -32,44 +33,6 @@ fn wide(x: u8) -> usize
     x as usize
 }
 
-// Whether the block that starts at i holds unit u.
-fn holds(b: &[u8; 64], i: usize, u: usize) -> bool
-    requires { ⌜ i < 64 ⌝ }
-    ensures { λ r. ⌜ r ≡ holdsB (now (b .entry)) i u ⌝ }
-{
-    let size = wide(b[i]);
-    (i <= u) & (u < i + size)
-}
-
-fn is_free(b: &[u8; 64], u: usize) -> bool
-    ensures { λ r. ⌜ r ≡ freeB (now (b .entry)) u ⌝ }
-{
-    let mut i = 0;
-    while i < 64 {
-        if holds(b, i, u) {
-            return false;
-        }
-        i += 1;
-    }
-    true
-}
-
-// Whether each unit of a block is free.
-fn is_block_free(b: &[u8; 64], start: usize, size: usize) -> bool
-    requires { ⌜ start + size ≤ 64 ⌝ }
-    ensures { λ r. ⌜ r ≡ blockFreeB (now (b .entry)) start size ⌝ }
-{
-    let end = start + size;
-    let mut u = start;
-    while u < end {
-        if !is_free(b, u) {
-            return false;
-        }
-        u += 1;
-    }
-    true
-}
-
 // 1, 2, 4, 8, 16, 32 or 64.
 fn is_size(n: usize) -> bool
     ensures { λ r. ⌜ r ≡ sizeB n ⌝ }
@@ -93,6 +56,34 @@ fn none_starts(b: &[u8; 64], start: usize, n: usize) -> bool
     true
 }
 
+// Whether a block of that size may start at i. (A remainder by a number that is known is no division.)
+fn is_place(i: usize, size: usize) -> bool
+    ensures { λ r. ⌜ r ≡ placeB i size ⌝ }
+{
+    if size == 1 {
+        return i % 1 == 0;
+    }
+    if size == 2 {
+        return i % 2 == 0;
+    }
+    if size == 4 {
+        return i % 4 == 0;
+    }
+    if size == 8 {
+        return i % 8 == 0;
+    }
+    if size == 16 {
+        return i % 16 == 0;
+    }
+    if size == 32 {
+        return i % 32 == 0;
+    }
+    if size == 64 {
+        return i % 64 == 0;
+    }
+    false
+}
+
 // Whether the block that starts at i, if one does, has a size, starts at a multiple of it, stays in the pool, and none starts further on
 // in it.
 fn is_alone(b: &[u8; 64], i: usize) -> bool
@@ -103,10 +94,7 @@ fn is_alone(b: &[u8; 64], i: usize) -> bool
     if size == 0 {
         return true;
     }
-    if !is_size(size) {
-        return false;
-    }
-    if i % size != 0 {
+    if !is_place(i, size) {
         return false;
     }
     if 64 < i + size {
@@ -115,7 +103,8 @@ fn is_alone(b: &[u8; 64], i: usize) -> bool
     none_starts(b, i + 1, size - 1)
 }
 
-// Whether no block overlaps another, leaves the pool, has another size or starts off a multiple of it.
+// Whether no block overlaps another, leaves the pool, has another size or starts off a multiple of it. Behind a block that is as it should
+// be it goes on.
 fn is_sound(b: &[u8; 64]) -> bool
     ensures { λ r. ⌜ r ≡ soundB (now (b .entry)) ⌝ }
 {
@@ -124,30 +113,52 @@ fn is_sound(b: &[u8; 64]) -> bool
         if !is_alone(b, i) {
             return false;
         }
-        i += 1;
+        let size = wide(b[i]);
+        if size == 0 {
+            i += 1;
+        } else {
+            i += size;
+        }
     }
     true
 }
 
-// The lowest block of the size asked that may be given out among the units from `at` on, `size` of them: these are halved, and halved
-// again, the lower half tried first, until the halves have the size asked.
-fn find(b: &[u8; 64], at: usize, size: usize, want: usize) -> Found
-    requires { ⌜ Part want at size ⌝ }
-    ensures { λ r. ⌜ r ≡ lowest (fitsB (now (b .entry)) want) at size ⌝ }
+// Where the lowest block of the size asked starts that may be given out among the units from `at` on, `size` of them; 64 where there is
+// none. These are halved, and halved again, the lower half tried first, until the halves have the size asked. What one block holds is not
+// halved. No block from before `at` reaches further, so only what starts in a half is looked at.
+fn find(b: &[u8; 64], at: usize, size: usize, want: usize) -> usize
+    requires { ⌜ Part (now b) want at size ⌝ }
+    ensures { λ r. ⌜ r ≡ placeOf (lowest (fitsB (now (b .entry)) want) at size) ⌝ }
 {
     if size <= want {
-        if is_block_free(b, at, want) {
-            return Found::At(at);
+        if none_starts(b, at, want) {
+            return at;
         }
-        return Found::Nothing;
+        return 64;
+    }
+    let held = wide(b[at]);
+    if size <= held {
+        return 64;
     }
     let half = size / 2;
     let middle = at + half;
     let lower = find(b, at, half, want);
-    match lower {
-        Found::At(start) => Found::At(start),
-        Found::Nothing => find(b, middle, half, want),
+    if lower < 64 {
+        return lower;
     }
+    find(b, middle, half, want)
+}
+
+// The lowest block of the size asked that may be given out.
+fn lowest_block(b: &[u8; 64], want: usize) -> Found
+    requires { ⌜ (soundB (now b) ≡ true) × (sizeB want ≡ true) ⌝ }
+    ensures { λ r. ⌜ r ≡ lowest (fitsB (now (b .entry)) want) 0 64 ⌝ }
+{
+    let start = find(b, 0, 64, want);
+    if start < 64 {
+        return Found::At(start);
+    }
+    Found::Nothing
 }
 
 // Whether a block of that size was given out in that place.
@@ -189,7 +200,7 @@ pub fn take(books: [u8; 64], units: u32) -> Outcome
     if !is_size(want) {
         return refused(books, 18);
     }
-    let lowest = find(&books, 0, 64, want);
+    let lowest = lowest_block(&books, want);
     match lowest {
         Found::Nothing => refused(books, 19),
         Found::At(start) => {

@@ -14,25 +14,19 @@ returns-2 : tie.Need-returns-2
 unfolding aloneB
 returns-2 c =
     let w = c .before .before .before .wide in
-    rw (← w .ensures .0, ne-eqb _ _ (c .before .before .if1 .left), ← c .before .is-size .ensures, not-true (c .before .is-size .result) (c .if2 .taken))
+    rw (← w .ensures .0, ne-eqb _ _ (c .before .before .if1 .left), ← c .before .is-place .ensures, not-true (c .before .is-place .result) (c .if2 .taken))
 
 returns-3 : tie.Need-returns-3
 unfolding aloneB
 returns-3 c =
     let w = c .before .before .before .before .wide in
-    rw (← w .ensures .0, ne-eqb _ _ (c .before .before .before .if1 .left), ← c .before .before .is-size .ensures, not-false (c .before .before .is-size .result) (c .before .if2 .left), ne-eqb _ _ (c .if3 .taken))
+    rw (← w .ensures .0, ne-eqb _ _ (c .before .before .before .if1 .left), ← c .before .before .is-place .ensures, not-false (c .before .before .is-place .result) (c .before .if2 .left), lt-leb _ _ (c .if3 .taken))
 
 returns-4 : tie.Need-returns-4
 unfolding aloneB
 returns-4 c =
     let w = c .before .before .before .before .before .wide in
-    rw (← w .ensures .0, ne-eqb _ _ (c .before .before .before .before .if1 .left), ← c .before .before .before .is-size .ensures, not-false (c .before .before .before .is-size .result) (c .before .before .if2 .left), eq-eqb _ _ (c .before .if3 .left), lt-leb _ _ (c .if4 .taken))
-
-returns-5 : tie.Need-returns-5
-unfolding aloneB
-returns-5 c =
-    let w = c .before .before .before .before .before .before .wide in
-    c .none-starts .ensures ∙ rw (← w .ensures .0, ne-eqb _ _ (c .before .before .before .before .before .if1 .left), ← c .before .before .before .before .is-size .ensures, not-false (c .before .before .before .before .is-size .result) (c .before .before .before .if2 .left), eq-eqb _ _ (c .before .before .if3 .left), le-leb _ _ (c .before .if4 .left))
+    c .none-starts .ensures ∙ rw (← w .ensures .0, ne-eqb _ _ (c .before .before .before .before .if1 .left), ← c .before .before .before .is-place .ensures, not-false (c .before .before .before .is-place .result) (c .before .before .if2 .left), le-leb _ _ (c .before .if3 .left))
 
 pub is-alone-spec : {M : Type 1} → statement M
 is-alone-spec =
@@ -46,8 +40,6 @@ is-alone-spec =
     (λ c. search needs)
     returns-3
     (λ c. search needs)
-    returns-4
-    (λ c. search needs)
     (λ c. search needs)
     (λ c κs. search needs)
-    returns-5)
+    returns-4)
