@@ -21,9 +21,11 @@ pub fn socket(role: Role, plan: &Plan) -> Result<Ended, Trouble> {
             // SAFETY: nobody writes the input while it is sent.
             let file = unsafe { input.bytes() };
             board.begin(role);
+            let mut at = 0;
             for piece in file.chunks(PIECE) {
                 stream.write_all(piece).tried("write to", SOCKET)?;
-                board.add(Mark::Head, piece.len() as u64);
+                at += piece.len();
+                board.set(Mark::Head, at as u64);
             }
         }
         Role::Host => {

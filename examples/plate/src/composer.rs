@@ -1,17 +1,9 @@
 //! The composer: sends the file, a part of it on each connection, and takes a receipt for each.
 
 use crate::end::{End, Ended, Trouble};
-use crate::plan::{Mark, Plan, Role};
-use std::sync::atomic::Ordering;
+use crate::plan::{Board, Count, Plan, Role};
 use std::thread;
 use std::time::Duration;
-
-/// What is offered to a send at most: half the peer's element, so that the host reads one half while the other is written. One connection
-/// alone, whose host has a processor of its own, does better with quarters.
-fn offer(plan: &Plan, quick: bool) -> usize {
-    let pieces = if plan.connections == 1 && quick { 4 } else { 2 };
-    (plan.element as usize - 4).div_ceil(pieces)
-}
 
 #[derive(Clone, Copy)]
 struct Part {
@@ -53,18 +45,17 @@ pub fn deliver(end: &mut End, plan: &Plan, file: &[u8]) -> Result<Ended, Trouble
                 part.done = true;
                 continue;
             }
-            let bytes = &file[part.next..part.end.min(part.next + offer(plan, end.wire.quick()))];
+            let bytes = &file[part.next..part.end.min(part.next + plan.piece(Role::Composer, end.wire.quick()))];
             let taken = end.send(slot, bytes)?;
             part.next += taken;
             part.waits = taken < bytes.len();
             worked |= taken > 0;
-            end.board.taken(slot).fetch_add(taken as u64, Ordering::AcqRel);
+            Board::add(end.board.taken(slot), taken as u64);
             if part.waits {
-                end.board.add(Mark::Blocked, 1);
+                end.count(Count::Blocked, 1);
             }
         }
         end.wire.flush()?;
-        end.wire.fill()?;
         while let Some((link, bytes)) = end.wire.next() {
             worked = true;
             let Some(slot) = end.hear(link, &bytes)? else { continue };
@@ -81,8 +72,7 @@ pub fn deliver(end: &mut End, plan: &Plan, file: &[u8]) -> Result<Ended, Trouble
             thread::sleep(Duration::from_micros(plan.pace));
         }
         if !worked && !end.over() {
-            end.wire.flush()?;
-            end.wire.wait()?;
+            end.wait()?;
         }
         if end.over() {
             end.wire.flush()?;

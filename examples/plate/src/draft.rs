@@ -7,10 +7,9 @@
 //! read, and were never written. What lies there is what open left.
 
 use crate::end::{End, Ended, Trouble};
-use crate::plan::{Plan, Role};
+use crate::plan::{Board, Plan, Role};
 use crate::{composer, host};
 use std::fmt::Write;
-use std::sync::atomic::Ordering;
 
 /// What the jobs say: no byte is in both, and neither has a zero.
 pub const DRAFT: &[u8] = b"draft-three-metres-under-the-keel;";
@@ -52,7 +51,6 @@ fn text(of: &[u8], len: usize) -> Vec<u8> {
 fn hear_until(end: &mut End, done: impl Fn(&End) -> bool) -> Result<(), Trouble> {
     while !done(end) {
         end.wire.flush()?;
-        end.wire.fill()?;
         let mut news = false;
         while let Some((link, bytes)) = end.wire.next() {
             news = true;
@@ -62,7 +60,7 @@ fn hear_until(end: &mut End, done: impl Fn(&End) -> bool) -> Result<(), Trouble>
             return Err(Trouble::Other("the other process has gone".to_string()));
         }
         if !news {
-            end.wire.wait()?;
+            end.wait()?;
         }
     }
     end.wire.flush()
@@ -82,7 +80,7 @@ pub fn composer(plan: &Plan) -> Result<Ended, Trouble> {
             while *at < goal {
                 let count = end.send(slot, &draft[*at..])?;
                 *at += count;
-                end.board.taken(slot).fetch_add(count as u64, Ordering::AcqRel);
+                Board::add(end.board.taken(slot), count as u64);
                 if count == 0 {
                     let room = end.record(slot).outbound.consumer;
                     hear_until(&mut end, |end| end.record(slot).outbound.consumer != room)?;
@@ -119,7 +117,7 @@ pub fn host(plan: &Plan, zeroes: bool) -> Result<Ended, Trouble> {
     let mut half = vec![0; data(plan) / 2];
     for slot in 1..=plan.connections {
         let count = end.read(slot, &mut half)?;
-        end.board.read(slot).fetch_add(count as u64, Ordering::AcqRel);
+        Board::add(end.board.read(slot), count as u64);
     }
     hear_until(&mut end, announced(drafted(plan).1))?;
     see(&end);

@@ -1,7 +1,7 @@
 //! One end: a group whose elements the other process writes, the card that writes into the other's, and the wire between them.
 
 use crate::links::{self, Keys};
-use crate::plan::{Board, Mark, Plan, Role};
+use crate::plan::{Board, Count, Plan, Role};
 use crate::system::Map;
 use crate::wire::{self, Wire};
 use fordlinnet::{
@@ -115,7 +115,7 @@ pub struct End<'a> {
     role: Role,
     group: Group<SharedMemory<'a>, Vec<Record>, Links>,
     card: Card<'a>,
-    pub wire: Wire,
+    pub wire: Wire<'a>,
     pub board: Board<'a>,
     /// The peer's keys, and where our own memory begins.
     peer: [RToken; 4],
@@ -145,7 +145,7 @@ impl<'a> End<'a> {
         let mut keys = Keys { own: [1, 2, 3, 4].map(|link| registered(role, link)), peer: [registered(other, 1); 4] };
         links::bring_up(&mut group, &mut keys, &stream)?;
         let card = Card { map, start: plan.start(other), len: plan.memory(), of: other, loses: 0, element: plan.element as usize };
-        let (wire, board, announced) = (Wire::new(stream, s == 1)?, Board::of(map), vec![0; s as usize]);
+        let (wire, board, announced) = (Wire::new(stream, role, plan, map)?, Board::of(map), vec![0; s as usize]);
         let (peer, start, quiet, freed) = (keys.peer, plan.start(role), Vec::new(), Vec::new());
         let mut end = End { role, group, card, wire, board, peer, start, quiet, freed, announced, notes: 0 };
         for slot in 1..=s {
@@ -195,12 +195,24 @@ impl<'a> End<'a> {
         self.wire.post(NOTE, &[0; Message::SIZE]);
     }
 
+    /// Counts for this end.
+    pub fn count(&self, count: Count, value: u64) {
+        Board::add(self.board.count(self.role, count), value);
+    }
+
+    /// Waits for the other process.
+    pub fn wait(&mut self) -> Result<(), Trouble> {
+        if self.wire.wait()? {
+            self.count(Count::Sleeps, 1);
+        }
+        Ok(())
+    }
+
     /// A message goes out on the link that its connection had when it was made.
     fn post(&mut self, link: u8, message: Option<&Message>) {
         if let Some(message) = message {
             self.wire.post(link, message.as_bytes());
-            let mark = if self.role == Role::Composer { Mark::ComposerMessages } else { Mark::HostMessages };
-            self.board.add(mark, 1);
+            self.count(Count::Messages, 1);
         }
     }
 
@@ -222,7 +234,7 @@ impl<'a> End<'a> {
             return Err(Trouble::Other(format!("element {slot} is torn")));
         }
         if read.message().is_some() {
-            self.board.add(Mark::Updates, 1);
+            self.count(Count::Updates, 1);
         }
         self.post(link, read.message());
         Ok(read.count())
@@ -247,7 +259,7 @@ impl<'a> End<'a> {
             return Ok(None);
         }
         if message.flags().failover {
-            self.board.add(Mark::FailoversHeard, 1);
+            self.count(Count::FailoversHeard, 1);
             // both have said C meanwhile: nothing is left to move
             if !self.record(slot).id.opened {
                 return Ok(None);
@@ -273,8 +285,8 @@ impl<'a> End<'a> {
         Ok(())
     }
 
-    /// A link message while the file is moved. Where it takes a link down, connections move: all that went over the old link is on the one
-    /// socket before the messages with F, so that these come last at the other end too.
+    /// A link message while the file is moved. Where it takes a link down, connections move: all that went over the old link is in the one
+    /// ring before the messages with F, so that these come last at the other end too.
     fn hear_link(&mut self, link: u8, bytes: &[u8; 44]) -> Result<(), Trouble> {
         let heard = self.group.link_message(link, bytes).map_err(|no| Trouble::Refused("link message", no))?;
         if heard.fate != Fate::Taken {
@@ -286,7 +298,7 @@ impl<'a> End<'a> {
         if let Some(target) = self.group.links().lowest_active() {
             for message in &heard.moved {
                 self.wire.post(target, message.as_bytes());
-                self.board.add(Mark::Moved, 1);
+                self.count(Count::Moved, 1);
             }
         }
         Ok(())

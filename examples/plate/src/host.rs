@@ -1,8 +1,7 @@
 //! The plate host: reads each connection's part of the file into the output, sends a receipt, and closes.
 
 use crate::end::{End, Ended, Trouble};
-use crate::plan::{Mark, Plan, Role, FAILING};
-use std::sync::atomic::Ordering;
+use crate::plan::{Board, Mark, Plan, Role, FAILING};
 use std::time::Instant;
 
 pub fn run(plan: &Plan) -> Result<Ended, Trouble> {
@@ -25,7 +24,6 @@ pub fn receive(end: &mut End, plan: &Plan, file: &mut [u8]) -> Result<Ended, Tro
     let start = Instant::now();
 
     while !(end.over() && end.wire.idle()) {
-        end.wire.fill()?;
         while let Some((link, bytes)) = end.wire.next() {
             if let Some(slot) = end.hear(link, &bytes)? {
                 news[slot as usize - 1] = true;
@@ -39,10 +37,13 @@ pub fn receive(end: &mut End, plan: &Plan, file: &mut [u8]) -> Result<Ended, Tro
             if end.record(slot).marks.sent.closed {
                 continue;
             }
-            let count = end.read(slot, &mut file[*at..part.end])?;
+            let most = plan.piece(Role::Host, end.wire.quick());
+            let count = end.read(slot, &mut file[*at..part.end.min(*at + most)])?;
             *at += count;
+            // there may be more
+            news[slot as usize - 1] = count == most;
             missing -= count;
-            end.board.read(slot).fetch_add(count as u64, Ordering::AcqRel);
+            Board::add(end.board.read(slot), count as u64);
             if end.record(slot).marks.heard.done && *at == part.end {
                 end.send(slot, &(part.len() as u64).to_be_bytes())?;
                 end.close(slot)?;
@@ -60,8 +61,8 @@ pub fn receive(end: &mut End, plan: &Plan, file: &mut [u8]) -> Result<Ended, Tro
             end.abort()?;
             return Ok(Ended::Aborted);
         }
-        if !end.over() {
-            end.wire.wait()?;
+        if !end.over() && !news.contains(&true) {
+            end.wait()?;
         }
     }
     Ok(Ended::InOrder)

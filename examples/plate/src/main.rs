@@ -18,7 +18,7 @@ use args::{Asked, Options, USAGE};
 use draft::Drafted;
 use end::{Ended, Tried, Trouble};
 use files::{Named, Nameless};
-use plan::{Board, Mark, Plan, Role, FAILING};
+use plan::{Board, Count, Mark, Plan, Role, FAILING};
 use std::fs;
 use std::io::{self, IsTerminal};
 use std::os::fd::OwnedFd;
@@ -124,6 +124,7 @@ struct Run {
     messages: [u64; 2],
     updates: u64,
     blocked: u64,
+    sleeps: [u64; 2],
     /// Messages with F made and heard.
     failovers: [u64; 2],
 }
@@ -212,10 +213,11 @@ fn run(way: Way, plan: &Plan, len: usize, kill: Option<(Role, u64)>) -> Result<R
         seconds: board.get(Mark::Nanoseconds) as f64 / 1e9,
         read: (1..=plan.connections).map(|slot| board.read(slot).load(Ordering::Acquire) as usize).collect(),
         fates,
-        messages: [board.get(Mark::ComposerMessages), board.get(Mark::HostMessages)],
-        updates: board.get(Mark::Updates),
-        blocked: board.get(Mark::Blocked),
-        failovers: [board.get(Mark::Moved), board.get(Mark::FailoversHeard)],
+        messages: board.counted(Count::Messages),
+        updates: board.counted(Count::Updates).iter().sum(),
+        blocked: board.counted(Count::Blocked).iter().sum(),
+        sleeps: board.counted(Count::Sleeps),
+        failovers: [Count::Moved, Count::FailoversHeard].map(|count| board.counted(count).iter().sum()),
     })
 }
 
@@ -288,6 +290,7 @@ fn work(o: &Options) -> Result<(), Trouble> {
                 println!("{len} bytes over {} connections, elements of {} bytes: the same file arrived", plan.connections, plan.element);
                 println!("messages: {} of the composer, {} of the host", run.messages[0], run.messages[1]);
                 println!("window updates: {}; sends cut short: {}", run.updates, run.blocked);
+                println!("sleeps: {} of the composer, {} of the host", run.sleeps[0], run.sleeps[1]);
                 if o.failover {
                     let [made, heard] = run.failovers;
                     check(made > 0 && made == heard, "the link went down too late: take a larger file or a lower --at")?;

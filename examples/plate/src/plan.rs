@@ -2,6 +2,7 @@
 
 use crate::end::{Tried, Trouble};
 use crate::system::{Map, Patience};
+use crate::wire::RING;
 use std::fs::{File, OpenOptions};
 use std::ops::Range;
 use std::path::{Path, PathBuf};
@@ -54,7 +55,7 @@ pub struct Plan {
 /// The link that is taken down.
 pub const FAILING: u8 = 1;
 
-/// The board: so many counters, in a page of its own.
+/// The board: so many bytes of counters, in pages of its own.
 const BOARD: usize = 8192;
 
 impl Plan {
@@ -86,11 +87,28 @@ impl Plan {
     /// Where the memory of a process begins in the shared file.
     pub fn start(&self, role: Role) -> usize {
         let before = if role == Role::Composer { 0 } else { self.memory() };
+        BOARD + 2 * RING.next_multiple_of(4096) + before.next_multiple_of(4096)
+    }
+
+    /// Where the ring begins in which a process posts its messages.
+    pub fn ring(&self, role: Role) -> usize {
+        let before = if role == Role::Composer { 0 } else { RING };
         BOARD + before.next_multiple_of(4096)
     }
 
     pub fn shared_bytes(&self) -> usize {
         self.start(Role::Host) + self.memory()
+    }
+
+    /// What is offered or read at once at most: half the peer's element, so that the host reads one half while the other is written. One
+    /// connection whose ends look for each other does better with quarters at both: the host's update leaves while it has more to read.
+    pub fn piece(&self, role: Role, quick: bool) -> usize {
+        let pieces = match (self.connections, role) {
+            (1, _) if quick => 4,
+            (_, Role::Composer) => 2,
+            (_, Role::Host) => 1,
+        };
+        (self.element as usize - 4).div_ceil(pieces)
     }
 
     /// The part of a file that a connection carries; slots count from 1.
@@ -113,7 +131,7 @@ impl Plan {
     }
 }
 
-/// Names of the board's counters.
+/// Names of the board's numbers.
 #[derive(Clone, Copy)]
 #[repr(usize)]
 pub enum Mark {
@@ -122,22 +140,33 @@ pub enum Mark {
     HostReady,
     /// Nanoseconds until the host had read the last byte.
     Nanoseconds,
-    ComposerMessages,
-    HostMessages,
-    /// Messages that reads made.
-    Updates,
-    /// Sends that were cut short.
-    Blocked,
-    /// Messages with F that the ends made and heard.
-    Moved,
-    FailoversHeard,
     /// Beside the core: bytes written, bytes read.
     Head,
     Tail,
 }
 
-/// Where the counters of slots begin.
-const READ: usize = 64;
+/// What each process counts for itself.
+#[derive(Clone, Copy)]
+#[repr(usize)]
+pub enum Count {
+    Messages,
+    /// Messages that reads made.
+    Updates,
+    /// Sends that were cut short.
+    Blocked,
+    /// Waits until the other process woke it.
+    Sleeps,
+    /// Messages with F that it made and heard.
+    Moved,
+    FailoversHeard,
+}
+
+/// A mark and a count have a cache line of their own, so that neither process waits for the other's.
+const LINE: usize = 8;
+
+/// Where the counts begin, and the counters of slots.
+const COUNTS: usize = 64;
+const READ: usize = 192;
 const TAKEN: usize = 512;
 
 /// Counters that all processes see, and that outlive one that is killed.
@@ -151,8 +180,8 @@ impl<'a> Board<'a> {
         Board { all: map.counters(0, BOARD / 8) }
     }
 
-    pub fn at(&self, mark: Mark) -> &'a AtomicU64 {
-        &self.all[mark as usize]
+    fn at(&self, mark: Mark) -> &'a AtomicU64 {
+        &self.all[LINE * mark as usize]
     }
 
     pub fn get(&self, mark: Mark) -> u64 {
@@ -163,8 +192,18 @@ impl<'a> Board<'a> {
         self.at(mark).store(value, Ordering::Release);
     }
 
-    pub fn add(&self, mark: Mark, value: u64) {
-        self.at(mark).fetch_add(value, Ordering::AcqRel);
+    /// Adds to a counter that no other process writes. It is no locked addition: that would wait until all that was just copied is written.
+    pub fn add(counter: &AtomicU64, value: u64) {
+        counter.store(counter.load(Ordering::Relaxed) + value, Ordering::Release);
+    }
+
+    pub fn count(&self, role: Role, count: Count) -> &'a AtomicU64 {
+        &self.all[COUNTS + LINE * (2 * count as usize + role as usize)]
+    }
+
+    /// What the composer and the host have counted.
+    pub fn counted(&self, count: Count) -> [u64; 2] {
+        [Role::Composer, Role::Host].map(|role| self.count(role, count).load(Ordering::Acquire))
     }
 
     /// How many bytes of its part a connection has read.

@@ -15,6 +15,7 @@ extern "C" {
     fn munmap(addr: *mut c_void, len: usize) -> i32;
     fn poll(fds: *mut PollFd, count: u64, timeout: i32) -> i32;
     fn memfd_create(name: *const c_char, flags: u32) -> i32;
+    fn sched_getcpu() -> i32;
     fn flock(fd: i32, operation: i32) -> i32;
     fn prctl(option: i32, ...) -> i32;
     fn signal(number: i32, handler: usize) -> usize;
@@ -26,7 +27,6 @@ const PROT_WRITE: i32 = 2;
 const MAP_SHARED: i32 = 0x01;
 const MAP_POPULATE: i32 = 0x8000;
 const POLLIN: i16 = 1;
-const POLLOUT: i16 = 4;
 const LOCK_EX: i32 = 2;
 const LOCK_NB: i32 = 4;
 const PR_SET_PDEATHSIG: i32 = 1;
@@ -44,12 +44,17 @@ struct PollFd {
     revents: i16,
 }
 
-/// Waits until the socket can be read, or written where `writes`; at most a tenth of a second.
-pub fn wait(fd: RawFd, writes: bool) {
-    let events = if writes { POLLIN | POLLOUT } else { POLLIN };
-    let mut fds = PollFd { fd, events, revents: 0 };
+/// Waits until the socket can be read; at most a tenth of a second.
+pub fn wait(fd: RawFd) {
+    let mut fds = PollFd { fd, events: POLLIN, revents: 0 };
     // SAFETY: one entry, which outlives the call.
     unsafe { poll(&mut fds, 1, 100) };
+}
+
+/// The processor that we run on.
+pub fn processor() -> u64 {
+    // SAFETY: asks, and no memory is touched.
+    unsafe { sched_getcpu() as u64 }
 }
 
 /// Memory without a name, which the processes that we start inherit: it is gone when the last of them ends, however that comes.
