@@ -75,7 +75,9 @@ static uint32_t offset_at(const struct end *peer, uint32_t key, uint64_t address
 
 static void place(struct end *peer, uint32_t key, uint64_t address, const uint8_t *bytes, uint32_t length) {
     uint32_t offset = offset_at(peer, key, address);
-    expect(fordlinnet_place(&peer->group, SLOT, offset, bytes, length) == 0, "the bytes are placed");
+    struct fordlinnet_answer a = fordlinnet_place(&peer->group, SLOT, offset, bytes, length);
+    expect(a.said == FORDLINNET_ACCEPTED, "the bytes are placed");
+    expect(fordlinnet_place_direct(&peer->group, SLOT, offset, bytes, length) == 0, "the small answer says the same");
     printf("%s: %u bytes are placed by key %u\n", peer->name, (unsigned)length, (unsigned)key);
 }
 
@@ -107,7 +109,7 @@ static int same_table(const struct fordlinnet_record *a, const struct fordlinnet
     return 1;
 }
 
-/* A hear, and the same by its number on a copy of the table before: it says and leaves the same. */
+/* A hear, and the hear with a small answer on a copy of the table before: it says and leaves the same. */
 static struct fordlinnet_answer hear(struct end *me, const uint8_t *bytes, size_t length) {
     struct fordlinnet_group copy = me->group;
     struct fordlinnet_record table[SLOTS];
@@ -116,9 +118,9 @@ static struct fordlinnet_answer hear(struct end *me, const uint8_t *bytes, size_
     struct fordlinnet_answer a;
     memcpy(table, me->table, sizeof table);
     copy.table = table;
-    a = fordlinnet_call(&copy, fordlinnet_command_of(FORDLINNET_HEAR, 0), bytes, length, 0, 0);
-    r = fordlinnet_hear(&me->group, bytes, length, message);
-    expect(r.refusal == a.refusal && r.made == a.made && r.state == a.state && r.moved == a.moved, "by its number it says the same");
+    r = fordlinnet_hear_direct(&copy, bytes, length, message);
+    a = fordlinnet_hear(&me->group, bytes, length);
+    expect(r.refusal == a.refusal && r.made == a.made && r.state == a.state && r.moved == a.moved, "the small answer says the same");
     expect(memcmp(message, a.message, sizeof message) == 0 && same_table(table, me->table), "the same message and record");
     return a;
 }
@@ -153,7 +155,7 @@ static void carry(struct end *peer, struct fordlinnet_answer a, const uint8_t *b
     }
 }
 
-/* A send or an urgent send, and the same by its number on a copy of the table before: it says and leaves the same. */
+/* A send or an urgent send by its number, and the one with a small answer on a copy of the table before: it says and leaves the same. */
 static struct fordlinnet_answer sent(struct end *me, uint32_t number, const char *bytes) {
     struct fordlinnet_group copy = me->group;
     struct fordlinnet_record table[SLOTS];
@@ -162,10 +164,10 @@ static struct fordlinnet_answer sent(struct end *me, uint32_t number, const char
     struct fordlinnet_answer a;
     memcpy(table, me->table, sizeof table);
     copy.table = table;
-    a = fordlinnet_call(&copy, fordlinnet_command_of(number, SLOT), (const uint8_t *)bytes, strlen(bytes), 0, 0);
-    r = (number == FORDLINNET_SEND ? fordlinnet_send : fordlinnet_urgent_send)(&me->group, SLOT, (const uint8_t *)bytes, strlen(bytes),
-                                                                               message);
-    expect(r.refusal == a.refusal && r.made == a.made && r.n == a.n && r.placings == a.placings, "by its number it says the same");
+    r = (number == FORDLINNET_SEND ? fordlinnet_send_direct : fordlinnet_urgent_send)(&copy, SLOT, (const uint8_t *)bytes, strlen(bytes),
+                                                                                      message);
+    a = fordlinnet_call(&me->group, fordlinnet_command_of(number, SLOT), (const uint8_t *)bytes, strlen(bytes), 0, 0);
+    expect(r.refusal == a.refusal && r.made == a.made && r.n == a.n && r.placings == a.placings, "the small answer says the same");
     expect(r.first.key == a.first.key && r.first.address == a.first.address && r.first.start == a.first.start, "the same placing");
     expect(r.first.len == a.first.len && r.second.address == a.second.address && r.second.len == a.second.len, "the same placings");
     expect(memcmp(message, a.message, sizeof message) == 0 && same_table(table, me->table), "the same message and record");
@@ -174,32 +176,31 @@ static struct fordlinnet_answer sent(struct end *me, uint32_t number, const char
 
 static struct fordlinnet_answer send(struct end *me, const char *bytes) { return sent(me, FORDLINNET_SEND, bytes); }
 
-/* A read, and the same by its number on a copy of the table before: it says and leaves the same. */
-static struct fordlinnet_answer read_into(struct end *me, uint8_t *out, size_t room) {
+/* The read with a small answer, on a copy of the table: it says and leaves the same. */
+static void read_again(const struct end *me, struct fordlinnet_record before, struct fordlinnet_answer a, const uint8_t *wanted) {
     struct fordlinnet_group copy = me->group;
     struct fordlinnet_record table[SLOTS];
-    uint8_t again[32], message[44] = {0};
+    uint8_t out[32], message[44] = {0};
     struct fordlinnet_read_answer r;
-    struct fordlinnet_answer a;
     memcpy(table, me->table, sizeof table);
+    table[SLOT - 1] = before;
     copy.table = table;
-    memcpy(again, out, room);
-    a = fordlinnet_call(&copy, fordlinnet_command_of(FORDLINNET_READ, SLOT), 0, 0, again, room);
-    r = fordlinnet_read(&me->group, SLOT, out, room, message);
-    expect(r.refusal == a.refusal && r.torn == (a.said == FORDLINNET_TORN), "by its number it says the same");
-    expect(r.n == a.n && r.made == a.made, "the same count and message");
-    expect(memcmp(out, again, room) == 0 && memcmp(message, a.message, sizeof message) == 0, "the same bytes");
+    memset(out, '.', sizeof out);
+    r = fordlinnet_read_direct(&copy, SLOT, out, sizeof out, message);
+    expect(r.refusal == 0 && !r.torn && r.n == a.n && r.made == a.made, "the small answer says the same");
+    expect(memcmp(out, wanted, sizeof out) == 0 && memcmp(message, a.message, sizeof message) == 0, "the same bytes");
     expect(same_table(table, me->table), "the same record");
-    return a;
 }
 
 static void read_all(struct end *me, const char *wanted) {
     uint8_t out[32];
     struct fordlinnet_answer a;
+    struct fordlinnet_record before = me->table[SLOT - 1];
     memset(out, '.', sizeof out);
-    a = read_into(me, out, sizeof out);
+    a = fordlinnet_read(&me->group, SLOT, out, sizeof out);
     expect(a.said == FORDLINNET_WAS_READ && a.n == strlen(wanted) && memcmp(out, wanted, a.n) == 0, wanted);
     expect(a.n == sizeof out || out[a.n] == '.', "out beyond n stays");
+    read_again(me, before, a, out);
     printf("%s: read %u bytes, \"%.*s\"\n", me->name, (unsigned)a.n, (int)a.n, (const char *)out);
     carry(me == &left ? &right : &left, a, out);
 }
@@ -373,14 +374,13 @@ static void abort_and_free(void) {
 /* A close with unread bytes resets the connection; an element whose eye catcher is damaged is torn. */
 static void reset_and_torn(void) {
     struct fordlinnet_answer a;
-    uint8_t out[1] = {0};
     open_towards(&left, &right);
     open_towards(&right, &left);
     carry(&right, send(&left, "unread"), text("unread"));
     a = finish(&right, FORDLINNET_CLOSE);
     expect(a.said == FORDLINNET_RESET && a.made, "unread bytes");
     left.memory[(SLOT - 1) * SIZE] ^= 1;
-    a = read_into(&left, out, 0);
+    a = fordlinnet_read(&left.group, SLOT, 0, 0);
     expect(a.said == FORDLINNET_TORN && a.made, "a damaged eye catcher");
     a = hear(&left, a.message, 43);
     expect(a.said == FORDLINNET_REFUSED && a.refusal == FORDLINNET_MALFORMED, "43 bytes are no message");

@@ -11,9 +11,9 @@
  *     thread touches them meanwhile;
  *   - a bool handed in, in a record or in links too, is 0 or 1.
  *
- * A refused call leaves memory, table, links and out bytes as they were, and its answer has the number in refusal, which is 0 where the
- * call did its work. What a message's bytes are for (made == true: 44 bytes in message, the answer's own or the lent one) is the caller's:
- * they go to the peer over the connection's link, and a link message's reply over the link that it came from.
+ * A refused call leaves memory, table, links and out bytes as they were, and its answer has said == FORDLINNET_REFUSED and the number in
+ * refusal. What a message's bytes are for (made == true: 44 bytes in message) is the caller's: they go to the peer over the
+ * connection's link, and a link message's reply over the link that it came from.
  *
  * When an element may be used again (RFC 7609, 4.4.2). A slot that closed by C sent and C heard, or by A heard, has nothing of its
  * connection under way to it, if the peer keeps the order of writes and messages: that is proved (NothingUnderWay, in
@@ -424,7 +424,7 @@ struct fordlinnet_placing {
 struct fordlinnet_answer {
     uint32_t said;
     uint32_t refusal;
-    uint32_t n; /* bytes taken or read, here and in the calls' own answers; `count` is of messages, or of a message's bytes */
+    uint32_t n; /* bytes taken or read, here and in the small answers; `count` is of messages, or of a message's bytes */
     uint32_t state;
     uint64_t moved;
     uint32_t health;
@@ -621,7 +621,7 @@ struct fordlinnet_answer fordlinnet_make(uint32_t s, uint32_t n, uint8_t *memory
                                          size_t table_length, struct fordlinnet_links links, struct fordlinnet_command command,
                                          const uint8_t *bytes, size_t bytes_length, uint8_t *out, size_t out_length);
 
-/* Reads, on the table itself and with an answer of its own, in which a field that is not named is zero: of the links it sees only states.
+/* Reads, on the table itself and with a small answer, in which a field that is not named is zero: of the links it sees only their states.
  * A message that is made is written to `message`, all of its 44 bytes; else they stay as they are. */
 struct fordlinnet_read_answer fordlinnet_make_read(uint32_t s, uint32_t n, const uint8_t *memory, size_t memory_length,
                                                    struct fordlinnet_record *table, size_t table_length,
@@ -899,7 +899,21 @@ static inline struct fordlinnet_answer fordlinnet_sample(struct fordlinnet_group
     return fordlinnet_call(g, c, 0, 0, 0, 0);
 }
 
-/* A connection's, each on the table itself. Each tests 1, then 2 (hear: 4, 5), 3, 6, 7, 16, 8, 9. */
+/* A connection's. Each tests 1, then 2 (hear: 4, 5), 3, 6, 7, 16, 8, 9. */
+
+/* Takes as many bytes as the peer has room for, and none while an urgent place of our own sends stands; the card is to write the placings
+ * before the message goes out. Refused with 1, 2, 3, 6, 7. */
+static inline struct fordlinnet_answer fordlinnet_send(struct fordlinnet_group *g, uint32_t slot, const uint8_t *bytes, size_t length) {
+    return fordlinnet_call(g, fordlinnet_command_of(FORDLINNET_SEND, slot), bytes, length, 0, 0);
+}
+
+/* What the card does for the peer: stores bytes at an offset of the element. Refused with 1, 2, 3, 6, 7, 9. */
+static inline struct fordlinnet_answer fordlinnet_place(struct fordlinnet_group *g, uint32_t slot, uint32_t offset, const uint8_t *bytes,
+                                                        size_t length) {
+    struct fordlinnet_command c = fordlinnet_command_of(FORDLINNET_PLACE, slot);
+    c.offset = offset;
+    return fordlinnet_call(g, c, bytes, length, 0, 0);
+}
 
 /* The states of a group's links. */
 static inline struct fordlinnet_link_states fordlinnet_states_of(const struct fordlinnet_group *g) {
@@ -910,28 +924,34 @@ static inline struct fordlinnet_link_states fordlinnet_states_of(const struct fo
     return states;
 }
 
-/* A call of a traced group is made by its number, which answers the same. */
+/* The calls below with a small answer are the faster form of a place, a send, a read and a hear. A traced group makes the plain call in
+ * their place, which answers the same. */
 static FORDLINNET_COLD uint8_t fordlinnet_place_traced(struct fordlinnet_group *g, uint32_t slot, uint32_t offset, const uint8_t *bytes,
                                                        size_t length) {
-    struct fordlinnet_command c = fordlinnet_command_of(FORDLINNET_PLACE, slot);
-    c.offset = offset;
-    return (uint8_t)fordlinnet_call(g, c, bytes, length, 0, 0).refusal;
+    return (uint8_t)fordlinnet_place(g, slot, offset, bytes, length).refusal;
 }
 
-/* What the card does for the peer: stores bytes at an offset of the element. The refusal's number, 1, 2, 3, 6, 7 or 9, or 0. */
-static inline uint8_t fordlinnet_place(struct fordlinnet_group *g, uint32_t slot, uint32_t offset, const uint8_t *bytes, size_t length) {
+/* A place with a small answer, and faster than fordlinnet_place: the refusal's number, or 0. */
+static inline uint8_t fordlinnet_place_direct(struct fordlinnet_group *g, uint32_t slot, uint32_t offset, const uint8_t *bytes,
+                                              size_t length) {
     uint8_t none[1] = {0};
     if (g->tracer) return fordlinnet_place_traced(g, slot, offset, bytes, length);
     return fordlinnet_make_place(g->s, g->n, g->memory, g->memory_length, g->table, g->table_length, fordlinnet_states_of(g), slot, offset,
                                  length ? bytes : none, length);
 }
 
-/* The message of a call that was made by its number. */
+/* Copies the first unread bytes to out, as many as it has room for; the rest of out stays. Refused with 1, 2, 3, 6, 7. */
+static inline struct fordlinnet_answer fordlinnet_read(struct fordlinnet_group *g, uint32_t slot, uint8_t *out, size_t room) {
+    return fordlinnet_call(g, fordlinnet_command_of(FORDLINNET_READ, slot), 0, 0, out, room);
+}
+
+/* The message of a plain answer, where the small one has it. */
 static inline void fordlinnet_message_to(uint8_t *message, const struct fordlinnet_answer *a) {
     int i;
     for (i = 0; a->made && i < FORDLINNET_MESSAGE_LENGTH; i++) message[i] = a->message[i];
 }
 
+/* A traced send or urgent send is made by its number, which answers the same. */
 static FORDLINNET_COLD struct fordlinnet_send_answer fordlinnet_send_traced(struct fordlinnet_group *g, uint32_t number, uint32_t slot,
                                                                             const uint8_t *bytes, size_t length, uint8_t *message) {
     struct fordlinnet_answer a = fordlinnet_call(g, fordlinnet_command_of(number, slot), bytes, length, 0, 0);
@@ -946,10 +966,9 @@ static FORDLINNET_COLD struct fordlinnet_send_answer fordlinnet_send_traced(stru
     return r;
 }
 
-/* Takes as many bytes as the peer has room for, and none while an urgent place of our own sends stands; the card is to write the placings
- * before the message goes out. A message that is made is written to `message`, which has 44 bytes. Refused with 1, 2, 3, 6, 7. */
-static inline struct fordlinnet_send_answer fordlinnet_send(struct fordlinnet_group *g, uint32_t slot, const uint8_t *bytes, size_t length,
-                                                            uint8_t *message) {
+/* A send with a small answer, and faster than fordlinnet_send: a message that is made is written to `message`, which has 44 bytes. */
+static inline struct fordlinnet_send_answer fordlinnet_send_direct(struct fordlinnet_group *g, uint32_t slot, const uint8_t *bytes,
+                                                                   size_t length, uint8_t *message) {
     uint8_t none[1] = {0};
     if (g->tracer) return fordlinnet_send_traced(g, FORDLINNET_SEND, slot, bytes, length, message);
     return fordlinnet_make_send(g->s, g->n, g->memory, g->memory_length, g->table, g->table_length, fordlinnet_states_of(g), slot,
@@ -1007,7 +1026,7 @@ static inline struct fordlinnet_gather_answer fordlinnet_gather(struct fordlinne
 
 static FORDLINNET_COLD struct fordlinnet_read_answer fordlinnet_read_traced(struct fordlinnet_group *g, uint32_t slot, uint8_t *out,
                                                                             size_t room, uint8_t *message) {
-    struct fordlinnet_answer a = fordlinnet_call(g, fordlinnet_command_of(FORDLINNET_READ, slot), 0, 0, out, room);
+    struct fordlinnet_answer a = fordlinnet_read(g, slot, out, room);
     struct fordlinnet_read_answer r;
     r.refusal = (uint8_t)a.refusal;
     r.torn = a.said == FORDLINNET_TORN;
@@ -1017,19 +1036,24 @@ static FORDLINNET_COLD struct fordlinnet_read_answer fordlinnet_read_traced(stru
     return r;
 }
 
-/* Copies the first unread bytes to out, as many as it has room for; the rest of out stays. A message that is made is written to `message`,
- * which has 44 bytes. Refused with 1, 2, 3, 6, 7. */
-static inline struct fordlinnet_read_answer fordlinnet_read(struct fordlinnet_group *g, uint32_t slot, uint8_t *out, size_t room,
-                                                            uint8_t *message) {
+/* A read with a small answer, and faster than fordlinnet_read: a message that is made is written to `message`, which has 44 bytes. */
+static inline struct fordlinnet_read_answer fordlinnet_read_direct(struct fordlinnet_group *g, uint32_t slot, uint8_t *out, size_t room,
+                                                                 uint8_t *message) {
     uint8_t none[1] = {0};
     if (g->tracer) return fordlinnet_read_traced(g, slot, out, room, message);
     return fordlinnet_make_read(g->s, g->n, g->memory, g->memory_length, g->table, g->table_length, fordlinnet_states_of(g), slot,
                                 room ? out : none, room, message);
 }
 
+/* Takes a message from the peer, for the slot whose token it carries. Refused with 1, 4, 5, 3, 6, 16, 8. One with F changes nothing if it
+ * names the last message heard; else a message is lost, and an abort message is made, state FORDLINNET_PEER_ABORT_WAIT. */
+static inline struct fordlinnet_answer fordlinnet_hear(struct fordlinnet_group *g, const uint8_t *bytes, size_t length) {
+    return fordlinnet_call(g, fordlinnet_command_of(FORDLINNET_HEAR, 0), bytes, length, 0, 0);
+}
+
 static FORDLINNET_COLD struct fordlinnet_hear_answer fordlinnet_hear_traced(struct fordlinnet_group *g, const uint8_t *bytes, size_t length,
                                                                             uint8_t *answer) {
-    struct fordlinnet_answer a = fordlinnet_call(g, fordlinnet_command_of(FORDLINNET_HEAR, 0), bytes, length, 0, 0);
+    struct fordlinnet_answer a = fordlinnet_hear(g, bytes, length);
     struct fordlinnet_hear_answer r;
     r.refusal = (uint8_t)a.refusal;
     r.made = a.made;
@@ -1039,17 +1063,16 @@ static FORDLINNET_COLD struct fordlinnet_hear_answer fordlinnet_hear_traced(stru
     return r;
 }
 
-/* Takes a message from the peer, for the slot whose token it carries. Refused with 1, 4, 5, 3, 6, 16, 8. One with F changes nothing if it
- * names the last message heard; else a message is lost, and an abort message is made, state FORDLINNET_PEER_ABORT_WAIT. A message that is
- * made is written to `answer`, which has 44 bytes. */
-static inline struct fordlinnet_hear_answer fordlinnet_hear(struct fordlinnet_group *g, const uint8_t *bytes, size_t length,
-                                                            uint8_t *answer) {
+/* A hear with a small answer, and faster than fordlinnet_hear: a message that is made is written to `answer`, which has 44 bytes. */
+static inline struct fordlinnet_hear_answer fordlinnet_hear_direct(struct fordlinnet_group *g, const uint8_t *bytes, size_t length,
+                                                                   uint8_t *answer) {
     uint8_t none[1] = {0};
     if (g->tracer) return fordlinnet_hear_traced(g, bytes, length, answer);
     return fordlinnet_make_hear(g->s, g->n, g->memory, g->memory_length, g->table, g->table_length, fordlinnet_states_of(g),
                                 length ? bytes : none, length, answer);
 }
 
+/* A traced shutdown, close or abort is made by its number, which answers the same. */
 static FORDLINNET_COLD struct fordlinnet_finish_answer fordlinnet_finish_traced(struct fordlinnet_group *g, uint32_t number, uint32_t slot,
                                                                                 uint8_t *message) {
     struct fordlinnet_answer a = fordlinnet_call(g, fordlinnet_command_of(number, slot), 0, 0, 0, 0);

@@ -34,9 +34,9 @@ struct card {
     bool up[2];
 };
 
-static void accepted(uint32_t refusal, const char *what) {
-    if (!refusal) return;
-    printf("%s is refused: %s\n", what, fordlinnet_refusal_words(refusal));
+static void accepted(uint32_t said, const char *what) {
+    if (said != FORDLINNET_REFUSED && said != FORDLINNET_UNKNOWN) return;
+    printf("refused: %s\n", what);
     exit(1);
 }
 
@@ -49,24 +49,25 @@ static void begin(struct end *e, bool server) {
     e->group.table = e->table;
     e->group.table_length = 1;
     if (!fordlinnet_fresh(&e->group, server)) exit(1);
-    accepted(fordlinnet_link_change(&e->group, LINK, true, e->moved, sizeof e->moved).refusal, "link change");
+    accepted(fordlinnet_link_change(&e->group, LINK, true, e->moved, sizeof e->moved).said, "link change");
 }
 
 static void open_slot(struct end *e, uint32_t own, uint32_t peer, uint32_t key) {
     struct fordlinnet_rtoken memory = {.key = key, .base = BASE};
     struct fordlinnet_remote remote = {.size = SIZE, .index = 1, .link1 = memory, .link2 = memory, .link3 = memory, .link4 = memory};
     struct fordlinnet_opening opening = {.own = own, .peer = peer, .link = LINK, .remote = remote};
-    accepted(fordlinnet_open(&e->group, SLOT, opening).refusal, "open");
+    accepted(fordlinnet_open(&e->group, SLOT, opening).said, "open");
 }
 
-static void send(struct end *e, const char *bytes, int pair, struct write *w, uint8_t *message) {
-    struct fordlinnet_send_answer a = fordlinnet_send(&e->group, SLOT, (const uint8_t *)bytes, strlen(bytes), message);
-    accepted(a.refusal, "send");
+static struct fordlinnet_answer send(struct end *e, const char *bytes, int pair, struct write *w) {
+    struct fordlinnet_answer a = fordlinnet_send(&e->group, SLOT, (const uint8_t *)bytes, strlen(bytes));
+    accepted(a.said, "send");
     w->pair = pair;
     w->key = a.first.key;
     w->address = a.first.address;
     w->length = a.first.len;
     memcpy(w->bytes, bytes + a.first.start, a.first.len);
+    return a;
 }
 
 /* What a card does with a write that arrives: it has a look at the queue pair and at the key, and at nothing else. */
@@ -88,8 +89,8 @@ static void run(enum rule rule, const char *title) {
     static struct end host, composer, next;
     struct card card = {.key = KEY, .up = {true, true}};
     struct write late, now;
-    struct fordlinnet_read_answer read;
-    uint8_t out[32], sent[FORDLINNET_MESSAGE_LENGTH], abort[FORDLINNET_MESSAGE_LENGTH], reply[FORDLINNET_MESSAGE_LENGTH];
+    struct fordlinnet_answer a, sent;
+    uint8_t out[32], abort[FORDLINNET_MESSAGE_LENGTH];
 
     printf("%s\n", title);
     begin(&host, true);
@@ -97,40 +98,40 @@ static void run(enum rule rule, const char *title) {
     begin(&next, false);
     open_slot(&host, 5, 6, 0);
     open_slot(&composer, 6, 5, card.key);
-    send(&composer, draft, DRAFTS, &late, sent);
+    sent = send(&composer, draft, DRAFTS, &late);
     printf("  the draft's send names %u bytes for address %u by key %u\n", (unsigned)late.length, (unsigned)late.address,
            (unsigned)late.key);
 
-    accepted(fordlinnet_abort(&host.group, SLOT, abort).refusal, "abort");
+    accepted(fordlinnet_abort(&host.group, SLOT, abort).refusal ? FORDLINNET_REFUSED : FORDLINNET_ACCEPTED, "abort");
     if (rule == ABORT_HEARD) {
         /* the composer's card performs its writes before the messages that follow them, and its A is one */
-        struct fordlinnet_hear_answer h = fordlinnet_hear(&composer.group, abort, sizeof abort, reply);
-        accepted(h.refusal, "hear");
+        struct fordlinnet_answer h = fordlinnet_hear(&composer.group, abort, sizeof abort);
+        accepted(h.said, "hear");
         arrive(&card, &host, &late);
-        accepted(fordlinnet_hear(&host.group, sent, sizeof sent, abort).refusal, "hear");
-        h = fordlinnet_hear(&host.group, reply, sizeof reply, abort);
-        accepted(h.refusal, "hear");
+        accepted(fordlinnet_hear(&host.group, sent.message, sizeof sent.message).said, "hear");
+        h = fordlinnet_hear(&host.group, h.message, sizeof h.message);
+        accepted(h.said, "hear");
         printf("  the host hears the composer's A: %s\n", fordlinnet_state_words(h.state));
     } else if (rule == BROKEN) {
-        accepted(fordlinnet_free(&host.group, SLOT).refusal, "free");
+        accepted(fordlinnet_free(&host.group, SLOT).said, "free");
         printf("  the host aborts and frees the slot\n");
     } else {
         if (rule == QUEUE_PAIR_DOWN) card.up[DRAFTS] = false;
         if (rule == KEY_REVOKED) card.key = NEW_KEY;
-        accepted(fordlinnet_free_when_no_write_can_arrive(&host.group, SLOT).refusal, "free");
+        accepted(fordlinnet_free_when_no_write_can_arrive(&host.group, SLOT).said, "free");
         printf("  the host aborts, %s, and frees the slot\n", rule == QUEUE_PAIR_DOWN ? "takes the queue pair down" : "revokes the key");
     }
 
     open_slot(&host, 15, 16, 0);
     open_slot(&next, 16, 15, card.key);
     printf("  the slot is open again\n");
-    send(&next, plate, PLATES, &now, sent);
+    a = send(&next, plate, PLATES, &now);
     arrive(&card, &host, &now);
     if (rule != ABORT_HEARD) arrive(&card, &host, &late);
-    accepted(fordlinnet_hear(&host.group, sent, sizeof sent, reply).refusal, "hear");
-    read = fordlinnet_read(&host.group, SLOT, out, sizeof out, reply);
-    accepted(read.refusal, "read");
-    printf("  read as the plate: %.*s\n", (int)read.n, (const char *)out);
+    accepted(fordlinnet_hear(&host.group, a.message, sizeof a.message).said, "hear");
+    a = fordlinnet_read(&host.group, SLOT, out, sizeof out);
+    accepted(a.said, "read");
+    printf("  read as the plate: %.*s\n", (int)a.n, (const char *)out);
 }
 
 int main(void) {

@@ -47,23 +47,25 @@ static void begin(struct end *e, bool server) {
     }
 }
 
-/* A message that was made, where one was. */
-static void carry(struct end *to, bool made, const uint8_t *message) {
-    uint8_t answer[FORDLINNET_MESSAGE_LENGTH];
-    if (made) fordlinnet_hear(&to->group, message, FORDLINNET_MESSAGE_LENGTH, answer);
+/* The card writes into the peer's memory itself, and no call of the peer's says so. */
+static void carry(struct end *from, struct end *to, const uint8_t *bytes, const struct fordlinnet_answer *a) {
+    const struct fordlinnet_placing *p[2] = {&a->first, &a->second};
+    uint32_t i;
+    (void)from;
+    for (i = 0; i < a->placings; i++) memcpy(to->memory + (p[i]->address & 4095), bytes + p[i]->start, p[i]->len);
+    if (a->made) fordlinnet_hear(&to->group, a->message, sizeof a->message);
 }
 
-/* The card writes into the peer's memory itself, and no call of the peer's says so. */
-static void carry_sent(struct end *to, const uint8_t *bytes, struct fordlinnet_send_answer a, const uint8_t *message) {
-    const struct fordlinnet_placing *p[2] = {&a.first, &a.second};
-    uint32_t i;
-    for (i = 0; i < a.placings; i++) memcpy(to->memory + (p[i]->address & 4095), bytes + p[i]->start, p[i]->len);
-    carry(to, a.made, message);
+static void carry_sent(struct end *from, struct end *to, const uint8_t *bytes, struct fordlinnet_send_answer s, const uint8_t *message) {
+    struct fordlinnet_answer a = {.placings = s.placings, .first = s.first, .second = s.second, .made = s.made};
+    if (s.made) memcpy(a.message, message, sizeof a.message);
+    carry(from, to, bytes, &a);
 }
 
 static void course(void) {
     struct end *a = &ends[0], *b = &ends[1];
     uint8_t out[40], message[FORDLINNET_MESSAGE_LENGTH];
+    struct fordlinnet_answer x;
     struct fordlinnet_send_answer s;
     struct fordlinnet_fields f = {.kind = FORDLINNET_ADD_LINK};
     struct fordlinnet_link_answer l;
@@ -78,16 +80,22 @@ static void course(void) {
     }
     for (round = 0; round < 5; round++) {
         static const uint8_t bytes[] = "depths in met";
-        s = fordlinnet_send(&a->group, 2, bytes, 13, message);
-        carry_sent(b, bytes, s, message);
-        /* every other message of a read is lost */
-        carry(a, fordlinnet_read(&b->group, 2, out, sizeof out, message).made && round % 2 == 0, message);
+        x = fordlinnet_send(&a->group, 2, bytes, 13);
+        carry(a, b, bytes, &x);
+        if (round % 2) {
+            fordlinnet_read_direct(&b->group, 2, out, sizeof out, message);
+        } else {
+            x = fordlinnet_read(&b->group, 2, out, sizeof out);
+            carry(b, a, out, &x);
+        }
     }
     s = fordlinnet_urgent_send(&b->group, 2, (const uint8_t *)"sand", 4, message);
-    carry_sent(a, (const uint8_t *)"sand", s, message);
-    carry(b, fordlinnet_read(&a->group, 2, out, 3, message).made, message);
-    fordlinnet_read(&a->group, 2, out, 0, message);
-    carry(b, fordlinnet_read(&a->group, 2, out, 9, message).made, message);
+    carry_sent(b, a, (const uint8_t *)"sand", s, message);
+    x = fordlinnet_read(&a->group, 2, out, 3);
+    carry(a, b, out, &x);
+    x = fordlinnet_read(&a->group, 2, out, 0);
+    x = fordlinnet_read(&a->group, 2, out, 9);
+    carry(a, b, out, &x);
     fordlinnet_gather(&b->group, 2, (const uint8_t *)"head", 4, (const uint8_t *)"and the body", 12, message);
 
     /* the server adds link 2, and link 1 goes down: the connection moves */
@@ -101,12 +109,12 @@ static void course(void) {
     fordlinnet_link_change(&a->group, 2, true, a->moved, sizeof a->moved);
     l = fordlinnet_link_change(&a->group, 1, false, a->moved, sizeof a->moved);
     fordlinnet_link_change(&a->group, 1, true, a->moved, 7);
-    carry(b, l.count == 1, a->moved);
-    carry(b, fordlinnet_shutdown(&a->group, 2, message).made, message);
-    carry(a, fordlinnet_close(&b->group, 2, message).made, message);
+    if (l.count == 1) fordlinnet_hear(&b->group, a->moved, FORDLINNET_MESSAGE_LENGTH);
+    if (fordlinnet_shutdown(&a->group, 2, message).made) fordlinnet_hear(&b->group, message, sizeof message);
+    if (fordlinnet_close(&b->group, 2, message).made) fordlinnet_hear(&a->group, message, sizeof message);
     fordlinnet_abort(&a->group, 2, message);
     fordlinnet_free(&a->group, 2);
-    carry(a, true, message);
+    fordlinnet_hear(&a->group, message, sizeof message);
 }
 
 /* Any call at any time. */
@@ -117,6 +125,7 @@ static void any(struct end *e, struct end *peer) {
     size_t length = below(sizeof bytes), i;
     uint32_t k;
     struct fordlinnet_fields f = {.kind = (uint8_t)below(11)};
+    struct fordlinnet_answer a;
     struct fordlinnet_link_answer l;
     for (i = 0; i < sizeof bytes; i++) bytes[i] = (uint8_t)below(256);
     switch (below(22)) {
@@ -129,20 +138,32 @@ static void any(struct end *e, struct end *peer) {
         case 2: fordlinnet_link_change(g, (uint8_t)link, below(4) > 0, e->moved, sizeof e->moved); break;
         case 3: fordlinnet_sample(g, (uint8_t)link, below(90000)); break;
         case 4:
-        case 5: carry(peer, fordlinnet_send(g, slot, bytes, length, message).made && below(8), message); break;
+        case 5:
+            a = fordlinnet_send(g, slot, bytes, length);
+            if (a.made && below(8)) fordlinnet_hear(&peer->group, a.message, sizeof a.message);
+            break;
         case 6: fordlinnet_urgent_send(g, slot, bytes, length, message); break;
-        case 7: fordlinnet_call(g, fordlinnet_command_of(FORDLINNET_SEND, slot), bytes, length, 0, 0); break;
+        case 7: fordlinnet_send_direct(g, slot, bytes, length, message); break;
         case 8: fordlinnet_gather(g, slot, bytes, length / 2, bytes + length / 2, length - length / 2, message); break;
         case 9:
         case 10: fordlinnet_place(g, slot, below(SIZE + 2), bytes, below(SIZE)); break;
         case 11:
-        case 12: carry(peer, fordlinnet_read(g, slot, out, length, message).made && below(2), message); break;
-        case 13: fordlinnet_hear(g, bytes, below(2) ? FORDLINNET_MESSAGE_LENGTH : length, message); break;
-        case 14: carry(peer, fordlinnet_shutdown(g, slot, message).made, message); break;
-        case 15: carry(peer, fordlinnet_close(g, slot, message).made, message); break;
+            a = fordlinnet_read(g, slot, out, length);
+            if (a.made) fordlinnet_hear(&peer->group, a.message, sizeof a.message);
+            break;
+        case 12: fordlinnet_read_direct(g, slot, out, length, message); break;
+        case 13: fordlinnet_hear(g, bytes, below(2) ? FORDLINNET_MESSAGE_LENGTH : length); break;
+        case 14:
+            if (fordlinnet_shutdown(g, slot, out).made) {
+                fordlinnet_hear_direct(&peer->group, out, FORDLINNET_MESSAGE_LENGTH, message);
+            }
+            break;
+        case 15:
+            if (fordlinnet_close(g, slot, message).made) fordlinnet_hear(&peer->group, message, sizeof message);
+            break;
         case 16:
             if (below(8)) break;
-            carry(peer, fordlinnet_abort(g, slot, message).made && below(2), message);
+            if (fordlinnet_abort(g, slot, message).made && below(2)) fordlinnet_hear(&peer->group, message, sizeof message);
             break;
         case 17:
             for (i = 0; i < 12; i++) f.values[i] = below(5);
