@@ -1,4 +1,6 @@
 // The cursor step under C's names, for `bench/`: as it is, and as it was before request 2026-02, when the wrap number was a remainder.
+#![tactic(auto)]
+
 ghost use Rattle.std.specs.Prelude.{◌≡◌, ◌+◌, ◌≤◌, ◌<◌};
 ghost use Rattle.cursor.specs.Cursor.{step_of, moved_of};
 ghost use Rattle.bench_cursor.specs.Stepped.{cursor_of, stepped_of};
@@ -6,7 +8,7 @@ ghost use Rattle.bench_cursor.specs.Stepped.{cursor_of, stepped_of};
 use cursor::Cursor;
 
 #[repr(C)]
-#[derive(Drop)]
+#[derive(Clone, Copy)]
 pub struct Stepped {
     pub offset: u32,
     pub wrap: u16,

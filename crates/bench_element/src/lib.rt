@@ -1,4 +1,6 @@
 // What a program in Rust or C links to store into, read from and clear an element of lent memory: the calls of `element` under C's names.
+#![tactic(auto)]
+
 ghost use Rattle.std.specs.Prelude.{◌≡◌};
 ghost use Rattle.element.specs.Element.{stored_of, read_of, cleared_of};
 

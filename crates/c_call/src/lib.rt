@@ -1,5 +1,7 @@
 // A call and its answer as flat structs, for callers in C and Rust: an exported function takes and returns no enum. A call is named by a
 // number, and what an answer says is a number with the fields that it names; every other field is zero.
+#![tactic(auto)]
+
 ghost use Rattle.std.specs.Prelude.{◌≡◌, []};
 ghost use Rattle.closing.specs.Closing.{number_of};
 ghost use Rattle.group_rules.specs.Rules.{placing_list, says_of, answer_of};
@@ -52,7 +54,7 @@ const LATE: u32 = 3;
 
 // One of the calls by its number; what the number does not name is not looked at.
 #[repr(C)]
-#[derive(Drop)]
+#[derive(Clone, Copy)]
 pub struct FlatCommand {
     pub number: u32,
     pub slot: u32,
@@ -64,7 +66,7 @@ pub struct FlatCommand {
 
 // The links with their gauges, our role, the exchange that runs and the messages that wait for its end.
 #[repr(C)]
-#[derive(Drop)]
+#[derive(Clone, Copy)]
 pub struct FlatLinks {
     pub active: [bool; 4],
     pub gauges: [Gauge; 4],
@@ -75,7 +77,7 @@ pub struct FlatLinks {
 
 // What a call answers, and the links that it leaves.
 #[repr(C)]
-#[derive(Drop)]
+#[derive(Clone, Copy)]
 pub struct FlatAnswer {
     pub said: u32,
     pub refusal: u32,
@@ -322,7 +324,7 @@ pub fn told(q: FlatCommand, links: FlatLinks, a: Answered) -> FlatAnswer
 
 // What a console shows of a link: the health's number, how many numbers are shown (the mean, then the worst), and the numbers.
 #[repr(C)]
-#[derive(Drop)]
+#[derive(Clone, Copy)]
 pub struct FlatView {
     pub health: u32,
     pub shown: u32,

@@ -1,5 +1,7 @@
 // Link change, link message and link send with flat structs, for callers in C and Rust (requests 2026-01 and 2026-13). A call is named by a
 // number, and what an answer says is a number with the fields that it names; every other field is zero.
+#![tactic(auto)]
+
 ghost use Rattle.std.specs.Prelude.{◌≡◌};
 ghost use Rattle.c_call_link.specs.FlatLink.{fate_number, kind_number, flat_fields, up_fate, flat_up, link_bare, link_named, said_number, refusal_number, link_told};
 ghost use Rattle.c_call_link.specs.FlatLink.{link_known_b, link_named_of, link_command_of, values_of, accepted_of, link_told_of};
@@ -30,7 +32,7 @@ const LINK_CHANGED: u32 = 15;
 
 // A link message's kind, which is its byte 0, and its values; zeros where none is named.
 #[repr(C)]
-#[derive(Drop)]
+#[derive(Clone, Copy)]
 pub struct FlatFields {
     pub kind: u8,
     pub values: [u64; 12],
@@ -38,7 +40,7 @@ pub struct FlatFields {
 
 // A message taken up from the queue: the link that it came over, its fate, its kind and values.
 #[repr(C)]
-#[derive(Drop)]
+#[derive(Clone, Copy)]
 pub struct FlatTakenUp {
     pub some: bool,
     pub link: u8,
@@ -48,7 +50,7 @@ pub struct FlatTakenUp {
 
 // One of the three calls by its number; what the number does not name is not looked at.
 #[repr(C)]
-#[derive(Drop)]
+#[derive(Clone, Copy)]
 pub struct FlatLinkCommand {
     pub number: u32,
     pub link: u8,
@@ -58,7 +60,7 @@ pub struct FlatLinkCommand {
 
 // What a call answers, the message taken up from the queue, how many messages with F stand in the buffer, and the links that it leaves.
 #[repr(C)]
-#[derive(Drop)]
+#[derive(Clone, Copy)]
 pub struct FlatLinkAnswer {
     pub said: u32,
     pub refusal: u32,

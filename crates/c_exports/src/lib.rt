@@ -1,5 +1,7 @@
 // What a program in C or Rust links: the calls under C's names, with flat structs (bindings/c/fordlinnet.h). A slice is a pointer and a
 // length. Nothing is asked of what is lent.
+#![tactic(auto)]
+
 ghost use Rattle.std.specs.Prelude.{◌≡◌};
 ghost use Rattle.gauge.specs.Gauge.{health_of, view_of};
 ghost use Rattle.conn_record.specs.Connection.{zero_record};

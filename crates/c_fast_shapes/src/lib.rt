@@ -1,4 +1,6 @@
 // For a binding's test: the structs of the direct calls, filled as those of crate `c_shapes` are (document 02, 2026-11).
+#![tactic(auto)]
+
 ghost use Rattle.std.specs.Prelude.{◌≡◌};
 ghost use Rattle.c_fast_shapes.specs.DirectShapes.{shape_link_states, shape_read_answer, shape_send_answer, shape_hear_answer};
 ghost use Rattle.c_fast_shapes.specs.DirectShapes.{shape_finish_answer, shape_gather_answer};

@@ -1,6 +1,8 @@
 // Gather, a head and a body sent as if joined, on the lent table itself and with a small answer, for a program in C or Rust (document 02,
 // 2026-08 and 2026-11). It is the send of the joined length (crate `c_send`); its pieces are that send's placings, cut where the head
 // ends (crate `plan_gather`), so that no record is in its answer.
+#![tactic(auto)]
+
 ghost use Rattle.std.specs.Prelude.{◌≡◌, false, ◌+◌, length};
 ghost use Rattle.group_table.specs.declared.Links.{Links};
 ghost use Rattle.group_table.specs.Table.{record_at};

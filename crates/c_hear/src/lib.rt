@@ -2,6 +2,8 @@
 // 2026-11). It is given the links' states in place of the links, and writes a message that it makes into a lent buffer.
 //
 // The record is read where it is needed and its changed fields alone are put back, as in crate `c_read`.
+#![tactic(auto)]
+
 ghost use Rattle.std.specs.Prelude.{◌≡◌, ◌||◌};
 ghost use Rattle.group_table.specs.declared.Links.{Links};
 ghost use Rattle.group_table.specs.Table.{active_b, record_at, with_record};

@@ -1,5 +1,7 @@
 // The calls on links, for a program in C or Rust (document 02, 2026-13): apart from `exports`, so that the loop over the table is compiled
 // with one caller of the coherence test.
+#![tactic(auto)]
+
 ghost use Rattle.group_rules.specs.Rules.{group_of};
 ghost use Rattle.c_call.specs.Flat.{links_in};
 ghost use Rattle.c_call_link.specs.FlatLink.{LinkMade};

@@ -2,6 +2,8 @@
 // 2026-11). It is given the links' states in place of the links.
 //
 // The tests leave one by one, and the record is read where they need it (docs/SPEED.md).
+#![tactic(auto)]
+
 ghost use Rattle.std.specs.Prelude.{◌≡◌};
 ghost use Rattle.conn_receive.specs.Receive.{may_place};
 ghost use Rattle.group_table.specs.declared.Links.{Links};

@@ -1,4 +1,6 @@
 // The pool's calls with flat structs, for callers in C and Rust: the books by value, and what a call says as a number.
+#![tactic(auto)]
+
 ghost use Rattle.std.specs.Prelude.{◌≡◌};
 ghost use Rattle.pool.specs.Pool.{says_of, free_pool};
 ghost use Rattle.pool.specs.Pool as Pool;
@@ -14,14 +16,14 @@ const BLOCK: u32 = 10;
 const RETURNED: u32 = 11;
 
 #[repr(C)]
-#[derive(Drop)]
+#[derive(Clone, Copy)]
 pub struct Books {
     pub sizes: [u8; 64],
 }
 
 // What a call says, with a refusal's number or a block's start, and the books that it leaves.
 #[repr(C)]
-#[derive(Drop)]
+#[derive(Clone, Copy)]
 pub struct PoolAnswer {
     pub said: u32,
     pub refusal: u32,

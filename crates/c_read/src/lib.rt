@@ -1,5 +1,7 @@
 // Read, on the lent table itself and with a small answer, for a program in C or Rust (document 01, "Calls of a connection"; document 02,
 // 2026-11). It is given the links' states in place of the links, and writes a message that it makes into a lent buffer.
+#![tactic(auto)]
+
 ghost use Rattle.std.specs.Prelude.{◌≡◌};
 ghost use Rattle.element.specs.Element.{base_of, intact_at};
 ghost use Rattle.group_table.specs.declared.Links.{Links};

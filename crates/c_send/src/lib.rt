@@ -4,6 +4,8 @@
 //
 // The record is read where it is needed and its changed fields alone are put back: a record by value through each step costs more than the
 // step (docs/SPEED.md).
+#![tactic(auto)]
+
 ghost use Rattle.std.specs.Prelude.{◌≡◌, false};
 ghost use Rattle.group_table.specs.declared.Links.{Links};
 ghost use Rattle.group_table.specs.Table.{record_at, with_record};

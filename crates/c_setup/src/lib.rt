@@ -1,4 +1,6 @@
 // Set-up with flat structs, for callers in C and Rust: the message due by its number, and the answer without enums.
+#![tactic(auto)]
+
 ghost use Rattle.std.specs.Prelude.{◌≡◌};
 ghost use Rattle.c_setup.specs.FlatSetup.{no_arguments, due_of, bare_setup, with_opening, with_diagnosis, flat_of, flat_setup};
 
@@ -16,7 +18,7 @@ const CONFIRM: u32 = 3;
 
 // The message to send (its count of bytes, and zeros behind), an open's arguments where `opens`, a diagnosis where `declined`.
 #[repr(C)]
-#[derive(Drop)]
+#[derive(Clone, Copy)]
 pub struct SetupAnswer {
     pub said: u32,
     pub refusal: u32,

@@ -1,6 +1,8 @@
 // Each struct of the exported calls with known values, so that a binding's declaration of it can be held to what the proved side has.
 // Scalars are counted from 1 as they are declared, through structs and arrays of structs or bools; an array of bytes counts as one. Number i
 // has i in its lowest and its highest byte, and is i as a float; a bool is whether `one` is i; each byte of an array is i.
+#![tactic(auto)]
+
 ghost use Rattle.std.specs.Prelude.{◌≡◌};
 ghost use Rattle.c_shapes.specs.Shapes.{shape_record, shape_links, shape_command, shape_link_command, shape_answer, shape_link_answer};
 ghost use Rattle.c_shapes.specs.Shapes.{shape_view, shape_pool_answer, shape_settings, shape_setup_answer};

@@ -1,5 +1,7 @@
 // Shutdown, for a program in C or Rust, compiled apart from all others (docs/SPEED.md): crate `plan_finish`'s function, with a lent buffer for
 // the message.
+#![tactic(auto)]
+
 ghost use Rattle.std.specs.Prelude.{◌≡◌};
 ghost use Rattle.group_table.specs.declared.Links.{Links};
 ghost use Rattle.group_rules.specs.Rules.{group_of, shutdown};

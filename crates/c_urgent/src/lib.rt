@@ -1,5 +1,7 @@
 // Urgent send for a program in C or Rust, on the lent table itself (crate `c_send`): compiled apart from all others, which is what
 // makes it fast.
+#![tactic(auto)]
+
 ghost use Rattle.std.specs.Prelude.{◌≡◌, true};
 ghost use Rattle.group_table.specs.declared.Links.{Links};
 ghost use Rattle.group_rules.specs.Rules.{group_of};

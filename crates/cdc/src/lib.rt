@@ -1,4 +1,6 @@
 // The 44-byte Connection Data Control message (document 01, "The 44-byte message"; RFC 7609, Appendix A.4).
+#![tactic(auto)]
+
 ghost use Rattle.std.specs.Prelude.{◌≡◌, ◌+◌, ◌*◌, ◌≤◌, ◌<◌, length};
 ghost use Rattle.cdc.specs.Cdc.{encode_of, decode_of, num2, num4, cursor_of, flags_of, fields_of, weight_of, high_byte, low_byte};
 
@@ -6,7 +8,7 @@ use cursor::Cursor;
 
 // B writer blocked, P urgent data pending, U urgent data present, R cursor update requested, F failover validation; D done writing,
 // C closed, A abort.
-#[derive(Drop)]
+#[derive(Clone, Copy)]
 pub struct Flags {
     pub blocked: bool,
     pub pending: bool,
@@ -18,7 +20,7 @@ pub struct Flags {
     pub abort: bool,
 }
 
-#[derive(Drop)]
+#[derive(Clone, Copy)]
 pub struct Message {
     pub sequence: u16,
     pub token: u32,
@@ -28,7 +30,7 @@ pub struct Message {
 }
 
 // What bytes are read as: a message, or refusal 4's case.
-#[derive(Drop)]
+#[derive(Clone, Copy)]
 pub enum Decoded {
     Good(Message),
     Malformed,

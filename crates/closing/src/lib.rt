@@ -1,10 +1,12 @@
 // Close marks, and the state that they name (document 01, "State names"; RFC 7609, Figure 22).
+#![tactic(auto)]
+
 ghost use Rattle.std.specs.Prelude.{◌≡◌, cond, ◌≤◌, ◌<◌};
 ghost use Rattle.closing.specs.Closing.{packed_of, number_of, close_state_of, state_at, state_of, first_of, done_sent, closed_sent, abort_sent, marks_heard};
 
 // One side's marks: D done writing, C closed.
 #[repr(C)]
-#[derive(Drop)]
+#[derive(Clone, Copy)]
 pub struct Side {
     pub done: bool,
     pub closed: bool,
@@ -12,7 +14,7 @@ pub struct Side {
 
 // `first`: ours came first, set with our first D or C if none was heard. `abort`: A sent.
 #[repr(C)]
-#[derive(Drop)]
+#[derive(Clone, Copy)]
 pub struct Marks {
     pub sent: Side,
     pub heard: Side,
@@ -20,7 +22,7 @@ pub struct Marks {
     pub abort: bool,
 }
 
-#[derive(Drop)]
+#[derive(Clone, Copy)]
 pub enum State {
     Active,
     PeerCloseWait1,

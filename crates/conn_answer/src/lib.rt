@@ -1,4 +1,6 @@
 // What a call on one record answers and leaves, and making a message (document 01, "The 44-byte message").
+#![tactic(auto)]
+
 ghost use Rattle.std.specs.Prelude.{◌≡◌, Bool};
 ghost use Rattle.conn_answer.specs.Outcome.{message_of, pending_of, told_in, used_in, told_of, silent_of, outcome_of, urgent_outcome, refused_of};
 ghost use Rattle.conn_answer.specs.Outcome.{closed_if};
@@ -10,7 +12,7 @@ use gauge::Health;
 
 // Bytes for the card to write: the peer's memory key and an address, a start in the bytes sent, and a length.
 #[repr(C)]
-#[derive(Drop)]
+#[derive(Clone, Copy)]
 pub struct Placing {
     pub key: u32,
     pub address: u64,
@@ -18,7 +20,7 @@ pub struct Placing {
     pub len: u32,
 }
 
-#[derive(Drop)]
+#[derive(Clone, Copy)]
 pub enum Placings {
     Nowhere,
     One(Placing),
@@ -26,7 +28,7 @@ pub enum Placings {
 }
 
 // What a call's line names, beside the message.
-#[derive(Drop)]
+#[derive(Clone, Copy)]
 pub enum Reply {
     // one numbered refusal
     Refused(u8),
@@ -43,7 +45,7 @@ pub enum Reply {
 }
 
 // What a call on one record answers and leaves: the message's bytes where one was made, else zeros.
-#[derive(Drop)]
+#[derive(Clone, Copy)]
 pub struct Outcome {
     pub reply: Reply,
     pub made: bool,

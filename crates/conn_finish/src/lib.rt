@@ -1,4 +1,6 @@
 // Shutdown, close and abort, as steps of one record (document 01, "Calls of a connection").
+#![tactic(auto)]
+
 ghost use Rattle.std.specs.Prelude.{◌≡◌, ltb};
 ghost use Rattle.conn_finish.specs.Finish.{shutdown_forbids, shutdown_of, close_forbids, reset_of, closing_of, close_of, abort_of};
 ghost use Rattle.conn_receive.specs.Receive.{unread_of};

@@ -1,5 +1,7 @@
 // A head and a body that are sent as if joined: the pieces for the card to write, handed out one at a time (document 02, 2026-08).
 // Nothing is copied: a piece is a part of the head or a part of the body.
+#![tactic(auto)]
+
 ghost use Rattle.std.specs.Prelude.{◌≡◌, ◌-◌, ◌≤◌, min, length};
 ghost use Rattle.conn_send.specs.Transmit.{placing_at};
 ghost use Rattle.conn_gather.specs.Pieces.{allowed_of, bytes_of, stretch_of, place_of};

@@ -1,4 +1,6 @@
 // Hear, as a step of one record (document 01, "Calls of a connection").
+#![tactic(auto)]
+
 ghost use Rattle.std.specs.Prelude.{◌≡◌};
 ghost use Rattle.conn_hear.specs.Heard.{producer_b, consumer_b, moved_by, urges_b, urgent_in, heard_in, heard_out, heard_record, answers_b, next_b};
 ghost use Rattle.conn_hear.specs.Hear.{aborted_of, accepted_of, ruled_of, validated_of, followed_of, hear_of};

@@ -1,4 +1,6 @@
 // Place and read, as steps of one record (document 01, "Calls of a connection").
+#![tactic(auto)]
+
 ghost use Rattle.std.specs.Prelude.{◌≡◌, ◌-◌, ◌≤◌, ◌<◌};
 ghost use Rattle.conn_receive.specs.Receive.{place_forbids, may_place, place_of};
 ghost use Rattle.conn_receive.specs.Receive.{read_forbids, unread_of, consumed_in, cleared_in, consumed_of, update_of, torn_of, take_of, read_of};

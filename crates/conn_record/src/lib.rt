@@ -1,4 +1,6 @@
 // One connection's record, and when it is coherent (document 01, "The memory and the tables").
+#![tactic(auto)]
+
 ghost use Rattle.std.specs.Prelude.{◌≡◌, Bool};
 ghost use Rattle.conn_record.specs.Connection.{no_place, resting_record, zero_record, opened_record, fits_b, remote_ok, numbers_ok, marks_to};
 ghost use Rattle.conn_record.specs.Connection.{offsets_ok, distances_ok, place_ok, places_ok, coherent_b, reached_b, passed_by, refusal_of};
@@ -22,7 +24,7 @@ pub const MOST_ADDRESS: u64 = 18446744073709551615;
 
 // Who the connection is: closed or open by its mark, both alert tokens, its link from 1 to 4.
 #[repr(C)]
-#[derive(Drop)]
+#[derive(Clone, Copy)]
 pub struct Identity {
     pub opened: bool,
     pub own: u32,
@@ -32,7 +34,7 @@ pub struct Identity {
 
 // The peer's memory as one link reaches it (RFC 7609's RToken): its key, and the address of its first byte.
 #[repr(C)]
-#[derive(Drop)]
+#[derive(Clone, Copy)]
 pub struct RToken {
     pub key: u32,
     pub base: u64,
@@ -41,7 +43,7 @@ pub struct RToken {
 // What is fixed at open about the peer: its element has `size` bytes (N') and is number `index` of its memory; and that memory, link by
 // link.
 #[repr(C)]
-#[derive(Drop)]
+#[derive(Clone, Copy)]
 pub struct Remote {
     pub size: u32,
     pub index: u32,
@@ -53,7 +55,7 @@ pub struct Remote {
 
 // An urgent place: whether one stands, and where. All zeros where none does.
 #[repr(C)]
-#[derive(Drop)]
+#[derive(Clone, Copy)]
 pub struct Urgent {
     pub standing: bool,
     pub place: Cursor,
@@ -62,7 +64,7 @@ pub struct Urgent {
 // What comes in, in our own element: P the peer's producer as last heard, C our consumer, T the consumer last told; the last sequence
 // number heard; B and R of the last message heard; the urgent place.
 #[repr(C)]
-#[derive(Drop)]
+#[derive(Clone, Copy)]
 pub struct Inbound {
     pub producer: Cursor,
     pub consumer: Cursor,
@@ -76,7 +78,7 @@ pub struct Inbound {
 // What goes out, in the peer's element: Q our producer, R the peer's consumer as last heard; the next sequence number; our present B;
 // the urgent place of our own sends.
 #[repr(C)]
-#[derive(Drop)]
+#[derive(Clone, Copy)]
 pub struct Outbound {
     pub producer: Cursor,
     pub consumer: Cursor,
@@ -86,7 +88,7 @@ pub struct Outbound {
 }
 
 #[repr(C)]
-#[derive(Drop)]
+#[derive(Clone, Copy)]
 pub struct Record {
     pub id: Identity,
     pub remote: Remote,
@@ -97,7 +99,7 @@ pub struct Record {
 
 // What open is given for a connection: both alert tokens, its link, and what is fixed about the peer.
 #[repr(C)]
-#[derive(Drop)]
+#[derive(Clone, Copy)]
 pub struct Opening {
     pub own: u32,
     pub peer: u32,

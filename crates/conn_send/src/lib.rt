@@ -1,4 +1,6 @@
 // Send and urgent send, as steps of one record (document 01, "Calls of a connection"; document 02, 2026-04).
+#![tactic(auto)]
+
 ghost use Rattle.std.specs.Prelude.{◌≡◌, true, ◌+◌, ◌≤◌, ◌<◌};
 ghost use Rattle.conn_send.specs.Produced.{send_forbids, n_of, produced_out, produced_of, tells_of, urged_out, urged_of, waits_b};
 ghost use Rattle.cursor.specs.Cursor.{in_range};

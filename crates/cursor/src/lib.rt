@@ -1,9 +1,11 @@
 // Cursors of an RMB element: an offset and a 16-bit wrap number (document 01, "The memory and the tables").
+#![tactic(auto)]
+
 ghost use Rattle.std.specs.Prelude.{◌≡◌, ◌+◌, ◌≤◌, ◌<◌};
 ghost use Rattle.cursor.specs.Cursor.{data_of, in_range, same_b, turns_of, lead_of, good_b, gap_of, next_wrap, moved_of, step_of};
 
 #[repr(C)]
-#[derive(Drop)]
+#[derive(Clone, Copy)]
 pub struct Cursor {
     pub offset: u32,
     pub wrap: u16,

@@ -1,4 +1,6 @@
 // One RMB element in lent memory: cleared, its eye catcher, free bytes, a store, the ring read (document 01, Open, Place, Read).
+#![tactic(auto)]
+
 ghost use Rattle.std.specs.Prelude.{◌≡◌, cond, ◌∷◌, ◌++◌, ◌+◌, ◌-◌, ◌*◌, ◌≤◌, ◌<◌, length, take, drop, replicate};
 ghost use Rattle.element.specs.Element.{base_of, splice, part, fresh_element, clears, cleared_of, intact_b, intact_at, free_from, all_free, stores, stored_of, reads, ring_from, unread, read_of};
 

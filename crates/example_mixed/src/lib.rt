@@ -1,5 +1,7 @@
 // A caller of the core that mixes the forms of its calls: a direct send, a gather, a link message, and any other by `make`. Each gets the
 // table, the links and the memory as the last one left them, so they are a list of calls made (demand 3).
+#![tactic(auto)]
+
 ghost use Rattle.std.specs.Prelude.{◌≡◌, replicate};
 ghost use Rattle.group_link.specs.declared.LinkCommand.TheVariants.{Message};
 ghost use Rattle.group_link.specs.LinkDesk.{answer_in};
@@ -15,7 +17,7 @@ use plan::LinkStates;
 use plan_send::SendAnswer;
 
 // What the four calls answered.
-#[derive(Drop)]
+#[derive(Clone, Copy)]
 pub struct Four {
     pub sent: SendAnswer,
     pub gathered: Gathered,

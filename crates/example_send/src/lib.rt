@@ -1,5 +1,7 @@
 // A caller of the core: it sends its last bytes and says that it is done. The table is lent to both calls, and the links that the first one
 // leaves go into the second.
+#![tactic(auto)]
+
 ghost use Rattle.std.specs.Prelude.{◌≡◌};
 ghost use Rattle.group_calls.specs.declared.Request.TheVariants.{Send, Shutdown};
 ghost use Rattle.group_make.specs.declared.Command.TheVariants.{On};
@@ -11,7 +13,7 @@ use group_calls::Request;
 use group_make::Command;
 use group_table::{Answered, Links};
 
-#[derive(Drop)]
+#[derive(Clone, Copy)]
 pub struct Said {
     sent: Answered,
     done: Answered,

@@ -1,5 +1,7 @@
 // Calls one after the other: any two, the second on the group as the first left it. Lists are made so, piece by piece: what two pieces made
 // is made by the list that joins them (specs/Series.antt, `Joined`).
+#![tactic(auto)]
+
 ghost use Rattle.std.specs.Prelude.{◌≡◌};
 ghost use Rattle.group_rules.specs.Rules.{group_of, answer_of};
 ghost use Rattle.group_make.specs.Group.{call_of, out_left, OutKept};
@@ -10,7 +12,7 @@ use group_make::Command;
 use group_table::{Answered, Links};
 
 // What the two calls answered.
-#[derive(Drop)]
+#[derive(Clone, Copy)]
 pub struct Two {
     pub first: Answered,
     pub second: Answered,

@@ -1,19 +1,21 @@
 // Flow control between a producer and a consumer: room, placings, the peer's window and when it is worth telling
 // (document 01, "Calls of a connection": Send and Read; RFC 7609, 4.5.1).
+#![tactic(auto)]
+
 ghost use Rattle.std.specs.Prelude.{◌≡◌, ◌-◌, ◌*◌, ◌≤◌, ◌<◌, ltb, leb};
 ghost use Rattle.flow.specs.Flow.{room_of, taken_of, first_of, stretches_of, window_of, update_due};
 
 use cursor::Cursor;
 
 // A placing, by its offset: an offset in the peer's element, a start in the bytes sent, and a length. Send gives it a key and an address.
-#[derive(Drop)]
+#[derive(Clone, Copy)]
 pub struct Stretch {
     pub offset: u32,
     pub start: u32,
     pub len: u32,
 }
 
-#[derive(Drop)]
+#[derive(Clone, Copy)]
 pub enum Stretches {
     Nowhere,
     One(Stretch),

@@ -1,4 +1,6 @@
 // A link's gauge: how long TEST LINK was unanswered, in milliseconds (request 2026-10). No call of a connection reads it.
+#![tactic(auto)]
+
 ghost use Rattle.std.specs.Prelude.{◌≡◌, cond, ◌≤◌, leb};
 ghost use Rattle.std.specs.Float.Ieee.{lt};
 ghost use Rattle.gauge.specs.Gauge.{most_ms, cleared_of, smoothed, late_at, larger_of, count_after, sampled_of, health_of, view_of};
@@ -6,7 +8,7 @@ ghost use Rattle.gauge.specs.Gauge.{most_ms, cleared_of, smoothed, late_at, larg
 // The mean and the worst answer time, how many samples there are (eight stands for eight or more), and whether the latest one was late.
 // Any values may be handed in.
 #[repr(C)]
-#[derive(Drop)]
+#[derive(Clone, Copy)]
 pub struct Gauge {
     pub mean: f64,
     pub worst: f64,
@@ -15,7 +17,7 @@ pub struct Gauge {
 }
 
 // The health of a link: unheard, or steady with its mean, or late with its mean and its worst.
-#[derive(Drop)]
+#[derive(Clone, Copy)]
 pub enum Health {
     Unheard,
     Steady(f64),
@@ -23,7 +25,7 @@ pub enum Health {
 }
 
 // What a console shows of a link's health: a word, and the numbers that stand behind it.
-#[derive(Drop)]
+#[derive(Clone, Copy)]
 pub enum Word {
     Unheard,
     Steady,
@@ -31,7 +33,7 @@ pub enum Word {
 }
 
 // The word, how many numbers are shown behind it (the mean, then the worst), and the numbers; one that is not shown is zero.
-#[derive(Drop)]
+#[derive(Clone, Copy)]
 pub struct View {
     pub word: Word,
     pub shown: u8,

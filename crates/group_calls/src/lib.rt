@@ -2,6 +2,8 @@
 // table's length, the links, a slot and the record that the slot shows, whatever they hold; it answers with the record that it leaves. It
 // looks into no table: what it answers and leaves is said of what it is given (`on_record`, `hear_record`), whatever table the record is from; in
 // every table that shows it, that is what the rules say of the call.
+#![tactic(auto)]
+
 ghost use Rattle.group_rules.specs.Rules as Rules;
 ghost use Rattle.std.specs.Prelude.{◌≡◌, []};
 ghost use Rattle.group_rules.specs.Promises.{shown_by, on_record, hear_record};
@@ -194,7 +196,7 @@ pub fn urgent_send(
 }
 
 // A call on a slot, with its numbers; its bytes are lent beside it.
-#[derive(Drop)]
+#[derive(Clone, Copy)]
 pub enum Request {
     Send,
     Urgent,

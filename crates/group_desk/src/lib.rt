@@ -1,5 +1,7 @@
 // The calls of management, document 01's desk calls ("Desk calls"): open, free and sample. The three
 // calls on links answer more: see the crate `group_link`.
+#![tactic(auto)]
+
 ghost use Rattle.group_rules.specs.Rules as Rules;
 ghost use Rattle.std.specs.Prelude.{◌≡◌, [], length};
 ghost use Rattle.group_rules.specs.Rules.{Call, sample_refusal, bad_opening};
@@ -154,7 +156,7 @@ pub fn free(
 }
 
 // A call of management, with its numbers.
-#[derive(Drop)]
+#[derive(Clone, Copy)]
 pub enum Management {
     // a slot, and what its connection is given
     Open(u32, Opening),

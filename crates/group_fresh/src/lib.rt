@@ -1,5 +1,7 @@
 // A fresh group's tables: every slot closed, every link down and every gauge cleared, no exchange and none that waits. With S of these
 // records and a zeroed memory of S x N bytes they are the group that the theorems about lists of calls begin with.
+#![tactic(auto)]
+
 ghost use Rattle.std.specs.Prelude.{◌≡◌};
 ghost use Rattle.group_fresh.specs.Fresh.{closed_table, down_links, FreshTables};
 
@@ -7,7 +9,7 @@ use conn_record::Record;
 use group_table::Links;
 use link_exchange::Role;
 
-#[derive(Drop)]
+#[derive(Clone, Copy)]
 pub struct Tables {
     pub records: [Record; group_table::MOST_SLOTS],
     pub links: Links,

@@ -1,6 +1,8 @@
 // A head and a body, in two lent buffers, sent as if joined (document 02, 2026-08). As every call it is lent S, N, the memory, the table
 // and the links, whatever they hold. Its pieces are handed out one at a time afterwards, by `conn_gather::piece` and `conn_gather::placing`, from the
 // record that it found.
+#![tactic(auto)]
+
 ghost use Rattle.std.specs.Prelude.{◌≡◌, [], ◌++◌};
 ghost use Rattle.group_rules.specs.Rules.{Request, group_of};
 ghost use Rattle.group_rules.specs.Promises.{shown_by, on_record};
@@ -11,7 +13,7 @@ use group_table::{Answered, Links, Turned};
 
 // What a gather answers: where it is not refused, `reply` has n, and the placings of a plain send of the joined bytes; and the record of
 // the slot as the call found it, which cuts n bytes into pieces.
-#[derive(Drop)]
+#[derive(Clone, Copy)]
 pub struct Gathered {
     pub answer: Answered,
     pub found: Record,

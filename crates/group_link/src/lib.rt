@@ -3,6 +3,8 @@
 //
 // `make` is the lent form. What a call does to the links is in `work`, one connection's move in crate `link_failover`, the loop over the table in
 // `move_all`. It has no test of its own: a refused call leaves the links as they were, and then nothing moves.
+#![tactic(auto)]
+
 ghost use Rattle.std.specs.Prelude.{◌≡◌, ◌/◌, ◌≤◌, min};
 ghost use Rattle.group_table.specs.Table.{record_at, with_record};
 ghost use Rattle.link_failover.specs.Failover.{moved_of, standing, told_by, told_all, moved_all, some_b, plan_of};
@@ -65,7 +67,7 @@ pub fn move_all(table: &mut [Record], n: u32, p: Plan, out: &mut [u8]) -> usize
 }
 
 // One of the three calls, with its numbers; the bytes of a message heard, and the values of one sent, are lent beside it.
-#[derive(Drop)]
+#[derive(Clone, Copy)]
 pub enum LinkCommand {
     // a link, and whether it is active now
     Change(u8, bool),
@@ -76,13 +78,13 @@ pub enum LinkCommand {
 }
 
 // A message's values, in row order.
-#[derive(Drop)]
+#[derive(Clone, Copy)]
 pub struct Values {
     pub values: [u64; 12],
 }
 
 // What a call does to the links, before connections move; refusal 0: none.
-#[derive(Drop)]
+#[derive(Clone, Copy)]
 pub struct Work {
     pub refusal: u8,
     pub made: bool,
@@ -95,7 +97,7 @@ pub struct Work {
 
 // What a call answers: a reply or the message sent, the links that it leaves; of a message heard its fields and fate; the message taken up;
 // and how many messages with F stand in the buffer.
-#[derive(Drop)]
+#[derive(Clone, Copy)]
 pub struct LinkDone {
     pub answer: Answered,
     pub fields: Fields,
@@ -285,7 +287,7 @@ pub fn make(
 // lends as many as it says.
 
 // A table, and what a call on its rows answered.
-#[derive(Drop)]
+#[derive(Clone, Copy)]
 pub struct LinkMade {
     pub table: [Record; 300],
     pub done: LinkDone,

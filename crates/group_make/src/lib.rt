@@ -4,6 +4,8 @@
 // `make` is the lent form: it finds the record, has the call act on it (`turn`), and puts it back. It has no test of its own: a refused call
 // leaves its record as it was, and a slot outside the table reads as zeros and is put nowhere. What a call does to its record is in the
 // crates `group_calls` and `group_desk`.
+#![tactic(auto)]
+
 ghost use Rattle.std.specs.Prelude.{◌≡◌, ◌≤◌, min};
 ghost use Rattle.group_rules.specs.Rules.{Did, group_of, answer_of};
 ghost use Rattle.group_rules.specs.Promises.{shown_by};
@@ -16,7 +18,7 @@ use group_desk::Management;
 use group_table::{Answered, Links, Turned};
 
 // Any one of the calls, with its numbers; its bytes are lent beside it.
-#[derive(Drop)]
+#[derive(Clone, Copy)]
 pub enum Command {
     // on a slot
     On(u32, Request),
@@ -128,7 +130,7 @@ pub fn make(
 // many as it says.
 
 // A table, and what a call on its rows answered.
-#[derive(Drop)]
+#[derive(Clone, Copy)]
 pub struct Made {
     pub table: [Record; 300],
     pub answer: Answered,

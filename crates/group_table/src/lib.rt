@@ -1,5 +1,7 @@
 // Sizes, slots, and the links with their gauges and exchange, by value; and what a call on one record answers (document 01, "The memory and
 // the tables", "When the desk says no").
+#![tactic(auto)]
+
 ghost use Rattle.std.specs.Prelude.{◌≡◌, cond, ℕ, ◌+◌, ◌*◌, ◌≤◌, ◌<◌};
 ghost use Rattle.group_table.specs.Table.{sizes_b, slot_b, link_in, active_b, gauge_at, active_set, gauge_set, link_set, found_of_all, refused_by};
 ghost use Rattle.group_table.specs.Table.{kept_by_of, turned_by, settled_by, index_of, record_at, holds_b, holder_in, with_record};
@@ -12,7 +14,7 @@ use link_exchange::{Exchange, Queue, Role};
 pub const MOST_SLOTS: usize = 255;
 
 // The four links, active or down, and a gauge for each; our role, the exchange that runs, and the messages that wait for its end.
-#[derive(Drop)]
+#[derive(Clone, Copy)]
 pub struct Links {
     pub active: [bool; 4],
     pub gauges: [Gauge; 4],
@@ -22,7 +24,7 @@ pub struct Links {
 }
 
 // What a call answers: what its line names, the message's bytes where one was made (else zeros), and the links that it leaves.
-#[derive(Drop)]
+#[derive(Clone, Copy)]
 pub struct Answered {
     pub reply: Reply,
     pub made: bool,
@@ -31,7 +33,7 @@ pub struct Answered {
 }
 
 // What a call on one record answers, and the record that it leaves.
-#[derive(Drop)]
+#[derive(Clone, Copy)]
 pub struct Turned {
     pub after: Record,
     pub answer: Answered,

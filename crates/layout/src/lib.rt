@@ -1,4 +1,6 @@
 // Numbers and bytes at places of a message, read and written: what every message of rows (RFC 7609, Appendix A) is made of.
+#![tactic(auto)]
+
 ghost use Rattle.std.specs.Prelude.{◌≡◌, cond, ◌++◌, ◌+◌, ◌-◌, ◌*◌, ◌^◌, ◌≤◌, ◌<◌, min, length, take, drop, get_or, replicate};
 ghost use Rattle.layout.specs.Layout.{number_at, bytes_at, be_of, laid_at};
 

@@ -1,4 +1,6 @@
 // Link message, link send and link change on the links, the role, the exchange and the queue of a group (request 2026-01, parts 4 to 6).
+#![tactic(auto)]
+
 ghost use Rattle.std.specs.Prelude.{◌≡◌, cond, length, get_or};
 ghost use Rattle.link_calls.specs.Calls.{no_fields, fields_in, touched, up_taken, none_up, taken_up, settled_of, unchanged, changed_of, down_b, optional_b, message_b, message_refusal, replies_b, reply_values, message_work, heard_work, nothing_heard, heard_of, send_refusal, sent_work, sent_of};
 
@@ -7,7 +9,7 @@ use link_exchange::{Exchange, Fate, Queue, Said, Touch, Waiting};
 use link_message::Kind;
 
 // A message's kind and values; where none is named, zeros.
-#[derive(Drop)]
+#[derive(Clone, Copy)]
 pub struct Fields {
     pub named: bool,
     pub kind: Kind,
@@ -15,7 +17,7 @@ pub struct Fields {
 }
 
 // A message taken up from the queue, or none.
-#[derive(Drop)]
+#[derive(Clone, Copy)]
 pub struct TakenUp {
     pub some: bool,
     pub link: u8,
@@ -24,7 +26,7 @@ pub struct TakenUp {
 }
 
 // What a call leaves, what it did to the links, and the message that it took up.
-#[derive(Drop)]
+#[derive(Clone, Copy)]
 pub struct Settled {
     pub up: TakenUp,
     pub touch: Touch,
@@ -32,7 +34,7 @@ pub struct Settled {
 }
 
 // Link message's answer; refusal 0: none.
-#[derive(Drop)]
+#[derive(Clone, Copy)]
 pub struct Heard {
     pub refusal: u8,
     pub fields: Fields,
@@ -43,7 +45,7 @@ pub struct Heard {
 }
 
 // Link send's answer; refusal 0: none.
-#[derive(Drop)]
+#[derive(Clone, Copy)]
 pub struct Sent {
     pub refusal: u8,
     pub message: [u8; 44],

@@ -1,5 +1,7 @@
 // The exchanges of a link group (request 2026-01, parts 2, 3 and 6; RFC 7609, 3.5.5): what a link message says, the stages, the queue, the
 // fates of arriving messages, and what the links' going down ends.
+#![tactic(auto)]
+
 ghost use Rattle.std.specs.Prelude.{◌≡◌, cond, ◌-◌, ◌<◌, min};
 ghost use Rattle.link_message.specs.Layouts.{code_of};
 ghost use Rattle.link_exchange.specs.Exchange.{places_of, flag_at, byte_at, client_b, said_of, no_exchange, sort_of, adding_b, due_b, next_stage, went_on, due_touch, no_waiting, empty_queue, full_b, queued, oldest, without_oldest, runs_over, ends_b};
@@ -7,7 +9,7 @@ ghost use Rattle.link_exchange.specs.Fates.{arriving_of, fate_at, fate_number, f
 
 use link_message::Kind;
 
-#[derive(Drop)]
+#[derive(Clone, Copy)]
 pub enum Role {
     Client,
     Server,
@@ -15,7 +17,7 @@ pub enum Role {
 
 // v: the link it is run over; w: the link it names. Stage 0: none runs.
 #[repr(C)]
-#[derive(Drop)]
+#[derive(Clone, Copy)]
 pub struct Exchange {
     pub stage: u8,
     pub v: u8,
@@ -24,7 +26,7 @@ pub struct Exchange {
 
 // A message that waits, as it was heard.
 #[repr(C)]
-#[derive(Drop)]
+#[derive(Clone, Copy)]
 pub struct Waiting {
     pub link: u8,
     pub bytes: [u8; 44],
@@ -32,14 +34,14 @@ pub struct Waiting {
 
 // Oldest first.
 #[repr(C)]
-#[derive(Drop)]
+#[derive(Clone, Copy)]
 pub struct Queue {
     pub count: u8,
     pub places: [Waiting; 4],
 }
 
 // What a call does to the links.
-#[derive(Drop)]
+#[derive(Clone, Copy)]
 pub enum Touch {
     Nothing,
     Up(u8),
@@ -49,7 +51,7 @@ pub enum Touch {
 }
 
 // What a message says: its kind's byte 0, and those of its fields that the rules look at.
-#[derive(Drop)]
+#[derive(Clone, Copy)]
 pub struct Said {
     pub kind: u8,
     // heard, or sent by us
@@ -67,7 +69,7 @@ pub struct Said {
     pub mtu: u8,
 }
 
-#[derive(Drop)]
+#[derive(Clone, Copy)]
 pub enum Fate {
     Taken,
     Queued,
@@ -103,7 +105,7 @@ pub fn is_client(role: Role) -> bool
 }
 
 // Where a kind has Z, A, its link, num and mtu; 12: nowhere.
-#[derive(Drop)]
+#[derive(Clone, Copy)]
 pub struct Places(pub usize, pub usize, pub usize, pub usize, pub usize);
 
 fn places_of(kind: Kind) -> Places

@@ -1,5 +1,7 @@
 // Failover, one connection at a time (document 02, 2026-13): which links went down, whether a record moves and tells, and its message with F.
 // The loop over the lent table is in the crate `group_link`.
+#![tactic(auto)]
+
 ghost use Rattle.std.specs.Prelude.{◌≡◌, cond};
 ghost use Rattle.link_failover.specs.Failover.{target_of, plan_of, gone_b, moves_b, link_to, sequence_before, failover_of, standing, told_if, any_gone, some_b};
 
@@ -8,7 +10,7 @@ use conn_record::Record;
 use group_table::Links;
 
 // Which links were active before a call and which are after it, and the lowest of these; 0 for none.
-#[derive(Drop)]
+#[derive(Clone, Copy)]
 pub struct Plan {
     pub before: [bool; 4],
     pub after: [bool; 4],

@@ -1,5 +1,7 @@
 // The link messages' fields (RFC 7609, Appendix A.3; request 2026-01, part 1): one table of rows, from which all eight kinds are read
 // and written.
+#![tactic(auto)]
+
 ghost use Rattle.std.specs.Prelude.{◌≡◌, ◌+◌, ◌*◌, ◌/◌, ◌%◌, ◌^◌, ◌≤◌, ◌<◌, length, get_or};
 ghost use Rattle.link_message.specs.Llc.{class_of};
 ghost use Rattle.layout.specs.Layout.{number_at, laid_at, be_of};
@@ -35,7 +37,7 @@ pub fn class(first: u8) -> u8
     CLASSES[at]
 }
 
-#[derive(Drop)]
+#[derive(Clone, Copy)]
 pub enum Kind {
     ConfirmLink,
     AddLink,
@@ -48,11 +50,11 @@ pub enum Kind {
 }
 
 // A row: first byte, bytes, low, bits. The field is (the number of those bytes / 2^low) mod 2^bits.
-#[derive(Drop)]
+#[derive(Clone, Copy)]
 pub struct Place(pub usize, pub usize, pub usize, pub usize);
 
 // The same in bytes: where a row is looked up, the whole table is laid on the stack.
-#[derive(Drop)]
+#[derive(Clone, Copy)]
 pub struct Row(pub u8, pub u8, pub u8, pub u8);
 
 // The rows, kind after kind.

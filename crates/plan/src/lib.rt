@@ -2,6 +2,8 @@
 // call on a slot tests first, and what it leaves of T, the sequence number, the marks and an urgent place. What each promises is
 // specs/DirectMade.antt. The one law of all calls of a connection, a record that a message then tells or not, perhaps closed, is
 // specs/Step.antt; what the rules answer and leave by it, proofs/Does.antt.
+#![tactic(auto)]
+
 ghost use Rattle.std.specs.Prelude.{◌≡◌, cond};
 ghost use Rattle.conn_record.specs.Connection.{no_place};
 ghost use Rattle.conn_answer.specs.Outcome.{sequence_after};
@@ -14,7 +16,7 @@ use cursor::Cursor;
 
 // The four links, active or down.
 #[repr(C)]
-#[derive(Drop)]
+#[derive(Clone, Copy)]
 pub struct LinkStates {
     pub active: [bool; 4],
 }

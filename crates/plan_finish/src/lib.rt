@@ -4,6 +4,8 @@
 //
 // The record is read where it is needed and its changed fields alone are put back: a record by value through each step costs more than the
 // step (docs/SPEED.md).
+#![tactic(auto)]
+
 ghost use Rattle.std.specs.Prelude.{◌≡◌, cond, ltb};
 ghost use Rattle.conn_record.specs.Connection.{zero_record};
 ghost use Rattle.conn_answer.specs.Outcome.{told_in, used_in};
@@ -22,7 +24,7 @@ use plan::LinkStates;
 
 // A refusal's number, or 0; whether a message was made; whether a close met unread bytes.
 #[repr(C)]
-#[derive(Drop)]
+#[derive(Clone, Copy)]
 pub struct FinishAnswer {
     pub refusal: u8,
     pub made: bool,
@@ -30,7 +32,7 @@ pub struct FinishAnswer {
 }
 
 // Which of the three.
-#[derive(Drop)]
+#[derive(Clone, Copy)]
 pub enum Ending {
     Shutdown,
     Close,
@@ -38,7 +40,7 @@ pub enum Ending {
 }
 
 // What one of them does with its record: the answer, the marks after it, and whether the slot is closed.
-#[derive(Drop)]
+#[derive(Clone, Copy)]
 pub struct Finishing {
     pub said: FinishAnswer,
     pub marks: Marks,
@@ -46,7 +48,7 @@ pub struct Finishing {
 }
 
 // The small answer, and the message, zeros where none is made.
-#[derive(Drop)]
+#[derive(Clone, Copy)]
 pub struct Finished {
     pub said: FinishAnswer,
     pub message: [u8; 44],

@@ -1,5 +1,7 @@
 // The answer of a gather on the lent table, and its pieces: the placings of a send of the joined bytes, cut where the head ends (document
 // 02, 2026-08). It needs no record: what a piece is stands in the answer and in the head's length.
+#![tactic(auto)]
+
 ghost use Rattle.std.specs.Prelude.{◌≡◌, ◌-◌, ◌≤◌, min};
 ghost use Rattle.plan_gather.specs.Cutting.{placing_with, bound_of, cut_at, piece_in, piece_or_none, in_pieces};
 
@@ -12,7 +14,7 @@ const HEAD: u32 = 0;
 const BODY: u32 = 1;
 
 // The answer of a send of the joined bytes; and an empty placing where Q is after it, all zeros where it is refused.
-#[derive(Drop)]
+#[derive(Clone, Copy)]
 pub struct Joined {
     pub sent: SendAnswer,
     pub last: Placing,
@@ -20,7 +22,7 @@ pub struct Joined {
 
 // A piece for the card to write: a part of the head or of the body, to a key and an address.
 #[repr(C)]
-#[derive(Drop)]
+#[derive(Clone, Copy)]
 pub struct GatherPiece {
     pub buffer: u32,
     pub start: u32,
@@ -32,7 +34,7 @@ pub struct GatherPiece {
 // A refusal's number, or 0; whether a message was made; how many bytes were taken; the pieces in their order, at most three, all zeros
 // where there is none; and the last placing.
 #[repr(C)]
-#[derive(Drop)]
+#[derive(Clone, Copy)]
 pub struct GatherAnswer {
     pub refusal: u8,
     pub made: bool,

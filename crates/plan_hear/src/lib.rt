@@ -1,5 +1,7 @@
 // A hear of one record, as the code takes it apart for the hear on the lent table (crate `c_hear`): what bytes are read as, what is
 // tested, what the hear answers and does with its record in few values, and the record and the message by these.
+#![tactic(auto)]
+
 ghost use Rattle.std.specs.Prelude.{◌≡◌, cond};
 ghost use Rattle.closing.specs.Closing.{number_of};
 ghost use Rattle.conn_record.specs.Connection.{place_at};
@@ -16,7 +18,7 @@ use plan::LinkStates;
 
 // A refusal's number, or 0; whether a message was made; the state's number; how far P moved.
 #[repr(C)]
-#[derive(Drop)]
+#[derive(Clone, Copy)]
 pub struct HearAnswer {
     pub refusal: u8,
     pub made: bool,
@@ -25,7 +27,7 @@ pub struct HearAnswer {
 }
 
 // What bytes are read as: whether they are a message, and which; zeros where they are none.
-#[derive(Drop)]
+#[derive(Clone, Copy)]
 pub struct Parsed {
     pub good: bool,
     pub message: Message,
@@ -33,7 +35,7 @@ pub struct Parsed {
 
 // What a hear does with its record: the answer; whether what the message says is put into it, or the slot closed; whether the urgent place
 // of our element is a new one, and our own cleared; whether A is sent: a slot that is not closed then breaks, its record takes A alone.
-#[derive(Drop)]
+#[derive(Clone, Copy)]
 pub struct Hearing {
     pub said: HearAnswer,
     pub takes: bool,

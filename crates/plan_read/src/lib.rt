@@ -1,6 +1,8 @@
 // A read of one record and its element, with a small answer (document 01, "Calls of a connection"; document 02, 2026-11): what crate
 // `c_read` does where the record lies. The record's changed fields alone are put back: a record by value through each step costs more
 // than the step (docs/SPEED.md).
+#![tactic(auto)]
+
 ghost use Rattle.std.specs.Prelude.{◌≡◌};
 ghost use Rattle.flow.specs.Flow.{taken_of};
 ghost use Rattle.element.specs.Element.{base_of, intact_at};
@@ -12,7 +14,7 @@ use cursor::Cursor;
 
 // A refusal's number, or 0; whether the element was torn; whether a message was made; how many bytes were read.
 #[repr(C)]
-#[derive(Drop)]
+#[derive(Clone, Copy)]
 pub struct ReadAnswer {
     pub refusal: u8,
     pub torn: bool,
@@ -21,7 +23,7 @@ pub struct ReadAnswer {
 }
 
 // What a read does with its record: the answer, C after it, whether the urgent place is cleared, and the offset that C had.
-#[derive(Drop)]
+#[derive(Clone, Copy)]
 pub struct Reading {
     pub said: ReadAnswer,
     pub consumer: Cursor,

@@ -1,5 +1,7 @@
 // A send or an urgent send on one record, as the code takes it apart for the calls on the lent table (crate `c_send`): what it answers
 // and does with its record, in few values; then the record and the message that it leaves by these.
+#![tactic(auto)]
+
 ghost use Rattle.std.specs.Prelude.{◌≡◌, ◌-◌, ◌<◌, ◌≤◌, min, ◌||◌};
 ghost use Rattle.conn_send.specs.Transmit.{rtoken_of, no_placing};
 ghost use Rattle.plan_send.specs.Transmitting.{taken_in_of, placing_in, tells_in, said, named_in, unsent_answer, unsent, sent_by};
@@ -16,7 +18,7 @@ use flow::Stretch;
 // A refusal's number, or 0; whether a message was made; how many placings are named; how many bytes were taken; the placings, all zeros
 // where they are not named.
 #[repr(C)]
-#[derive(Drop)]
+#[derive(Clone, Copy)]
 pub struct SendAnswer {
     pub refusal: u8,
     pub made: bool,
@@ -27,7 +29,7 @@ pub struct SendAnswer {
 }
 
 // What a send does with its record: the answer, and Q and B after it.
-#[derive(Drop)]
+#[derive(Clone, Copy)]
 pub struct Sending {
     pub said: SendAnswer,
     pub producer: Cursor,

@@ -1,12 +1,14 @@
 // The books of a pool of 64 units of 16 KiB (request 2026-12): byte u is the size of the block given out that starts at unit u, 0 where
 // none starts. Any books and numbers may be handed in. A call answers with what it says and the books that it leaves.
+#![tactic(auto)]
+
 ghost use Rattle.std.specs.Prelude.{◌≡◌, ◌+◌, ◌≤◌, ◌<◌, true};
 ghost use Rattle.pool.specs.Pool.{every, size_b, sound_b, fits_b, lowest, given_out_b};
 ghost use Rattle.pool.specs.Pool.{free_pool, Call, Says, says_of, Did};
 ghost use Rattle.pool.specs.Steps.{empty_b, place_b, alone_b, Part, place_of};
 
 // What a call says.
-#[derive(Drop)]
+#[derive(Clone, Copy)]
 pub enum Reply {
     // take: where the block given out starts
     Block(u32),
@@ -15,14 +17,14 @@ pub enum Reply {
     Refused(u8),
 }
 
-#[derive(Drop)]
+#[derive(Clone, Copy)]
 pub struct Outcome {
     pub reply: Reply,
     pub books: [u8; 64],
 }
 
 // What a search finds.
-#[derive(Drop)]
+#[derive(Clone, Copy)]
 enum Found {
     At(usize),
     Nothing,

@@ -7,6 +7,8 @@
 //
 // Six buffers are lent throughout: `mem` the receive memory, `given` the bytes of a line, `body` the second bytes of a line, `out` the
 // buffer of a read and of the calls on links, `buf` the input and `o` the output.
+#![tactic(auto)]
+
 use libc::STDERR_FILENO;
 use text_lines::Line;
 use text_state::World;

@@ -1,1 +1,2 @@
 // Definitions and theorems only: worked examples, computed by the rules that every call keeps.
+#![tactic(auto)]

@@ -1,1 +1,2 @@
 // Definitions and theorems only: worked rows of a link's gauge.
+#![tactic(auto)]

@@ -1,4 +1,6 @@
 // Setting up a connection: our settings, the message due and the peer's bytes give the message to send, an open's arguments or a decline.
+#![tactic(auto)]
+
 ghost use Rattle.std.specs.Prelude.{◌≡◌, cond, min, eqb};
 ghost use Rattle.setup_read.specs.Places.{zeros};
 ghost use Rattle.setup.specs.Setup.{due_type, our_proposal, ours, our_decline, arguments_of, silent, saying, sending};
@@ -7,7 +9,7 @@ ghost use Rattle.setup.specs.Setup.{taken_b, answered_of, heard_of, setup_of};
 use setup_read::{Kind, Message};
 
 #[repr(C)]
-#[derive(Drop)]
+#[derive(Clone, Copy)]
 pub struct Settings {
     // N, our element size
     pub size: u32,
@@ -39,7 +41,7 @@ pub struct Settings {
 }
 
 // The message due.
-#[derive(Drop)]
+#[derive(Clone, Copy)]
 pub enum Due {
     Nothing,
     Proposal,
@@ -49,7 +51,7 @@ pub enum Due {
 
 // The arguments of an open.
 #[repr(C)]
-#[derive(Drop)]
+#[derive(Clone, Copy)]
 pub struct Arguments {
     pub slot: u8,
     pub own: u32,
@@ -67,26 +69,26 @@ pub struct Arguments {
     pub base4: u64,
 }
 
-#[derive(Drop)]
+#[derive(Clone, Copy)]
 pub enum Opening {
     NoOpen,
     Open(Arguments),
 }
 
-#[derive(Drop)]
+#[derive(Clone, Copy)]
 pub enum Diagnosis {
     NoDiagnosis,
     Number(u32),
 }
 
-#[derive(Drop)]
+#[derive(Clone, Copy)]
 pub enum Outcome {
     Refused(u8),
     Answered(Opening, Diagnosis),
 }
 
 // The answer: beside its outcome the message to send, its count of bytes and zeros behind; count 0 is none.
-#[derive(Drop)]
+#[derive(Clone, Copy)]
 pub struct Answer {
     pub outcome: Outcome,
     pub count: usize,

@@ -1,12 +1,14 @@
 // The messages exchanged over TCP: Proposal, Accept, Confirm and Decline (RFC 7609, Appendix A.2): what they are, read from
 // bytes, and the codes of element sizes.
+#![tactic(auto)]
+
 ghost use Rattle.std.specs.Prelude.{◌≡◌, ◌≤◌, length, eqb};
 ghost use Rattle.layout.specs.Layout.{number_at};
 ghost use Rattle.setup_read.specs.Codes.{bytes_of_code, code_of};
 ghost use Rattle.setup_read.specs.Clc.{eye_catcher, type_of, count_at, begins_b, sized_b, message_b, read_of};
 ghost use Rattle.setup_read.specs.Places.{no_message, proposal_at, endpoint_at, decline_at};
 
-#[derive(Drop)]
+#[derive(Clone, Copy)]
 pub enum Kind {
     // no message of A.2
     Nothing,
@@ -18,7 +20,7 @@ pub enum Kind {
 
 // The fields of a message, in the table's order. One that has no place in the kind's column is zero in what is read, and is not looked
 // at in what is written. Of the eight prefixes, 16 bytes and a length each, the first count are fields.
-#[derive(Drop)]
+#[derive(Clone, Copy)]
 pub struct Message {
     pub kind: Kind,
     pub version: u8,

@@ -1,4 +1,6 @@
 // The messages exchanged over TCP (RFC 7609, Appendix A.2), written.
+#![tactic(auto)]
+
 ghost use Rattle.std.specs.Prelude.{◌≡◌, cond, ◌+◌, ◌*◌, ◌≤◌, ◌<◌, length};
 ghost use Rattle.layout.specs.Layout.{laid_at};
 ghost use Rattle.setup_read.specs.Clc.{fits_of, size_of, written_count, written_over};

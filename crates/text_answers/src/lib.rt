@@ -1,4 +1,6 @@
 // What is printed of a call's answer and of the memory.
+#![tactic(auto)]
+
 ghost use Rattle.std.specs.Prelude.{◌≤◌};
 
 use closing::State;

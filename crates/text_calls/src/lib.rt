@@ -1,4 +1,6 @@
 // The lines of calls, but for their first word and their end: a call with its numbers, and what is lent beside it.
+#![tactic(auto)]
+
 ghost use Rattle.std.specs.Prelude.{◌≤◌};
 
 use conn_record::Opening;
@@ -9,7 +11,7 @@ use text_records::read;
 use text_stream::input;
 use text_stream::input::Scan;
 
-#[derive(Drop)]
+#[derive(Clone, Copy)]
 pub enum CallVerb {
     Open,
     Free,
@@ -25,7 +27,7 @@ pub enum CallVerb {
 }
 
 // `count` bytes are lent beside the call, and `room` bytes of out.
-#[derive(Drop)]
+#[derive(Clone, Copy)]
 pub struct CallLine {
     pub scan: Scan,
     pub command: Command,

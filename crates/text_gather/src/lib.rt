@@ -1,5 +1,7 @@
 // The line of the replay format that sends a head and a body: what follows its first word, the call on the rows of a replayed table, and
 // what is printed of it.
+#![tactic(auto)]
+
 ghost use Rattle.std.specs.Prelude.{◌≡◌, ◌-◌, ◌≤◌, min};
 ghost use Rattle.text_gather.specs.GatherText.{OnRows};
 
@@ -11,7 +13,7 @@ use text_stream::input::Scan;
 use text_stream::{input, output};
 
 // A slot, and how many bytes the head and the body have.
-#[derive(Drop)]
+#[derive(Clone, Copy)]
 pub struct GatherLine {
     pub scan: Scan,
     pub slot: u32,
@@ -20,14 +22,14 @@ pub struct GatherLine {
 }
 
 // A table, and what a gather on its rows answered.
-#[derive(Drop)]
+#[derive(Clone, Copy)]
 pub struct GatherMade {
     pub table: [Record; 300],
     pub gathered: Gathered,
 }
 
 // How long the piece is that was printed, and how far the output buffer is filled.
-#[derive(Drop)]
+#[derive(Clone, Copy)]
 struct Printed {
     len: u32,
     at: usize,

@@ -1,5 +1,7 @@
 // The lines of the replay format about gauges: what follows `health` and `gauge`, and what is printed of a health and of a gauge. A double
 // is the 16 digits of its bits.
+#![tactic(auto)]
+
 ghost use Rattle.std.specs.Prelude.{◌≤◌, ◌<◌};
 
 use gauge::{Gauge, Health, Word};
@@ -7,21 +9,21 @@ use text_stream::input::{Decimal, Scan};
 use text_stream::{input, output};
 
 // A link, and the gauge to lay there.
-#[derive(Drop)]
+#[derive(Clone, Copy)]
 pub struct Laid {
     pub scan: Scan,
     pub link: u8,
     pub gauge: Gauge,
 }
 
-#[derive(Drop)]
+#[derive(Clone, Copy)]
 struct Times {
     scan: Scan,
     mean: f64,
     worst: f64,
 }
 
-#[derive(Drop)]
+#[derive(Clone, Copy)]
 struct Double {
     scan: Scan,
     value: f64,

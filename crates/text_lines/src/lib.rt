@@ -1,5 +1,7 @@
 // A line of the input: a call with its numbers, a send of a head and a body, one of the seven lines that are no calls, a line of the pool,
 // one on setting up or one on links.
+#![tactic(auto)]
+
 ghost use Rattle.std.specs.Prelude.{◌≡◌, ◌-◌, ◌≤◌};
 ghost use Rattle.text_lines.specs.Why.{no_slot_of, outside_of, why_of};
 
@@ -15,7 +17,7 @@ use text_setup::{SetupLine, SetupVerb};
 use text_stream::input;
 use text_stream::input::{Decimal, Scan};
 
-#[derive(Drop)]
+#[derive(Clone, Copy)]
 pub enum Line {
     // empty, or a comment
     Skipped,
@@ -47,7 +49,7 @@ pub enum Line {
     LinkCall(LinkCommand, usize, Room),
 }
 
-#[derive(Drop)]
+#[derive(Clone, Copy)]
 pub struct Parsed {
     pub scan: Scan,
     pub line: Line,
@@ -61,7 +63,7 @@ pub const MEMORY: u8 = 12;
 
 const MOST: u32 = 4294967295;
 
-#[derive(Drop)]
+#[derive(Clone, Copy)]
 enum Verb {
     Group,
     Call(CallVerb),

@@ -1,5 +1,7 @@
 // The lines of the replay format on links (requests 2026-01 and 2026-13): what is laid in, what is printed of a call, and the last lines of
 // `table`. What follows a line's first word is read by `text_link_read`, a call on the rows of a table made by `group_link`.
+#![tactic(auto)]
+
 ghost use Rattle.std.specs.Prelude.{◌≡◌, ◌≤◌, min, length};
 ghost use Rattle.layout.specs.Layout.{number_at};
 ghost use Rattle.group_table.specs.Table.{exchange_set};
@@ -14,7 +16,7 @@ use text_link_read::{LinkLine, Room};
 use text_stream::output;
 
 // The links as the line left them, and how far the output buffer is filled.
-#[derive(Drop)]
+#[derive(Clone, Copy)]
 pub struct LinkAnswered {
     pub links: Links,
     pub at: usize,

@@ -1,6 +1,8 @@
 // The lines of the replay format on links (requests 2026-01 and 2026-13): what follows their first word. A message's fields are
 // `KK:V1,V2,..`: its kind, and all its values in row order. What a line names is read to the front of `given`, numbers high byte first:
 // twelve values of eight bytes; or a queue's count, and a link and 44 bytes for each place.
+#![tactic(auto)]
+
 ghost use Rattle.std.specs.Prelude.{◌≤◌, ◌<◌};
 
 use group_link::LinkCommand;
@@ -10,7 +12,7 @@ use text_stream::input;
 use text_stream::input::{Run, Scan};
 
 // The first word of a line that lays something in.
-#[derive(Drop)]
+#[derive(Clone, Copy)]
 pub enum LinkVerb {
     Role,
     States,
@@ -19,14 +21,14 @@ pub enum LinkVerb {
 }
 
 // The first word of a call.
-#[derive(Drop)]
+#[derive(Clone, Copy)]
 pub enum LinkCallVerb {
     Change,
     Message,
     Send,
 }
 
-#[derive(Drop)]
+#[derive(Clone, Copy)]
 pub enum LinkLine {
     // lay a role in
     Role(Role),
@@ -38,21 +40,21 @@ pub enum LinkLine {
     Queue,
 }
 
-#[derive(Drop)]
+#[derive(Clone, Copy)]
 pub struct LinkParsed {
     pub scan: Scan,
     pub line: LinkLine,
 }
 
 // How many bytes of buffer a call is lent: 44 for each slot, or those that its line names.
-#[derive(Drop)]
+#[derive(Clone, Copy)]
 pub enum Room {
     ForSlots,
     Named(usize),
 }
 
 // `count` bytes are lent beside the call; the values of a message to send were read.
-#[derive(Drop)]
+#[derive(Clone, Copy)]
 pub struct LinkCallLine {
     pub scan: Scan,
     pub command: LinkCommand,
@@ -61,20 +63,20 @@ pub struct LinkCallLine {
 }
 
 // Whether a link is active, and whether the next is.
-#[derive(Drop)]
+#[derive(Clone, Copy)]
 struct TwoStates {
     scan: Scan,
     first: bool,
     second: bool,
 }
 
-#[derive(Drop)]
+#[derive(Clone, Copy)]
 struct RoomRead {
     scan: Scan,
     room: Room,
 }
 
-#[derive(Drop)]
+#[derive(Clone, Copy)]
 struct KindRead {
     scan: Scan,
     kind: Kind,

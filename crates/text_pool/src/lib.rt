@@ -1,5 +1,7 @@
 // The pool's lines of the replay format: what follows their first word, and what is printed of them. The books of a `books` line are
 // read into the first 64 bytes of `given`.
+#![tactic(auto)]
+
 ghost use Rattle.std.specs.Prelude.{◌≡◌, ℕ, ◌≤◌, ◌<◌, get_or};
 ghost use Rattle.text_pool.specs.PoolText.{Left};
 
@@ -8,7 +10,7 @@ use text_stream::input::Scan;
 use text_stream::{input, output};
 
 // The first word.
-#[derive(Drop)]
+#[derive(Clone, Copy)]
 pub enum PoolVerb {
     Pool,
     Take,
@@ -16,7 +18,7 @@ pub enum PoolVerb {
     Books,
 }
 
-#[derive(Drop)]
+#[derive(Clone, Copy)]
 pub enum PoolLine {
     // start over with all units free
     Fresh,
@@ -30,14 +32,14 @@ pub enum PoolLine {
     Show,
 }
 
-#[derive(Drop)]
+#[derive(Clone, Copy)]
 pub struct PoolParsed {
     pub scan: Scan,
     pub line: PoolLine,
 }
 
 // The books as the line left them, and how far the output buffer is filled.
-#[derive(Drop)]
+#[derive(Clone, Copy)]
 pub struct PoolAnswered {
     pub books: [u8; 64],
     pub at: usize,

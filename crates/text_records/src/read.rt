@@ -8,47 +8,47 @@ use text_stream::input;
 use text_stream::input::Scan;
 
 // A slot, and what to lay there.
-#[derive(Drop)]
+#[derive(Clone, Copy)]
 pub struct Laid {
     pub scan: Scan,
     pub slot: usize,
     pub record: Record,
 }
 
-#[derive(Drop)]
+#[derive(Clone, Copy)]
 struct At {
     scan: Scan,
     cursor: Cursor,
 }
 
-#[derive(Drop)]
+#[derive(Clone, Copy)]
 struct Who {
     scan: Scan,
     id: Identity,
     size: u32,
 }
 
-#[derive(Drop)]
+#[derive(Clone, Copy)]
 struct Token {
     scan: Scan,
     token: RToken,
 }
 
 // What is fixed about the peer.
-#[derive(Drop)]
+#[derive(Clone, Copy)]
 pub struct Reached {
     pub scan: Scan,
     pub remote: Remote,
 }
 
-#[derive(Drop)]
+#[derive(Clone, Copy)]
 struct Place {
     scan: Scan,
     urgent: Urgent,
 }
 
 // The urgent place of our own sends, and the one in our element.
-#[derive(Drop)]
+#[derive(Clone, Copy)]
 struct Places {
     scan: Scan,
     ours: Urgent,
@@ -56,7 +56,7 @@ struct Places {
 }
 
 // The next number, the last one heard, and the marks.
-#[derive(Drop)]
+#[derive(Clone, Copy)]
 struct Counts {
     scan: Scan,
     next: u16,
@@ -64,7 +64,7 @@ struct Counts {
     marks: u32,
 }
 
-#[derive(Drop)]
+#[derive(Clone, Copy)]
 struct Cursors {
     scan: Scan,
     p: Cursor,

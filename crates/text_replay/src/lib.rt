@@ -1,5 +1,7 @@
 // A fresh group of a replay, and the lines of the replay format that are calls: of the group, of a head and a body, of the pool, on setting
 // up and on links. What each answers is printed to the output buffer `o`.
+#![tactic(auto)]
+
 ghost use Rattle.std.specs.Prelude.{◌≡◌, ◌≤◌, ◌++◌, length, take, drop, replicate};
 ghost use Rattle.pool.specs.Pool.{free_pool};
 ghost use Rattle.text_pool.specs.PoolText.{Left};

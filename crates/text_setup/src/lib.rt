@@ -3,6 +3,8 @@
 //
 //     0 N   4 PEERID   12 GID   28 MAC   34 MASK   38 MASKLEN   39 COUNT   40 PREFIXES   176 FIRST   177 QP   181 MTU   182 PSN
 //     186 KEY   190 BASE   198 SLOT   199 OWN   203 LINK   204 KEY1   208 BASE1   216 KEY2   220 BASE2   .. 252
+#![tactic(auto)]
+
 ghost use Rattle.std.specs.Prelude.{◌≡◌, ◌+◌, ◌≤◌};
 ghost use Rattle.layout.specs.Layout.{bytes_at};
 ghost use Rattle.text_setup.specs.SetupText.{left_of};
@@ -13,14 +15,14 @@ use text_stream::input::{Run, Scan};
 use text_stream::{input, output};
 
 // The first word.
-#[derive(Drop)]
+#[derive(Clone, Copy)]
 pub enum SetupVerb {
     Settings,
     Setup,
     Clc,
 }
 
-#[derive(Drop)]
+#[derive(Clone, Copy)]
 pub enum SetupLine {
     // lay in the settings that were read
     Lay,
@@ -30,20 +32,20 @@ pub enum SetupLine {
     Again(usize),
 }
 
-#[derive(Drop)]
+#[derive(Clone, Copy)]
 pub struct SetupParsed {
     pub scan: Scan,
     pub line: SetupLine,
 }
 
 // The settings' words as the line left them, and how far the output buffer is filled.
-#[derive(Drop)]
+#[derive(Clone, Copy)]
 pub struct SetupAnswered {
     pub settings: [u8; 252],
     pub at: usize,
 }
 
-#[derive(Drop)]
+#[derive(Clone, Copy)]
 struct DueRead {
     scan: Scan,
     due: Due,

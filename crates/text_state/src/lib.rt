@@ -1,5 +1,7 @@
 // The group of a replay, and the lines of the replay format that are no calls of it: those that look at it, and those that lay something in.
 // What each prints goes to the output buffer `o`.
+#![tactic(auto)]
+
 ghost use Rattle.std.specs.Prelude.{◌≡◌, ◌≤◌, min, ◌++◌, take, drop};
 ghost use Rattle.layout.specs.Layout.{laid_at};
 ghost use Rattle.group_table.specs.Table.{gauge_set};
@@ -13,7 +15,7 @@ use text_stream::output;
 
 // The group as the last call left it, its memory aside, of which it has the first `len` bytes; of the table it has the first `count` rows.
 // The books of the pool and the settings (the words of a `settings` line) beside it; and how far the output buffer is filled.
-#[derive(Drop)]
+#[derive(Clone, Copy)]
 pub struct World {
     pub s: u32,
     pub n: u32,

@@ -7,7 +7,7 @@ use libc::STDIN_FILENO;
 // `byte` is the next byte, not yet taken; at the end of the input it is a line feed. `left` bounds how many bytes may still come, this
 // one among them, and is 0 at the end: it starts at a number that no run uses up, so that every loop over the stream is seen to end.
 // `at` and `end` say which bytes of the buffer come next. `why`: the first thing that is wrong with what was taken of the line so far.
-#[derive(Drop)]
+#[derive(Clone, Copy)]
 pub struct Scan {
     pub byte: u8,
     pub left: u64,
@@ -49,39 +49,39 @@ pub const KIND: u8 = 9;
 // the input could not be read to its end.
 pub const UNREAD: u8 = 10;
 
-#[derive(Drop)]
+#[derive(Clone, Copy)]
 pub struct Decimal {
     pub scan: Scan,
     pub value: u32,
 }
 
-#[derive(Drop)]
+#[derive(Clone, Copy)]
 pub struct LongDecimal {
     pub scan: Scan,
     pub value: u64,
 }
 
 // `count` bytes from the start of the buffer that they were put into.
-#[derive(Drop)]
+#[derive(Clone, Copy)]
 pub struct Run {
     pub scan: Scan,
     pub count: usize,
 }
 
 // The digits so far, as a number; `past`: it is past 64 bits.
-#[derive(Drop)]
+#[derive(Clone, Copy)]
 struct Sum {
     value: u64,
     past: bool,
 }
 
-#[derive(Drop)]
+#[derive(Clone, Copy)]
 struct Figures {
     scan: Scan,
     sum: Sum,
 }
 
-#[derive(Drop)]
+#[derive(Clone, Copy)]
 struct Pair {
     scan: Scan,
     byte: u8,

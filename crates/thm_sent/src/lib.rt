@@ -1,5 +1,6 @@
 // Request 2026-14, only what was sent: what is claimed of two groups and one connection between them. specs/OnlySent has the request's sentences
 // in its order; specs/Books what they speak of; specs/Plain the plain engine; specs/Reuse what follows besides.
+#![tactic(auto)]
 
 // The proof: what is under way in one direction between two ends, in positions (proofs/Way), and one step of it for each act of either end
 // (proofs/Direction).
