@@ -1,0 +1,15 @@
+-- `element::zero` meets its contract: zeros as far as the loop came. Assumes nothing.
+use Prim.Native.Nat.{ℕ, ◌-◌, ◌≤◌, ◌<◌}
+use borrow.Author.Fill.{fill_more}
+use lib.ListN.{replicate, length, drop, length-set}
+use lib.Seq.{drop-length}
+use mathlib.Core.List.{append-nil, List, ◌++◌}
+use mathlib.Core.Path.{◌≡◌, ap, ◌∙◌}
+use native.Mathlib.Omega.{arith}
+use Rattle.element.proofs.zero.Given as goal
+
+abbrev pub invariant-loop-i : goal.invariant-loop-i
+invariant-loop-i l = (l.i ≤ length l.initial.dst) × (l.dst ≡ replicate l.i 0 ++ drop l.i l.initial.dst) × (length l.dst ≡ length l.initial.dst)
+
+abbrev pub decreases-loop-i : goal.decreases-loop-i
+decreases-loop-i l = length l.initial.dst - l.i

@@ -1,0 +1,17 @@
+-- `pool::is_sound` meets its contract. The loop's invariant: what the blocks from i on say is the answer. Assumes nothing.
+use Prim.Native.Nat.{◌-◌, ◌≤◌}
+use Rattle.pool.proofs.BlockByBlock.{past_block}
+use Rattle.pool.proofs.Every.{every_here, every_on, every_end}
+use Rattle.pool.proofs.Sound.{sound_is}
+use Rattle.pool.specs.Pool.{every, sound_b}
+use Rattle.pool.specs.Steps.{alone_b}
+use borrow.Author.Tests.{not-true, not-false}
+use mathlib.Core.Path.{◌≡◌, sym, ◌∙◌}
+use native.Mathlib.Omega.{arith}
+use Rattle.pool.proofs.is_sound.Given as goal
+
+abbrev pub invariant-loop-i : goal.invariant-loop-i
+invariant-loop-i l = (l.i ≤ 64) × (sound_b l.b ≡ every (alone_b l.b) l.i (64 - l.i))
+
+abbrev pub decreases-loop-i : goal.decreases-loop-i
+decreases-loop-i l = 64 - l.i
