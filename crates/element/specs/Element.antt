@@ -1,6 +1,6 @@
 -- Document 01, "The memory and the tables", Place, Read and Open: an element's bytes. Where A stands for "byte", no rule looks at one.
 -- Assumes nothing.
-use Rattle.std.specs.Prelude.{ℕ, zero, suc, ◌+◌, ◌-◌, ◌*◌, Bool, true, false, ◌&&◌, cond, List, [], ◌∷◌, ◌++◌, ltb, leb, eqb, length, take, drop, get_or, replicate}
+use Rattle.std.specs.Prelude.{ℕ, zero, suc, ◌+◌, ◌-◌, ◌*◌, Bool, true, ◌&&◌, cond, List, [], ◌∷◌, ◌++◌, ltb, leb, eqb, length, take, drop, get_or, replicate}
 use Rattle.std.proofs.Math.IntN.{sub_ℕ}
 use Rattle.cursor.specs.Cursor.{modℤ}
 

@@ -1,18 +1,17 @@
 -- Where no operation of the mean rounds. Through the first eight samples the mean is a whole number over 2,097,152, which is 8 ^ 7.
 -- Assumes nothing.
-use mathlib.Core.Path.{◌≡◌, refl, sym, ap, ap₂, ◌∙◌, subst}
-use mathlib.Core.Bool.{Bool, true, false, not, cond, ◌&&◌, true≢false, beq}
+use mathlib.Core.Path.{◌≡◌, refl, sym, ap, ap₂, ◌∙◌}
+use mathlib.Core.Bool.{Bool, true, false, not, true≢false}
 use mathlib.Core.List.{List, [], ◌∷◌}
-use mathlib.Core.Logic.{inl, inr}
-use Prim.Native.Nat.{ℕ, zero, suc, ◌+◌, ◌-◌, ◌*◌, ◌/◌, ◌%◌, ◌^◌, ◌≤◌, ◌<◌}
-use native.Mathlib.Nat.{le_of_lt, le_trans, lt_of_lt_of_le, mul_assoc, mul_comm, mul_left_comm, mul_right_comm, mul-one, one-mul, mul-pos, add-mul, mul-le-mul_right, mul-lt-mul_of_pos_right, lt_of_mul-lt-mul_right, le_of_mul-le-mul_right, sub-add_cancel, mul-sub, eq_of_mul-eq-mul_right, pow-suc, mul-div_cancel, add-zero, not-suc-le-zero, le_of_suc-le-suc}
+use Prim.Native.Nat.{ℕ, zero, suc, ◌+◌, ◌-◌, ◌*◌, ◌/◌, ◌^◌, ◌≤◌, ◌<◌}
+use native.Mathlib.Nat.{lt_of_lt_of_le, mul_assoc, mul_comm, mul_right_comm, mul-one, one-mul, mul-pos, add-mul, mul-le-mul_right, mul-lt-mul_of_pos_right, lt_of_mul-lt-mul_right, le_of_mul-le-mul_right, sub-add_cancel, mul-sub, eq_of_mul-eq-mul_right, pow-suc, mul-div_cancel, add-zero, not-suc-le-zero, le_of_suc-le-suc}
 use native.Mathlib.Omega.{arith}
-use lib.Dec.{T, ltb, eqb, ltb→lt, nltb→le, lit≤, lit<}
+use lib.Dec.{T, ltb, ltb→lt, nltb→le, lit≤, lit<}
 use borrow.Author.Tests.{lt-ltb, le-ltb, eq-eqb, ne_eqb, ltb-true, ltb-false}
-use lib.IntN.{ℤ, pos, negsuc}
+use lib.IntN.{pos}
 use lib.Pow.{pow-add, pow_pos, pow_mono, shl_lt}
 use lib.Ieee.{Float, nan, inf, fin, Format, binary64, prec, emax, low, up, down, unlike, round, add, sub, mul, neg, of_int, sum, lt}
-use lib.Ieee.Fits.{reach, up_pos, down_pos}
+use lib.Ieee.Fits.{reach, down_pos}
 use lib.ListN.{length}
 use lib.Ieee.Exact.{HasValue, round_exact}
 use lib.Ieee.Scale.{round_same}
@@ -42,6 +41,10 @@ sub-mul x y k = mul_comm (x - y) k ∙ mul-sub k x y ∙ ap (λ (z : ℕ). z - k
 
 pub plus : (f : Format) (x y : Float) (a b C : ℕ) → 0 < C → HasValue x false a C → HasValue y false b C → add f x y ≡ round f false (a + b) C
 unfolding add sum
+plus f nan y a b C P p q = elim p [ ]
+plus f (inf _) y a b C P p q = elim p [ ]
+plus f (fin false m e) nan a b C P p q = elim q [ ]
+plus f (fin false m e) (inf _) a b C P p q = elim q [ ]
 plus f (fin false m e) (fin false n d) a b C P p q =
     let h = over (m * up e) (n * up d) (down e) (down d) a b C p.1 q.1 in
     round_same f false (m * up e * down d + n * up d * down e) (down e * down d) (a + b) C (mul-pos (down_pos e) (down_pos d)) P
@@ -52,6 +55,10 @@ plus f (fin false m e) (fin true n d) a b C P p q = absurd (true≢false q.0)
 -- x - |y|, where |y| is no larger
 pub less : (f : Format) (x y : Float) (a b C : ℕ) → 0 < C → b ≤ a → HasValue x false a C → HasValue y true b C → add f x y ≡ round f false (a - b) C
 unfolding add sum
+less f nan y a b C P l p q = elim p [ ]
+less f (inf _) y a b C P l p q = elim p [ ]
+less f (fin false m e) nan a b C P l p q = elim q [ ]
+less f (fin false m e) (inf _) a b C P l p q = elim q [ ]
 less f (fin false m e) (fin true n d) a b C P l p q =
     let h = over (m * up e) (n * up d) (down e) (down d) a b C p.1 q.1 in
     let D = down e * down d in
@@ -65,6 +72,10 @@ less f (fin false m e) (fin false n d) a b C P l p q = absurd (true≢false (sym
 -- x - |y|, where |y| is larger
 pub under : (f : Format) (x y : Float) (a b C : ℕ) → 0 < C → a < b → HasValue x false a C → HasValue y true b C → add f x y ≡ round f true (b - a) C
 unfolding add sum
+under f nan y a b C P l p q = elim p [ ]
+under f (inf _) y a b C P l p q = elim p [ ]
+under f (fin false m e) nan a b C P l p q = elim q [ ]
+under f (fin false m e) (inf _) a b C P l p q = elim q [ ]
 under f (fin false m e) (fin true n d) a b C P l p q =
     let h = over (m * up e) (n * up d) (down e) (down d) a b C p.1 q.1 in
     let D = down e * down d in
@@ -77,12 +88,16 @@ under f (fin false m e) (fin false n d) a b C P l p q = absurd (true≢false (sy
 
 pub minus_value : (y : Float) (b C : ℕ) → HasValue y false b C → HasValue (neg y) true b C
 unfolding neg
+minus_value nan b C q = elim q [ ]
+minus_value (inf _) b C q = elim q [ ]
 minus_value (fin false n d) b C q = (refl, q.1)
 minus_value (fin true n d) b C q = absurd (true≢false q.0)
 
 -- an eighth of x
 pub eighth_of : (f : Format) (x : Float) (s : Bool) (a C : ℕ) → 0 < C → HasValue x s a C → mul f x eighth ≡ round f s a (C * 8)
 unfolding mul
+eighth_of f nan s a C P p = elim p [ ]
+eighth_of f (inf _) s a C P p = elim p [ ]
 eighth_of f (fin t m e) s a C P p =
     let g : unlike t false ≡ s = plain t ∙ p.0 in
     rw g
@@ -95,9 +110,13 @@ eighth_of f (fin t m e) s a C P p =
 
 -- the same value over k times the denominator, and back
 pub scaled : (x : Float) (s : Bool) (a C k : ℕ) → HasValue x s a C → HasValue x s (a * k) (C * k)
+scaled nan s a C k p = elim p [ ]
+scaled (inf _) s a C k p = elim p [ ]
 scaled (fin t m e) s a C k p = (p.0, sym (mul_assoc (m * up e) C k) ∙ ap (λ (z : ℕ). z * k) p.1 ∙ mul_right_comm a (down e) k)
 
 pub unscaled : (x : Float) (s : Bool) (a C k : ℕ) → 0 < k → HasValue x s (a * k) (C * k) → HasValue x s a C
+unscaled nan s a C k K p = elim p [ ]
+unscaled (inf _) s a C k K p = elim p [ ]
 unscaled (fin t m e) s a C k K p = (p.0, eq_of_mul-eq-mul_right k K (m * up e * C) (a * down e) (mul_assoc (m * up e) C k ∙ p.1 ∙ mul_right_comm a k (down e)))
 
 -- ---- one step: none of the three operations rounds
@@ -212,6 +231,8 @@ through_eight g n ns z L S =
 -- ---- the test of lateness in whole numbers: through the first eight samples nothing of it rounds either
 pub four_of_lem : (f : Format) (x : Float) (a C : ℕ) → 0 < C → HasValue x false a C → mul f four x ≡ round f false (4 * a) C
 unfolding mul
+four_of_lem f nan a C P p = elim p [ ]
+four_of_lem f (inf _) a C P p = elim p [ ]
 four_of_lem f (fin false m e) a C P p =
     round_same f false (1 * 4 * (m * up e)) (1 * down e) (4 * a) C (mul-pos (lit< tt) (down_pos e)) P
     (mul_assoc 4 (m * up e) C ∙ ap (λ (z : ℕ). 4 * z) p.1 ∙ sym (mul_assoc 4 a (down e)) ∙ ap (λ (z : ℕ). 4 * a * z) (sym (one-mul (down e))))
@@ -219,6 +240,10 @@ four_of_lem f (fin true m e) a C P p = absurd (true≢false p.0)
 
 pub less_than : (x y : Float) (a b C : ℕ) → 0 < C → HasValue x false a C → HasValue y false b C → lt x y ≡ ltb a b
 unfolding lt
+less_than nan y a b C P p q = elim p [ ]
+less_than (inf _) y a b C P p q = elim p [ ]
+less_than (fin false m e) nan a b C P p q = elim q [ ]
+less_than (fin false m e) (inf _) a b C P p q = elim q [ ]
 less_than (fin false m e) (fin false n d) a b C P p q =
     let h = over (m * up e) (n * up d) (down e) (down d) a b C p.1 q.1 in
     let D = down e * down d in

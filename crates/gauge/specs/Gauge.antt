@@ -1,7 +1,7 @@
 -- Request 2026-10: what a sample does to a link's gauge, in the logic's account of IEEE 754, the health, and what is shown of it; the whole
 -- number that the mean is over 2,097,152, and the claim that it is exact. proofs/Exact has the theorem.
 -- Assumes nothing.
-use Rattle.std.specs.Prelude.{ℕ, ◌+◌, ◌*◌, ◌/◌, ◌≤◌, ◌≡◌, Bool, true, false, cond, List, [], ◌∷◌, eqb, ltb, pos, negsuc, length, Float}
+use Rattle.std.specs.Prelude.{ℕ, ◌+◌, ◌*◌, ◌/◌, ◌≤◌, ◌≡◌, Bool, false, cond, List, [], ◌∷◌, eqb, ltb, pos, negsuc, length, Float}
 use Rattle.std.specs.Float.{fin, binary64}
 use Rattle.std.specs.Float.Ieee.{add, sub, mul, lt, of_int}
 use Rattle.std.specs.Float.Ieee.Exact.{HasValue}

@@ -1,9 +1,9 @@
 -- `element::copy` meets its contract: the array holds what was passed of src, then dst what was passed of the array. Assumes nothing.
 use Rattle.element.proofs.Laws.{grab_more, all_taken}
 use native.Mathlib.Omega.{arith}
-use Prim.Native.Nat.{◌-◌, ◌≤◌, ◌<◌}
+use Prim.Native.Nat.{◌<◌}
 use mathlib.Core.Path.{◌≡◌, refl, ◌∙◌}
-use lib.ListN.{length, take, length-set}
+use lib.ListN.{length, length-set}
 use borrow.Author.Rules.{rules}
 use Rattle.element.proofs.copy.Goals as goal
 

@@ -1,9 +1,7 @@
 -- `element::copy` meets its contract: the array holds what was passed of src, then dst what was passed of the array. Assumes nothing.
-use Prim.Native.Nat.{◌-◌, ◌≤◌, ◌<◌}
-use Rattle.element.proofs.Laws.{grab_more, all_taken}
-use lib.ListN.{length, take, length-set}
-use mathlib.Core.Path.{◌≡◌, refl, ◌∙◌}
-use native.Mathlib.Omega.{arith}
+use Prim.Native.Nat.{◌-◌, ◌≤◌}
+use lib.ListN.{length, take}
+use mathlib.Core.Path.{◌≡◌}
 use Rattle.element.proofs.copy.Given as goal
 
 abbrev pub invariant-loop-i : goal.invariant-loop-i

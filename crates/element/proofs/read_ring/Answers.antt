@@ -37,8 +37,8 @@ returns-else-count-room c =
     let n = s.args.count in
     let room = size - off in
     let rest = n - room in
-    let p = at-copy2.copy-else-count-room.new.dst.0 in
-    let q = at-copy3.copy-else-count-room-2.new.dst.0 in
+    let p = at-copy2.copy-else-count-room.new.dst in
+    let q = at-copy3.copy-else-count-room-2.new.dst in
     let off-in : off ≤ size = omega arith in
     let le : room ≤ n = omega arith in
     let inside : room ≤ length o = omega arith in
@@ -47,7 +47,7 @@ returns-else-count-room c =
     let e₃ : room - 0 ≡ room = omega arith in
     let p-is : p ≡ take room (drop (base + off) m) = at-copy2.copy-else-count-room.ensures ∙ ap (λ (k : ℕ). take k (drop (base + off) m)) e₁ in
     let q-is : q ≡ take rest (drop (base + 4) m) = at-copy3.copy-else-count-room-2.ensures ∙ ap (λ (k : ℕ). take k (drop (base + 4) m)) e₂ in
-    let p-len : length p ≡ room = at-copy2.copy-else-count-room.auto.1.0 ∙ mid_len 0 room o inside ∙ e₃ in
+    let p-len : length p ≡ room = at-copy2.copy-else-count-room.auto.dst ∙ mid_len 0 room o inside ∙ e₃ in
     two_parts o p q room n p-len le
     ∙ ap (λ (l : List ℕ). (l ++ q) ++ drop n o) p-is
     ∙ ap (λ (l : List ℕ). (take room (drop (base + off) m) ++ l) ++ drop n o) q-is

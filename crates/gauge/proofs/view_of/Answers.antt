@@ -1,5 +1,4 @@
 -- `gauge::view_of` meets its contract: each arm is what the definition has for its case. Assumes nothing.
-use mathlib.Core.Path.{refl}
 use lib.Ieee.{of_bits}
 use Rattle.gauge.specs.Gauge.{view_of}
 use Rattle.gauge.proofs.view_of.Goals as goal

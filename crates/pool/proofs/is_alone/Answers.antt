@@ -1,6 +1,6 @@
 -- `pool::is_alone` meets its contract: each return is what the tests before it pick. Assumes nothing.
 use mathlib.Core.Path.{◌∙◌}
-use borrow.Author.Tests.{eq-eqb, ne_eqb, lt-leb, le-leb, not-true, not-false}
+use borrow.Author.Tests.{eq-eqb, ne_eqb, lt-leb, le-leb}
 use Rattle.pool.specs.Steps.{alone_b}
 use Rattle.pool.proofs.is_alone.Goals as goal
 

@@ -1,9 +1,6 @@
 -- `pool::is_sound` meets its contract. The loop's invariant: what the blocks from i on say is the answer. Assumes nothing.
-use mathlib.Core.Path.{◌≡◌, sym, ◌∙◌}
-use Prim.Native.Nat.{◌-◌, ◌≤◌}
+use mathlib.Core.Path.{sym, ◌∙◌}
 use native.Mathlib.Omega.{arith}
-use borrow.Author.Tests.{not-true, not-false}
-use Rattle.pool.specs.Pool.{every, sound_b}
 use Rattle.pool.specs.Steps.{alone_b}
 use Rattle.pool.proofs.Every.{every_here, every_on, every_end}
 use Rattle.pool.proofs.Sound.{sound_is}

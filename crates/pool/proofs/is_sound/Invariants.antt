@@ -1,13 +1,8 @@
 -- `pool::is_sound` meets its contract. The loop's invariant: what the blocks from i on say is the answer. Assumes nothing.
 use Prim.Native.Nat.{◌-◌, ◌≤◌}
-use Rattle.pool.proofs.BlockByBlock.{past_block}
-use Rattle.pool.proofs.Every.{every_here, every_on, every_end}
-use Rattle.pool.proofs.Sound.{sound_is}
 use Rattle.pool.specs.Pool.{every, sound_b}
 use Rattle.pool.specs.Steps.{alone_b}
-use borrow.Author.Tests.{not-true, not-false}
-use mathlib.Core.Path.{◌≡◌, sym, ◌∙◌}
-use native.Mathlib.Omega.{arith}
+use mathlib.Core.Path.{◌≡◌}
 use Rattle.pool.proofs.is_sound.Given as goal
 
 abbrev pub invariant-loop-i : goal.invariant-loop-i

@@ -1,9 +1,8 @@
 -- `pool::none_starts` meets its contract. The loop's invariant: what the units from k on say is the answer. Assumes nothing.
-use mathlib.Core.Path.{◌≡◌, sym, ◌∙◌}
-use Prim.Native.Nat.{◌+◌, ◌-◌, ◌≤◌}
+use mathlib.Core.Path.{sym, ◌∙◌}
+use Prim.Native.Nat.{◌+◌}
 use native.Mathlib.Omega.{arith}
 use borrow.Author.Tests.{eq-eqb, ne_eqb}
-use Rattle.pool.specs.Pool.{every}
 use Rattle.pool.specs.Steps.{empty_b}
 use Rattle.pool.proofs.Every.{every_start, every_here, every_on, every_end}
 use Rattle.pool.proofs.none_starts.Goals as goal

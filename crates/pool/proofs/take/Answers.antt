@@ -1,20 +1,9 @@
 -- `pool::take` meets its contract: each return is what the tests before it pick. Assumes nothing.
-use mathlib.Core.Path.{◌≡◌, refl, sym, ◌∙◌}
-use mathlib.Core.Bool.{true}
+use mathlib.Core.Path.{refl, sym, ◌∙◌}
 use native.Mathlib.Omega.{arith}
-use borrow.Author.Tests.{not-true, not-false}
-use Rattle.pool.specs.Pool.{size_b, sound_b}
 use Rattle.pool.proofs.Sizes.{size_most}
 use Rattle.pool.proofs.Answers.{did, takes_3, takes_18, takes_19, takes_at, found_below}
 use Rattle.pool.proofs.take.Goals as goal
-use Rattle.pool.proofs.take.Lts as lts
-
--- what the two tests have shown
-is-sound : (c : lts.Else-not-is_sound) → sound_b c.args.t1 ≡ true
-is-sound c = sym c.is_sound.ensures ∙ c.if-not-is_sound.false
-
-has-size : (c : lts.Else-not-is_size) → size_b c.args.units ≡ true
-has-size c = sym c.is_size.ensures ∙ c.if-not-is_size.false
 
 pub returns-then-not-is_sound : goal.returns-then-not-is_sound
 returns-then-not-is_sound c =
@@ -24,10 +13,10 @@ returns-then-not-is_sound c =
 pub returns-then-not-is_size : goal.returns-then-not-is_size
 returns-then-not-is_size c =
     let r = c.refused-then-not-is_size.ensures in
-    did _ _ _ (takes_18 _ _ (is-sound c) (sym c.is_size.ensures ∙ c.if-not-is_size.true)) r.0 r.1
+    did _ _ _ (takes_18 _ _ (sym c.is_sound.ensures ∙ c.if-not-is_sound.false) (sym c.is_size.ensures ∙ c.if-not-is_size.true)) r.0 r.1
 
 pub lowest_block-lowest-requires : goal.lowest_block-lowest-requires
-lowest_block-lowest-requires c = (is-sound c, has-size c)
+lowest_block-lowest-requires c = ((sym c.is_sound.ensures ∙ c.if-not-is_sound.false), (sym c.is_size.ensures ∙ c.if-not-is_size.false))
 
 pub overflow_cast-first : goal.overflow_cast-first
 overflow_cast-first c =
@@ -35,7 +24,7 @@ overflow_cast-first c =
     omega arith
 
 pub overflow_cast-after : goal.overflow_cast-after
-overflow_cast-after c = let m = size_most _ (has-size c) in omega arith
+overflow_cast-after c = let m = size_most _ (sym c.is_size.ensures ∙ c.if-not-is_size.false) in omega arith
 
 pub bounds-after-start : goal.bounds-after-start
 bounds-after-start c = found_below _ _ _ (sym c.lowest_block-lowest.ensures ∙ c.in-At.is)
@@ -43,10 +32,8 @@ bounds-after-start c = found_below _ _ _ (sym c.lowest_block-lowest.ensures ∙ 
 pub returns-in-Nothing : goal.returns-in-Nothing
 returns-in-Nothing c =
     let r = c.refused-in-Nothing.ensures in
-    let e = c in
-    did _ _ _ (takes_19 _ _ (is-sound e) (has-size e) (sym c.lowest_block-lowest.ensures ∙ c.in-Nothing.is)) r.0 r.1
+    did _ _ _ (takes_19 _ _ (sym c.is_sound.ensures ∙ c.if-not-is_sound.false) (sym c.is_size.ensures ∙ c.if-not-is_size.false) (sym c.lowest_block-lowest.ensures ∙ c.in-Nothing.is)) r.0 r.1
 
 pub returns-in-At : goal.returns-in-At
 returns-in-At c =
-    let e = c in
-    did _ _ _ (takes_at _ _ _ (is-sound e) (has-size e) (sym c.lowest_block-lowest.ensures ∙ c.in-At.is)) refl refl
+    did _ _ _ (takes_at _ _ _ (sym c.is_sound.ensures ∙ c.if-not-is_sound.false) (sym c.is_size.ensures ∙ c.if-not-is_size.false) (sym c.lowest_block-lowest.ensures ∙ c.in-At.is)) refl refl

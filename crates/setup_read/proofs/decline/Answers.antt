@@ -4,20 +4,18 @@ use Rattle.setup_read.specs.declared.Kind.TheVariants.{Decline}
 use mathlib.Core.Bool.{false}
 use Rattle.setup_read.specs.Places.{decline_at, zeros}
 use Prim.Native.Nat.{◌/◌, ◌%◌}
-use borrow.Author.Rules.{rules}
-use Rattle.setup_read.proofs.decline.Statement.{statement}
-use Rattle.setup_read.proofs.decline.Tie as tie
+use Rattle.setup_read.proofs.decline.Goals as goal
 
-returns : tie.Need-returns
+pub returns : goal.returns
 unfolding decline_at
-returns c = let a = c.before.before.before.before in
+returns c = let a = c in
     λ i.
     record {
       kind = Decline;
-      version = a.u8-at.ensures i / 16;
+      version = a.u8_at-b.ensures i / 16;
       first = false;
-      sync = eqb (a.u8-at.ensures i / 8 % 2) 1;
-      peer = c.before.bytes.ensures i;
+      sync = eqb (a.u8_at-b.ensures i / 8 % 2) 1;
+      peer = c.bytes.ensures i;
       gid = zeros 16;
       mac = zeros 6;
       qp = 0;
@@ -33,10 +31,5 @@ returns c = let a = c.before.before.before.before in
       masklen = 0;
       count = 0;
       prefixes = zeros 136;
-      diagnosis = c.before.before.before.u32-at.ensures i;
+      diagnosis = c.u32_at-diagnosis.ensures i;
     }
-
-pub decline-spec : {M : Type 1} → statement M
-decline-spec =
-    tie.close
-    (tie.spec (λ c κs. search rules) (λ c κs. search rules) (λ c. search rules) (λ c κs. search rules) returns)
