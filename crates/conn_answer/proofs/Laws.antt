@@ -24,56 +24,56 @@ module _ (reply : Reply) (rec : Record) where
 module _ (reply : Reply) (tells : Bool) (rec : Record) where
   pub outcome_reply : (outcome_of reply tells rec).reply ≡ reply
   unfolding outcome_of
-  outcome_reply = elim tells [ true ↦ refl | false ↦ refl ]
+  outcome_reply = elim tells as (λ (z : Bool). (outcome_of reply z rec).reply ≡ reply) [ true ↦ refl | false ↦ refl ]
 
   pub outcome_made : (outcome_of reply tells rec).made ≡ tells
   unfolding outcome_of
-  outcome_made = elim tells [ true ↦ refl | false ↦ refl ]
+  outcome_made = elim tells as (λ (z : Bool). (outcome_of reply z rec).made ≡ z) [ true ↦ refl | false ↦ refl ]
 
   pub outcome_after : (outcome_of reply tells rec).after ≡ cond tells (told_of rec) rec
   unfolding outcome_of
-  outcome_after = elim tells [ true ↦ refl | false ↦ refl ]
+  outcome_after = elim tells as (λ (z : Bool). (outcome_of reply z rec).after ≡ cond z (told_of rec) rec) [ true ↦ refl | false ↦ refl ]
 
   pub outcome_message : (outcome_of reply tells rec).message ≡ cond tells (encode_of (message_of rec)) no_message
   unfolding outcome_of
-  outcome_message = elim tells [ true ↦ refl | false ↦ refl ]
+  outcome_message = elim tells as (λ (z : Bool). (outcome_of reply z rec).message ≡ cond z (encode_of (message_of rec)) no_message) [ true ↦ refl | false ↦ refl ]
 
   -- making a message keeps the record but for T and the next sequence number
   pub outcome_id : (outcome_of reply tells rec).after.id ≡ rec.id
   unfolding outcome_of told_of
-  outcome_id = elim tells [ true ↦ refl | false ↦ refl ]
+  outcome_id = elim tells as (λ (z : Bool). (outcome_of reply z rec).after.id ≡ rec.id) [ true ↦ refl | false ↦ refl ]
 
   pub outcome_marks : (outcome_of reply tells rec).after.marks ≡ rec.marks
   unfolding outcome_of told_of
-  outcome_marks = elim tells [ true ↦ refl | false ↦ refl ]
+  outcome_marks = elim tells as (λ (z : Bool). (outcome_of reply z rec).after.marks ≡ rec.marks) [ true ↦ refl | false ↦ refl ]
 
   pub outcome_p : (outcome_of reply tells rec).after.inbound.producer ≡ rec.inbound.producer
   unfolding outcome_of told_of told_in
-  outcome_p = elim tells [ true ↦ refl | false ↦ refl ]
+  outcome_p = elim tells as (λ (z : Bool). (outcome_of reply z rec).after.inbound.producer ≡ rec.inbound.producer) [ true ↦ refl | false ↦ refl ]
 
   pub outcome_c : (outcome_of reply tells rec).after.inbound.consumer ≡ rec.inbound.consumer
   unfolding outcome_of told_of told_in
-  outcome_c = elim tells [ true ↦ refl | false ↦ refl ]
+  outcome_c = elim tells as (λ (z : Bool). (outcome_of reply z rec).after.inbound.consumer ≡ rec.inbound.consumer) [ true ↦ refl | false ↦ refl ]
 
   pub outcome_remote : (outcome_of reply tells rec).after.remote ≡ rec.remote
   unfolding outcome_of told_of
-  outcome_remote = elim tells [ true ↦ refl | false ↦ refl ]
+  outcome_remote = elim tells as (λ (z : Bool). (outcome_of reply z rec).after.remote ≡ rec.remote) [ true ↦ refl | false ↦ refl ]
 
   pub outcome_q : (outcome_of reply tells rec).after.outbound.producer ≡ rec.outbound.producer
   unfolding outcome_of told_of used_in
-  outcome_q = elim tells [ true ↦ refl | false ↦ refl ]
+  outcome_q = elim tells as (λ (z : Bool). (outcome_of reply z rec).after.outbound.producer ≡ rec.outbound.producer) [ true ↦ refl | false ↦ refl ]
 
   pub outcome_r : (outcome_of reply tells rec).after.outbound.consumer ≡ rec.outbound.consumer
   unfolding outcome_of told_of used_in
-  outcome_r = elim tells [ true ↦ refl | false ↦ refl ]
+  outcome_r = elim tells as (λ (z : Bool). (outcome_of reply z rec).after.outbound.consumer ≡ rec.outbound.consumer) [ true ↦ refl | false ↦ refl ]
 
   pub outcome_t : (outcome_of reply tells rec).after.inbound.told ≡ cond tells rec.inbound.consumer rec.inbound.told
   unfolding outcome_of told_of told_in
-  outcome_t = elim tells [ true ↦ refl | false ↦ refl ]
+  outcome_t = elim tells as (λ (z : Bool). (outcome_of reply z rec).after.inbound.told ≡ cond z rec.inbound.consumer rec.inbound.told) [ true ↦ refl | false ↦ refl ]
 
   pub outcome_next : (outcome_of reply tells rec).after.outbound.next ≡ cond tells (sequence_after rec.outbound.next) rec.outbound.next
   unfolding outcome_of told_of used_in
-  outcome_next = elim tells [ true ↦ refl | false ↦ refl ]
+  outcome_next = elim tells as (λ (z : Bool). (outcome_of reply z rec).after.outbound.next ≡ cond z (sequence_after rec.outbound.next) rec.outbound.next) [ true ↦ refl | false ↦ refl ]
 
 -- an urgent send differs from another call that tells in its message alone
 module _ (reply : Reply) (m : Message) (rec : Record) where
@@ -110,19 +110,19 @@ module _ (k : ℕ) (rec : Record) where
 module _ (shut : Bool) (o : Outcome) where
   pub closed_reply : (closed_if shut o).reply ≡ o.reply
   unfolding closed_if
-  closed_reply = elim shut [ true ↦ refl | false ↦ refl ]
+  closed_reply = elim shut as (λ (z : Bool). (closed_if z o).reply ≡ o.reply) [ true ↦ refl | false ↦ refl ]
 
   pub closed_made : (closed_if shut o).made ≡ o.made
   unfolding closed_if
-  closed_made = elim shut [ true ↦ refl | false ↦ refl ]
+  closed_made = elim shut as (λ (z : Bool). (closed_if z o).made ≡ o.made) [ true ↦ refl | false ↦ refl ]
 
   pub closed_message : (closed_if shut o).message ≡ o.message
   unfolding closed_if
-  closed_message = elim shut [ true ↦ refl | false ↦ refl ]
+  closed_message = elim shut as (λ (z : Bool). (closed_if z o).message ≡ o.message) [ true ↦ refl | false ↦ refl ]
 
   pub closed_after : (closed_if shut o).after ≡ cond shut zero_record o.after
   unfolding closed_if
-  closed_after = elim shut [ true ↦ refl | false ↦ refl ]
+  closed_after = elim shut as (λ (z : Bool). (closed_if z o).after ≡ cond z zero_record o.after) [ true ↦ refl | false ↦ refl ]
 
 module _ (o : Outcome) where
   pub closed_shut : (closed_if true o).after.id.opened ≡ false
@@ -147,4 +147,4 @@ module _ (n : ℕ) (rec : Record) where
 
   pub outcome_coherent : (reply : Reply) (tells : Bool) → coherent_b n rec ≡ true → coherent_b n (outcome_of reply tells rec).after ≡ true
   outcome_coherent reply tells e =
-      rw (outcome_after reply tells rec) (elim tells [ true ↦ told_coherent e | false ↦ e ])
+      rw (outcome_after reply tells rec) (elim tells as (λ (z : Bool). coherent_b n (cond z (told_of rec) rec) ≡ true) [ true ↦ told_coherent e | false ↦ e ])
