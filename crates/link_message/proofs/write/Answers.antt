@@ -63,3 +63,33 @@ returns c =
     let l = c.loop-i in
     let a = c.args in
     l.invariant.2 ∙ all_there a.kind a.vs l.i (omega arith)
+
+pub add-requires : goal.add-requires
+add-requires c =
+    let a = c.args in
+    let l = c.loop-i in
+    let w = within a.kind l.i (omega arith) in
+    let g = step a.kind a.vs l.i (omega arith) in
+    let p = get_or (table_of a.kind) l.i no_place in
+    let e = c.place_of-p.ensures in
+    let x : c.low.result * c.power.result ≡ get_or a.vs l.i 0 % 2 ^ p.3 * 2 ^ p.2 =
+    λ j. (c.low.ensures ∙ ap (λ (q : Place). get_or a.vs l.i 0 % 2 ^ q.3) e) j
+    * (c.power.ensures ∙ ap (λ (q : Place). 2 ^ q.2) e) j in (
+      subst (λ (q : Place). q.1 ≤ 8) (sym e) w.small,
+      bound a.kind a.vs l.i l.out c.place_of-p.result _ l.invariant.2 e x g,
+    )
+
+pub loop-i-preserved : goal.loop-i-preserved
+loop-i-preserved c =
+    let a = c.args in
+    let l = c.loop-i in
+    let g = step a.kind a.vs l.i (omega arith) in
+    let p = get_or (table_of a.kind) l.i no_place in
+    let e = c.place_of-p.ensures in
+    let x : c.low.result * c.power.result ≡ get_or a.vs l.i 0 % 2 ^ p.3 * 2 ^ p.2 =
+    λ j. (c.low.ensures ∙ ap (λ (q : Place). get_or a.vs l.i 0 % 2 ^ q.3) e) j
+    * (c.power.ensures ∙ ap (λ (q : Place). 2 ^ q.2) e) j in (
+      l.invariant.0,
+      omega arith,
+      c.add.ensures ∙ laid_next a.kind a.vs l.i l.out c.place_of-p.result _ l.invariant.2 e x g,
+    )
