@@ -8,6 +8,7 @@ pub entry-f-requires : goal.entry-f-requires
 entry-f-requires c = (
   omega (arith, c.arriving.ensures, arriving_less c.args.m),
   omega (arith, c.sort.ensures, sort_less c.args.x),
+)
 
 pub returns : goal.returns
 unfolding fate_of

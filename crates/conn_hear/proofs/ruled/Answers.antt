@@ -1,0 +1,26 @@
+-- `conn_hear::ruled` meets its contract.
+-- Assumes nothing.
+use Rattle.conn_hear.specs.Hear.{ruled_of}
+use Rattle.conn_hear.proofs.ruled.Goals as goal
+
+pub returns-then-ok : goal.returns-then-ok
+unfolding ruled_of
+returns-then-ok c =
+    let b = c in
+    simp (
+      ← b.consumer_ok.ensures,
+      ← b.producer_ok.ensures,
+      c.if-ok.true,
+      c.accepted.ensures,
+    )
+
+pub returns : goal.returns
+unfolding ruled_of
+returns c =
+    let b = c in
+    simp (
+      ← b.consumer_ok.ensures,
+      ← b.producer_ok.ensures,
+      c.if-ok.false,
+      c.refused.ensures,
+    )
