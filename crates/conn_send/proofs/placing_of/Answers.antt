@@ -5,6 +5,9 @@ use Rattle.conn_send.specs.Transmit.{placing_of}
 use Rattle.conn_send.proofs.Laws.{token_fits}
 use Rattle.conn_send.proofs.placing_of.Goals as goal
 
+pub overflow_sub-before : goal.overflow_sub-before
+overflow_sub-before c = let s = c in omega (arith, (remote_facts s.args.rec.remote s.requires.0).index_least)
+
 pub overflow_mul-before : goal.overflow_mul-before
 overflow_mul-before c =
     let s = c in
