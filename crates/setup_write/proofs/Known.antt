@@ -42,14 +42,14 @@ pub record Typed (m : Message) : Type 0 where
   pub prefixes : Bytes 136 m.prefixes
   pub diagnosis : m.diagnosis < 4294967296
 
-all_bytes : (b : List ℕ) (us : List Val) → shadow (each ℕ (UInt Syntax.w8).own_val (map (λ (x : ℕ). x) b) us) → are_bytes b ≡ true
+all_bytes : (b : List ℕ) (us : List Val) → shadow (each ℕ (UInt Syntax.w8).own_val b us) → are_bytes b ≡ true
 unfolding are_bytes
 all_bytes [] us s = refl
 all_bytes (x ∷ b) [] s = absurd s
 all_bytes (x ∷ b) (u ∷ us) s = λ i. lt-ltb x 256 s.0.1 i && all_bytes b us s.1 i
 
-an_array : (n : ℕ) (b : List ℕ) (vs : List Val) → shadow (in_array ℕ (UInt Syntax.w8).own_val n (map (λ (x : ℕ). x) b) vs) → Bytes n b
-an_array n b vs s = record { size = sym (length-map b (λ (x : ℕ). x)) ∙ s.1.0.1; small = all_bytes b s.0 s.1.1 }
+an_array : (n : ℕ) (b : List ℕ) (vs : List Val) → shadow (in_array ℕ (UInt Syntax.w8).own_val n b vs) → Bytes n b
+an_array n b vs s = record { size = s.1.0.1; small = all_bytes b s.0 s.1.1 }
 
 pub known : (m : Message) (vs : List Val) → Is (Declared.row M.the_type) m vs → Typed m
 known m vs s =

@@ -1,0 +1,9 @@
+-- `c_pool::take` meets its contract: what the pool's call did, flat. Assumes nothing.
+use mathlib.Core.Path.{◌∙◌}
+use Rattle.c_pool.specs.FlatPool.{flat_of}
+use Rattle.c_pool.proofs.take.Goals as goal
+
+pub returns : goal.returns
+returns c =
+    let d = c.take.ensures in
+    record { answered = c.answer_of.ensures ∙ (λ i. flat_of (d.answered i) (d.left i)) }
