@@ -1,10 +1,10 @@
 -- What a message's type says of its fields: each number is below 2 to its type's bits, each array has its bytes.
 -- Assumes nothing.
 use Prim.Native.Nat.{ℕ, ◌<◌}
-use mathlib.Core.Path.{◌≡◌, ◌∙◌, refl, sym}
+use mathlib.Core.Path.{◌≡◌, refl}
 use mathlib.Core.Bool.{true, ◌&&◌}
-use mathlib.Core.List.{List, [], ◌∷◌, map}
-use lib.ListN.{length, length-map}
+use mathlib.Core.List.{List, [], ◌∷◌}
+use lib.ListN.{length}
 use borrow.Author.Tests.{lt-ltb}
 use mir.Val.{Val}
 use mir.Syntax

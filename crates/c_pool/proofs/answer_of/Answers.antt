@@ -1,9 +1,3 @@
-use native.Mathlib.Omega.{arith}
-use Prim.Native.Nat.{ℕ, ◌+◌, ◌-◌, ◌*◌, ◌≤◌, ◌<◌}
-use mathlib.Core.Path.{◌≡◌, refl, sym, ap, ◌∙◌}
-use mathlib.Core.List.{List, [], ◌∷◌, ◌++◌}
-use lib.ListN.{length, take, drop, get_or, set, length-set}
-use Rattle.c_pool.proofs.answer_of.Reads as reads
 use Rattle.c_pool.proofs.answer_of.Goals as goal
 
 -- src/lib.rt:40:22

@@ -2,7 +2,7 @@
 use Rattle.setup_write.specs.Pieces.{diagnosis_of}
 use Rattle.setup_read.specs.Places.{zeros}
 use Rattle.setup_read.specs.Clc.{eye_catcher}
-use Rattle.layout.proofs.Places.{Over, over_first, over_next, be_length}
+use Rattle.layout.proofs.Places.{over_first, over_next, be_length}
 use Rattle.layout.specs.Layout.{be_of}
 use native.Mathlib.Omega.{arith}
 use mathlib.Core.Path.{refl}

@@ -3,11 +3,11 @@ use mathlib.Core.Bool.{cond}
 use Rattle.setup_write.specs.Pieces.{head_of, flag_of}
 use Rattle.setup_write.proofs.Known.{known}
 use Rattle.setup_read.specs.Clc.{eye_catcher}
-use Rattle.layout.proofs.Places.{Over, over_first, over_next, be_length}
+use Rattle.layout.proofs.Places.{over_first, over_next, be_length}
 use Rattle.layout.specs.Layout.{be_of, laid_at}
 use native.Mathlib.Omega.{arith}
 use Prim.Native.Nat.{ℕ, ◌+◌, ◌*◌}
-use mathlib.Core.Path.{refl, sym, ap, ◌∙◌}
+use mathlib.Core.Path.{refl, ap, ◌∙◌}
 use Rattle.setup_write.proofs.put_head.Goals as goal
 
 pub returns : goal.returns

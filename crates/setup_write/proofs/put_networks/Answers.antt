@@ -4,11 +4,11 @@ use Rattle.setup_write.specs.Pieces.{networks_of}
 use Rattle.setup_write.proofs.Known.{known}
 use Rattle.setup_read.specs.Places.{zeros}
 use Rattle.setup_read.specs.Clc.{eye_catcher}
-use Rattle.layout.proofs.Places.{Over, over_first, over_next, over_length, be_length}
+use Rattle.layout.proofs.Places.{over_first, over_next, be_length}
 use Rattle.layout.specs.Layout.{be_of, laid_at}
 use native.Mathlib.Omega.{arith}
 use Prim.Native.Nat.{ℕ, ◌+◌, ◌-◌, ◌*◌}
-use mathlib.Core.Path.{◌≡◌, refl, sym, ap, ◌∙◌}
+use mathlib.Core.Path.{◌≡◌, refl, ap, ◌∙◌}
 use lib.ListN.{length, take, length-replicate}
 use Rattle.setup_write.proofs.put_networks.Goals as goal
 

@@ -1,7 +1,7 @@
 -- `setup_write::put_port` meets its contract. Assumes nothing.
 use Rattle.setup_write.specs.Pieces.{port_of}
 use Rattle.setup_write.proofs.Known.{known}
-use Rattle.layout.proofs.Places.{Over, over_first, over_next}
+use Rattle.layout.proofs.Places.{over_first, over_next}
 use native.Mathlib.Omega.{arith}
 use mathlib.Core.Path.{refl}
 use Rattle.setup_write.proofs.put_port.Goals as goal

@@ -1,5 +1,5 @@
 -- `setup_write::write` meets its contract. Assumes nothing.
-use Rattle.setup_write.proofs.Written.{Ready, unfit, short, ready, after_head, longer, declined, networks_room, proposed, rmb_room, answered}
+use Rattle.setup_write.proofs.Written.{unfit, short, ready, after_head, longer, declined, networks_room, proposed, rmb_room, answered}
 use Rattle.setup_write.proofs.Known.{known}
 use native.Mathlib.Omega.{arith}
 use Rattle.setup_write.proofs.write.Goals as goal

@@ -1,0 +1,7 @@
+-- `setup::say` meets its contract. Assumes nothing.
+use Rattle.setup.specs.Setup.{saying}
+use Rattle.setup.proofs.say.Goals as goal
+
+pub returns : goal.returns
+unfolding saying
+returns c = simp (c.write-n.ensures.0, c.write-n.ensures.1)
