@@ -1,5 +1,5 @@
 -- Set-up's messages due by number, and its answer without enums. Assumes nothing.
-use Rattle.std.specs.Prelude.{ℕ, Bool, true, false, cond, List, ltb, eqb}
+use Rattle.std.specs.Prelude.{ℕ, true, false, cond, List, ltb, eqb}
 use Rattle.setup_read.specs.Places.{zeros}
 use Rattle.setup.specs.declared.Settings.{Settings}
 use Rattle.setup.specs.declared.Due.{Due}

@@ -8,7 +8,6 @@ use Rattle.setup_read.specs.declared.Kind.TheVariants.{Nothing, Proposal, Accept
 use Rattle.setup_read.specs.Clc.{kind_in}
 use Rattle.setup.specs.declared.Settings.{Settings}
 use Rattle.setup.specs.declared.Due.{Due}
-use Rattle.setup.specs.declared.Arguments.{Arguments}
 use Rattle.setup.specs.declared.Opening.TheVariants.{NoOpen, Open}
 use Rattle.setup.specs.declared.Diagnosis.TheVariants.{NoDiagnosis, Number}
 use Rattle.setup.specs.declared.Outcome.{Outcome}
