@@ -7,12 +7,11 @@ use native.Mathlib.Numerals.{add-one}
 use native.Mathlib.Omega.{arith}
 use native.Mathlib.Decide.{dec_le}
 use lib.Dec.{T as Holds, leb, eqb, ltb, nltb→le}
-use lib.ListN.{length, get_or, drop, set, get_or-eq_default, length-map, length-set}
+use lib.ListN.{length, get_or, drop, set, get_or-eq_default, length-set}
 use lib.Seq.{drop-cons, get_or-set_same, get_or-set_other, set-get_or, set_out}
 use mir.Val.{Val}
 use denote.Laws.{Is}
 use borrow.Author.Tests.{le-leb, lt-leb, leb-true, eqb-true, eq-eqb, ne_eqb}
-use borrow.Author.Rules.{length_unmapped}
 use Rattle.gauge.specs.declared.Gauge.{Gauge}
 use Rattle.gauge.specs.Gauge.{cleared_of}
 use Rattle.conn_record.specs.declared.Record.{Record}
@@ -24,10 +23,10 @@ use Rattle.group_table.specs.contracts.Links.{the_row}
 
 -- THE ARRAYS' LENGTHS, which a value of the type has
 pub links_length : (l : Links) (vs : List Val) (is : Is the_row l vs) → length l.active ≡ 4
-links_length l vs is = length_unmapped Bool l.active 4 is.1.1.0.1.0.1
+links_length l vs is = is.1.1.0.1.0.1
 
 pub gauges_length : (l : Links) (vs : List Val) (is : Is the_row l vs) → length l.gauges ≡ 4
-gauges_length l vs is = sym (length-map l.gauges _) ∙ is.1.1.1.0.1.0.1
+gauges_length l vs is = is.1.1.1.0.1.0.1
 
 -- SIZES AND SLOTS: what a test that holds tells
 pub record Sizes (s n len count : ℕ) : Type 0 where

@@ -9,7 +9,6 @@ use lib.ListN.{length, get_or}
 use mir.Val.{Val}
 use denote.Laws.{Is}
 use borrow.Author.Tests.{le-leb, lt-leb}
-use borrow.Author.Rules.{length_unmapped}
 use Rattle.cdc.specs.declared.Message.{Message}
 use Rattle.cdc.specs.Cdc.{encode_of}
 use Rattle.layout.specs.Layout.{laid_at}
@@ -22,10 +21,10 @@ use Rattle.link_failover.specs.contracts.Plan.{the_row}
 
 -- THE ARRAYS' LENGTHS, which a value of the type has
 pub before_length : (p : Plan) (vs : List Val) (is : Is the_row p vs) → length p.before ≡ 4
-before_length p vs is = length_unmapped Bool p.before 4 is.1.1.0.1.0.1
+before_length p vs is = is.1.1.0.1.0.1
 
 pub after_length : (p : Plan) (vs : List Val) (is : Is the_row p vs) → length p.after ≡ 4
-after_length p vs is = length_unmapped Bool p.after 4 is.1.1.1.0.1.0.1
+after_length p vs is = is.1.1.1.0.1.0.1
 
 module _ (p : Plan) (l : ℕ) where
   pub gone_low : l < 1 → false ≡ gone_b p l

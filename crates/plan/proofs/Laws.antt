@@ -7,7 +7,6 @@ use lib.Dec.{T as Holds, ltb, eqb}
 use lib.ListN.{length, get_or}
 use mir.Val.{Val}
 use denote.Laws.{Is}
-use borrow.Author.Rules.{length_unmapped}
 use Rattle.closing.specs.declared.Marks.{Marks}
 use Rattle.closing.specs.Closing.{abort_sent}
 use Rattle.conn_record.specs.declared.Record.{Record}
@@ -22,7 +21,7 @@ use Rattle.plan.specs.contracts.LinkStates.{the_row}
 
 -- four links, which a value of the type has
 pub states_length : (l : LinkStates) (vs : List Val) (is : Is the_row l vs) → length l.active ≡ 4
-states_length l vs is = length_unmapped Bool l.active 4 is.1.1.0.1.0.1
+states_length l vs is = is.1.1.0.1.0.1
 
 -- a slot outside the table is closed
 shut : (b : Bool) (x : ℕ) → cond (b && false) x 2 ≡ 2
