@@ -36,12 +36,18 @@ struct Printed {
 }
 
 // SLOT HEAD BODY: each of the two is read into a buffer of its own.
-pub fn parse(buf: &mut [u8; 65536], head: &mut [u8], body: &mut [u8], c: Scan) -> GatherLine
+pub fn parse(
+    rt: HostRuntime,
+    buf: &mut [u8; 65536],
+    head: &mut [u8],
+    body: &mut [u8],
+    c: Scan,
+) -> GatherLine
     ensures { result.scan.left ≤ c.left }
 {
-    let slot = input::number(buf, c, 4294967295);
-    let h = input::bytes(buf, head, slot.scan);
-    let b = input::bytes(buf, body, h.scan);
+    let slot = input::number(rt, buf, c, 4294967295);
+    let h = input::bytes(rt, buf, head, slot.scan);
+    let b = input::bytes(rt, buf, body, h.scan);
     let scan = b.scan;
     GatherLine {
         scan: scan,
@@ -88,18 +94,19 @@ pub fn on_rows(
 }
 
 // One piece: key, address and bytes.
-fn one(o: &mut [u8; 65536], at: usize, p: Placing, bytes: &[u8]) -> usize
+fn one(rt: HostRuntime, o: &mut [u8; 65536], at: usize, p: Placing, bytes: &[u8]) -> usize
     ensures { result ≤ 65536 }
 {
-    let a = output::decimal(o, at, p.key as u64);
-    let b = output::byte(o, a, b',');
-    let c = output::decimal(o, b, p.address);
-    let d = output::byte(o, c, b',');
-    output::hex(o, d, bytes)
+    let a = output::decimal(rt, o, at, p.key as u64);
+    let b = output::byte(rt, o, a, b',');
+    let c = output::decimal(rt, o, b, p.address);
+    let d = output::byte(rt, o, c, b',');
+    output::hex(rt, o, d, bytes)
 }
 
 // The piece after the first k of n bytes.
 fn piece<'a>(
+    rt: HostRuntime,
     o: &mut [u8; 65536],
     at: usize,
     found: Record,
@@ -113,12 +120,13 @@ fn piece<'a>(
     let part = conn_gather::piece(head, body, found.remote.size, found.outbound.producer, n, k);
     let len = part.len() as u32;
     let p = conn_gather::placing(found, k, len);
-    let to = one(o, at, p, part);
+    let to = one(rt, o, at, p, part);
     Printed { len: len, at: to }
 }
 
 // All pieces, one at a time, up to the empty one.
 fn list<'a>(
+    rt: HostRuntime,
     o: &mut [u8; 65536],
     at: usize,
     found: Record,
@@ -129,31 +137,32 @@ fn list<'a>(
     ensures { result ≤ 65536 }
 {
     let mut k: u32 = 0;
-    let mut p = piece(o, at, found, head, body, n, k);
+    let mut p = piece(rt, o, at, found, head, body, n, k);
     while 0 < p.len {
         k += p.len;
-        let to = output::byte(o, p.at, b';');
-        p = piece(o, to, found, head, body, n, k);
+        let to = output::byte(rt, o, p.at, b';');
+        p = piece(rt, o, to, found, head, body, n, k);
     }
     p.at
 }
 
 // The message's bytes, or `-`, and the line's end.
-fn message(o: &mut [u8; 65536], at: usize, g: Gathered) -> usize
+fn message(rt: HostRuntime, o: &mut [u8; 65536], at: usize, g: Gathered) -> usize
     ensures { result ≤ 65536 }
 {
     let said = g.answer;
     let bytes = said.message;
-    let a = output::text(o, at, b" message ");
+    let a = output::text(rt, o, at, b" message ");
     let to = if said.made {
-        output::hex(o, a, &bytes)
+        output::hex(rt, o, a, &bytes)
     } else {
-        output::byte(o, a, b'-')
+        output::byte(rt, o, a, b'-')
     };
-    output::byte(o, to, b'\n')
+    output::byte(rt, o, to, b'\n')
 }
 
 fn gathered<'a>(
+    rt: HostRuntime,
     o: &mut [u8; 65536],
     at: usize,
     g: Gathered,
@@ -164,23 +173,24 @@ fn gathered<'a>(
     ensures { result ≤ 65536 }
 {
     let found = g.found;
-    let a = output::text(o, at, b"gather ");
-    let b = output::decimal(o, a, n as u64);
-    let c = output::text(o, b, b" pieces ");
-    let d = list(o, c, found, head, body, n);
-    message(o, d, g)
+    let a = output::text(rt, o, at, b"gather ");
+    let b = output::decimal(rt, o, a, n as u64);
+    let c = output::text(rt, o, b, b" pieces ");
+    let d = list(rt, o, c, found, head, body, n);
+    message(rt, o, d, g)
 }
 
-fn refused(o: &mut [u8; 65536], at: usize, k: u8) -> usize
+fn refused(rt: HostRuntime, o: &mut [u8; 65536], at: usize, k: u8) -> usize
     ensures { result ≤ 65536 }
 {
-    let a = output::text(o, at, b"refused ");
-    let b = output::decimal(o, a, k as u64);
-    output::byte(o, b, b'\n')
+    let a = output::text(rt, o, at, b"refused ");
+    let b = output::decimal(rt, o, a, k as u64);
+    output::byte(rt, o, b, b'\n')
 }
 
 // Prints what the call answered: n and the pieces, or a refusal. It answers nothing else.
 pub fn answer<'a>(
+    rt: HostRuntime,
     o: &mut [u8; 65536],
     at: usize,
     g: Gathered,
@@ -192,8 +202,8 @@ pub fn answer<'a>(
     let said = g.answer;
     let reply = said.reply;
     match reply {
-        Reply::Sent(n, _) => gathered(o, at, g, head, body, n),
-        Reply::Refused(k) => refused(o, at, k),
-        _ => output::text(o, at, b"bad line\n"),
+        Reply::Sent(n, _) => gathered(rt, o, at, g, head, body, n),
+        Reply::Refused(k) => refused(rt, o, at, k),
+        _ => output::text(rt, o, at, b"bad line\n"),
     }
 }

@@ -79,10 +79,10 @@ fn no_double(scan: Scan, why: u8) -> Double
 }
 
 // MEAN or WORST: one that is not finite, whose exponent is all ones, does not parse.
-fn double_of(buf: &mut [u8; 65536], given: &mut [u8], c: Scan) -> Double
+fn double_of(rt: HostRuntime, buf: &mut [u8; 65536], given: &mut [u8], c: Scan) -> Double
     ensures { result.scan.left ≤ c.left }
 {
-    let b = input::bytes(buf, given, c);
+    let b = input::bytes(rt, buf, given, c);
     let scan = b.scan;
     if b.count != 8 {
         return no_double(scan, input::BYTES);
@@ -98,10 +98,10 @@ fn double_of(buf: &mut [u8; 65536], given: &mut [u8], c: Scan) -> Double
 }
 
 // LINK, 1 to 4.
-pub fn link_of(buf: &mut [u8; 65536], c: Scan) -> Decimal
+pub fn link_of(rt: HostRuntime, buf: &mut [u8; 65536], c: Scan) -> Decimal
     ensures { (result.scan.left ≤ c.left) × (result.value ≤ 4) }
 {
-    let k = input::number(buf, c, 4);
+    let k = input::number(rt, buf, c, 4);
     if 0 < k.value {
         return k;
     }
@@ -113,11 +113,11 @@ pub fn link_of(buf: &mut [u8; 65536], c: Scan) -> Decimal
 }
 
 // MEAN WORST
-fn times_of(buf: &mut [u8; 65536], given: &mut [u8], c: Scan) -> Times
+fn times_of(rt: HostRuntime, buf: &mut [u8; 65536], given: &mut [u8], c: Scan) -> Times
     ensures { result.scan.left ≤ c.left }
 {
-    let mean = double_of(buf, given, c);
-    let worst = double_of(buf, given, mean.scan);
+    let mean = double_of(rt, buf, given, c);
+    let worst = double_of(rt, buf, given, mean.scan);
     let scan = worst.scan;
     Times {
         scan: scan,
@@ -127,11 +127,11 @@ fn times_of(buf: &mut [u8; 65536], given: &mut [u8], c: Scan) -> Times
 }
 
 // COUNT LATE, of a gauge at this link with these times.
-fn counted(buf: &mut [u8; 65536], link: u8, t: Times) -> Laid
+fn counted(rt: HostRuntime, buf: &mut [u8; 65536], link: u8, t: Times) -> Laid
     ensures { result.scan.left ≤ t.scan.left }
 {
-    let count = input::number(buf, t.scan, 255);
-    let late = input::number(buf, count.scan, 1);
+    let count = input::number(rt, buf, t.scan, 255);
+    let late = input::number(rt, buf, count.scan, 1);
     let g = Gauge {
         mean: t.mean,
         worst: t.worst,
@@ -147,13 +147,13 @@ fn counted(buf: &mut [u8; 65536], link: u8, t: Times) -> Laid
 }
 
 // LINK MEAN WORST COUNT LATE
-pub fn gauge_of(buf: &mut [u8; 65536], given: &mut [u8], c: Scan) -> Laid
+pub fn gauge_of(rt: HostRuntime, buf: &mut [u8; 65536], given: &mut [u8], c: Scan) -> Laid
     ensures { result.scan.left ≤ c.left }
 {
-    let k = link_of(buf, c);
+    let k = link_of(rt, buf, c);
     let link = k.value as u8;
-    let t = times_of(buf, given, k.scan);
-    counted(buf, link, t)
+    let t = times_of(rt, buf, given, k.scan);
+    counted(rt, buf, link, t)
 }
 
 // The bits of a double; of what is no number, those of the quiet one.
@@ -166,7 +166,7 @@ fn bits_of(x: f64) -> u64 {
 }
 
 // A space and a double.
-fn double_field(o: &mut [u8; 65536], at: usize, x: f64) -> usize
+fn double_field(rt: HostRuntime, o: &mut [u8; 65536], at: usize, x: f64) -> usize
     ensures { result ≤ 65536 }
 {
     let b = bits_of(x);
@@ -180,59 +180,59 @@ fn double_field(o: &mut [u8; 65536], at: usize, x: f64) -> usize
         (b / 256 % 256) as u8,
         (b % 256) as u8,
     ];
-    let to = output::byte(o, at, b' ');
-    output::hex(o, to, &bytes)
+    let to = output::byte(rt, o, at, b' ');
+    output::hex(rt, o, to, &bytes)
 }
 
-fn word(o: &mut [u8; 65536], at: usize, w: Word) -> usize
+fn word(rt: HostRuntime, o: &mut [u8; 65536], at: usize, w: Word) -> usize
     ensures { result ≤ 65536 }
 {
     match w {
-        Word::Unheard => output::text(o, at, b"unheard"),
-        Word::Steady => output::text(o, at, b"steady"),
-        Word::Late => output::text(o, at, b"late"),
+        Word::Unheard => output::text(rt, o, at, b"unheard"),
+        Word::Steady => output::text(rt, o, at, b"steady"),
+        Word::Late => output::text(rt, o, at, b"late"),
     }
 }
 
 // A health, as the press room's view shows it, and the line's end.
-pub fn health(o: &mut [u8; 65536], at: usize, h: Health) -> usize
+pub fn health(rt: HostRuntime, o: &mut [u8; 65536], at: usize, h: Health) -> usize
     ensures { result ≤ 65536 }
 {
     let v = gauge::view_of(h);
     let w = v.word;
-    let a = word(o, at, w);
+    let a = word(rt, o, at, w);
     let b = if 0 < v.shown {
-        double_field(o, a, v.mean)
+        double_field(rt, o, a, v.mean)
     } else {
         a
     };
     let c = if 1 < v.shown {
-        double_field(o, b, v.worst)
+        double_field(rt, o, b, v.worst)
     } else {
         b
     };
-    output::byte(o, c, b'\n')
+    output::byte(rt, o, c, b'\n')
 }
 
 // A gauge's line of `table`, as `gauge` has it.
-fn line(o: &mut [u8; 65536], at: usize, k: u64, g: Gauge) -> usize
+fn line(rt: HostRuntime, o: &mut [u8; 65536], at: usize, k: u64, g: Gauge) -> usize
     ensures { result ≤ 65536 }
 {
-    let a = output::text(o, at, b"gauge");
-    let b = output::field(o, a, k);
-    let c = double_field(o, b, g.mean);
-    let d = double_field(o, c, g.worst);
-    let e = output::field(o, d, g.count as u64);
-    let f = output::field(o, e, if g.late { 1 } else { 0 });
-    output::byte(o, f, b'\n')
+    let a = output::text(rt, o, at, b"gauge");
+    let b = output::field(rt, o, a, k);
+    let c = double_field(rt, o, b, g.mean);
+    let d = double_field(rt, o, c, g.worst);
+    let e = output::field(rt, o, d, g.count as u64);
+    let f = output::field(rt, o, e, if g.late { 1 } else { 0 });
+    output::byte(rt, o, f, b'\n')
 }
 
 // The four gauges' lines.
-pub fn lines(o: &mut [u8; 65536], at: usize, gauges: [Gauge; 4]) -> usize
+pub fn lines(rt: HostRuntime, o: &mut [u8; 65536], at: usize, gauges: [Gauge; 4]) -> usize
     ensures { result ≤ 65536 }
 {
-    let a = line(o, at, 1, gauges[0]);
-    let b = line(o, a, 2, gauges[1]);
-    let c = line(o, b, 3, gauges[2]);
-    line(o, c, 4, gauges[3])
+    let a = line(rt, o, at, 1, gauges[0]);
+    let b = line(rt, o, a, 2, gauges[1]);
+    let c = line(rt, o, b, 3, gauges[2]);
+    line(rt, o, c, 4, gauges[3])
 }

@@ -254,11 +254,11 @@ fn left_over(c: Scan) -> u8 {
 }
 
 // The line, where what was taken parses and nothing is left of it.
-fn ended(buf: &mut [u8; 65536], c: Scan, line: Line) -> Parsed
+fn ended(rt: HostRuntime, buf: &mut [u8; 65536], c: Scan, line: Line) -> Parsed
     ensures { result.scan.left ≤ c.left - 1 }
 {
     let why = left_over(c);
-    let scan = input::next_line(buf, c);
+    let scan = input::next_line(rt, buf, c);
     if why == input::FINE {
         Parsed {
             scan: scan,
@@ -272,10 +272,10 @@ fn ended(buf: &mut [u8; 65536], c: Scan, line: Line) -> Parsed
     }
 }
 
-fn unknown(buf: &mut [u8; 65536], c: Scan) -> Parsed
+fn unknown(rt: HostRuntime, buf: &mut [u8; 65536], c: Scan) -> Parsed
     ensures { result.scan.left ≤ c.left - 1 }
 {
-    let scan = input::next_line(buf, c);
+    let scan = input::next_line(rt, buf, c);
     Parsed {
         scan: scan,
         line: Line::Bad(input::WORD),
@@ -283,11 +283,11 @@ fn unknown(buf: &mut [u8; 65536], c: Scan) -> Parsed
 }
 
 // COUNT, or what stands for it where the line has none: S, as far as there are rows.
-fn count_of(buf: &mut [u8; 65536], c: Scan, s: u32) -> Decimal
+fn count_of(rt: HostRuntime, buf: &mut [u8; 65536], c: Scan, s: u32) -> Decimal
     ensures { (result.scan.left ≤ c.left) × (result.value ≤ 300) }
 {
     if c.byte == b' ' {
-        return input::number(buf, c, 300);
+        return input::number(rt, buf, c, 300);
     }
     let value = if s < 300 { s } else { 300 };
     Decimal {
@@ -297,156 +297,207 @@ fn count_of(buf: &mut [u8; 65536], c: Scan, s: u32) -> Decimal
 }
 
 // The rest of a `group` line, after S, N and LEN.
-fn counted(buf: &mut [u8; 65536], c: Scan, s: u32, n: u32, len: usize) -> Parsed
+fn counted(rt: HostRuntime, buf: &mut [u8; 65536], c: Scan, s: u32, n: u32, len: usize) -> Parsed
     ensures { result.scan.left ≤ c.left - 1 }
 {
-    let count = count_of(buf, c, s);
+    let count = count_of(rt, buf, c, s);
     ended(
+        rt,
         buf,
         count.scan,
         Line::Group(s, n, len, count.value as usize),
     )
 }
 
-fn group_line(buf: &mut [u8; 65536], c: Scan) -> Parsed
+fn group_line(rt: HostRuntime, buf: &mut [u8; 65536], c: Scan) -> Parsed
     ensures { result.scan.left ≤ c.left - 1 }
 {
-    let s = input::number(buf, c, MOST);
-    let n = input::number(buf, s.scan, MOST);
-    let len = input::number(buf, n.scan, 1048704);
-    counted(buf, len.scan, s.value, n.value, len.value as usize)
+    let s = input::number(rt, buf, c, MOST);
+    let n = input::number(rt, buf, s.scan, MOST);
+    let len = input::number(rt, buf, n.scan, 1048704);
+    counted(rt, buf, len.scan, s.value, n.value, len.value as usize)
 }
 
-fn poke_line(buf: &mut [u8; 65536], given: &mut [u8], c: Scan) -> Parsed
+fn poke_line(rt: HostRuntime, buf: &mut [u8; 65536], given: &mut [u8], c: Scan) -> Parsed
     ensures { result.scan.left ≤ c.left - 1 }
 {
-    let at = input::number(buf, c, MOST);
-    let b = input::bytes(buf, given, at.scan);
-    ended(buf, b.scan, Line::Poke(at.value as usize, b.count))
+    let at = input::number(rt, buf, c, MOST);
+    let b = input::bytes(rt, buf, given, at.scan);
+    ended(rt, buf, b.scan, Line::Poke(at.value as usize, b.count))
 }
 
-fn memory_line(buf: &mut [u8; 65536], c: Scan) -> Parsed
+fn memory_line(rt: HostRuntime, buf: &mut [u8; 65536], c: Scan) -> Parsed
     ensures { result.scan.left ≤ c.left - 1 }
 {
-    let at = input::number(buf, c, MOST);
-    let count = input::number(buf, at.scan, 65600);
+    let at = input::number(rt, buf, c, MOST);
+    let count = input::number(rt, buf, at.scan, 65600);
     ended(
+        rt,
         buf,
         count.scan,
         Line::Memory(at.value as usize, count.value as usize),
     )
 }
 
-fn record_line(buf: &mut [u8; 65536], c: Scan) -> Parsed
+fn record_line(rt: HostRuntime, buf: &mut [u8; 65536], c: Scan) -> Parsed
     ensures { result.scan.left ≤ c.left - 1 }
 {
-    let p = read::record(buf, c);
+    let p = read::record(rt, buf, c);
     let r = p.record;
-    ended(buf, p.scan, Line::Record(p.slot, r))
+    ended(rt, buf, p.scan, Line::Record(p.slot, r))
 }
 
-fn health_line(buf: &mut [u8; 65536], c: Scan) -> Parsed
+fn health_line(rt: HostRuntime, buf: &mut [u8; 65536], c: Scan) -> Parsed
     ensures { result.scan.left ≤ c.left - 1 }
 {
-    let link = text_gauge::link_of(buf, c);
-    ended(buf, link.scan, Line::Health(link.value as u8))
+    let link = text_gauge::link_of(rt, buf, c);
+    ended(rt, buf, link.scan, Line::Health(link.value as u8))
 }
 
-fn gauge_line(buf: &mut [u8; 65536], given: &mut [u8], c: Scan) -> Parsed
+fn gauge_line(rt: HostRuntime, buf: &mut [u8; 65536], given: &mut [u8], c: Scan) -> Parsed
     ensures { result.scan.left ≤ c.left - 1 }
 {
-    let p = text_gauge::gauge_of(buf, given, c);
+    let p = text_gauge::gauge_of(rt, buf, given, c);
     let g = p.gauge;
-    ended(buf, p.scan, Line::Gauge(p.link, g))
+    ended(rt, buf, p.scan, Line::Gauge(p.link, g))
 }
 
-fn call_line(buf: &mut [u8; 65536], given: &mut [u8], c: Scan, verb: CallVerb) -> Parsed
+fn call_line(
+    rt: HostRuntime,
+    buf: &mut [u8; 65536],
+    given: &mut [u8],
+    c: Scan,
+    verb: CallVerb,
+) -> Parsed
     ensures { result.scan.left ≤ c.left - 1 }
 {
-    let p = text_calls::parse(buf, given, c, verb);
+    let p = text_calls::parse(rt, buf, given, c, verb);
     let command = p.command;
-    ended(buf, p.scan, Line::Call(command, p.count, p.room))
+    ended(rt, buf, p.scan, Line::Call(command, p.count, p.room))
 }
 
-fn gather_line(buf: &mut [u8; 65536], given: &mut [u8], body: &mut [u8], c: Scan) -> Parsed
+fn gather_line(
+    rt: HostRuntime,
+    buf: &mut [u8; 65536],
+    given: &mut [u8],
+    body: &mut [u8],
+    c: Scan,
+) -> Parsed
     ensures { result.scan.left ≤ c.left - 1 }
 {
-    let p = text_gather::parse(buf, given, body, c);
-    ended(buf, p.scan, Line::Gather(p.slot, p.head, p.body))
+    let p = text_gather::parse(rt, buf, given, body, c);
+    ended(rt, buf, p.scan, Line::Gather(p.slot, p.head, p.body))
 }
 
-fn pool_line(buf: &mut [u8; 65536], given: &mut [u8], c: Scan, verb: PoolVerb) -> Parsed
+fn pool_line(
+    rt: HostRuntime,
+    buf: &mut [u8; 65536],
+    given: &mut [u8],
+    c: Scan,
+    verb: PoolVerb,
+) -> Parsed
     ensures { result.scan.left ≤ c.left - 1 }
 {
-    let p = text_pool::parse(buf, given, c, verb);
+    let p = text_pool::parse(rt, buf, given, c, verb);
     let line = p.line;
-    ended(buf, p.scan, Line::Pool(line))
+    ended(rt, buf, p.scan, Line::Pool(line))
 }
 
-fn setup_line(buf: &mut [u8; 65536], given: &mut [u8], c: Scan, verb: SetupVerb) -> Parsed
+fn setup_line(
+    rt: HostRuntime,
+    buf: &mut [u8; 65536],
+    given: &mut [u8],
+    c: Scan,
+    verb: SetupVerb,
+) -> Parsed
     ensures { result.scan.left ≤ c.left - 1 }
 {
-    let p = text_setup::parse(buf, given, c, verb);
+    let p = text_setup::parse(rt, buf, given, c, verb);
     let line = p.line;
-    ended(buf, p.scan, Line::Setup(line))
+    ended(rt, buf, p.scan, Line::Setup(line))
 }
 
-fn link_line(buf: &mut [u8; 65536], given: &mut [u8], c: Scan, verb: LinkVerb) -> Parsed
+fn link_line(
+    rt: HostRuntime,
+    buf: &mut [u8; 65536],
+    given: &mut [u8],
+    c: Scan,
+    verb: LinkVerb,
+) -> Parsed
     ensures { result.scan.left ≤ c.left - 1 }
 {
-    let p = text_link_read::parse(buf, given, c, verb);
+    let p = text_link_read::parse(rt, buf, given, c, verb);
     let line = p.line;
-    ended(buf, p.scan, Line::Link(line))
+    ended(rt, buf, p.scan, Line::Link(line))
 }
 
-fn link_call(buf: &mut [u8; 65536], given: &mut [u8], c: Scan, verb: LinkCallVerb) -> Parsed
+fn link_call(
+    rt: HostRuntime,
+    buf: &mut [u8; 65536],
+    given: &mut [u8],
+    c: Scan,
+    verb: LinkCallVerb,
+) -> Parsed
     ensures { result.scan.left ≤ c.left - 1 }
 {
-    let p = text_link_read::call(buf, given, c, verb);
+    let p = text_link_read::call(rt, buf, given, c, verb);
     let command = p.command;
     let room = p.room;
-    ended(buf, p.scan, Line::LinkCall(command, p.count, room))
+    ended(rt, buf, p.scan, Line::LinkCall(command, p.count, room))
 }
 
-fn line_of(buf: &mut [u8; 65536], given: &mut [u8], body: &mut [u8], c: Scan, verb: Verb) -> Parsed
+fn line_of(
+    rt: HostRuntime,
+    buf: &mut [u8; 65536],
+    given: &mut [u8],
+    body: &mut [u8],
+    c: Scan,
+    verb: Verb,
+) -> Parsed
     ensures { result.scan.left ≤ c.left - 1 }
 {
     match verb {
-        Verb::Group => group_line(buf, c),
-        Verb::Call(v) => call_line(buf, given, c, v),
-        Verb::Gather => gather_line(buf, given, body, c),
-        Verb::Record => record_line(buf, c),
-        Verb::Poke => poke_line(buf, given, c),
-        Verb::Table => ended(buf, c, Line::Table),
-        Verb::Memory => memory_line(buf, c),
-        Verb::Health => health_line(buf, c),
-        Verb::Gauge => gauge_line(buf, given, c),
-        Verb::Pool(v) => pool_line(buf, given, c, v),
-        Verb::Setup(v) => setup_line(buf, given, c, v),
-        Verb::Link(v) => link_line(buf, given, c, v),
-        Verb::LinkCall(v) => link_call(buf, given, c, v),
-        Verb::Unknown => unknown(buf, c),
+        Verb::Group => group_line(rt, buf, c),
+        Verb::Call(v) => call_line(rt, buf, given, c, v),
+        Verb::Gather => gather_line(rt, buf, given, body, c),
+        Verb::Record => record_line(rt, buf, c),
+        Verb::Poke => poke_line(rt, buf, given, c),
+        Verb::Table => ended(rt, buf, c, Line::Table),
+        Verb::Memory => memory_line(rt, buf, c),
+        Verb::Health => health_line(rt, buf, c),
+        Verb::Gauge => gauge_line(rt, buf, given, c),
+        Verb::Pool(v) => pool_line(rt, buf, given, c, v),
+        Verb::Setup(v) => setup_line(rt, buf, given, c, v),
+        Verb::Link(v) => link_line(rt, buf, given, c, v),
+        Verb::LinkCall(v) => link_call(rt, buf, given, c, v),
+        Verb::Unknown => unknown(rt, buf, c),
     }
 }
 
 // The line that begins here, with the start of the next; its bytes go to `given`, from its start on, and its second bytes to `body`.
-pub fn parse(buf: &mut [u8; 65536], given: &mut [u8], body: &mut [u8], c: Scan) -> Parsed
+pub fn parse(
+    rt: HostRuntime,
+    buf: &mut [u8; 65536],
+    given: &mut [u8],
+    body: &mut [u8],
+    c: Scan,
+) -> Parsed
     ensures { result.scan.left ≤ c.left - 1 }
 {
     if (c.byte == b'\n') | (c.byte == b'#') {
-        let scan = input::next_line(buf, c);
+        let scan = input::next_line(rt, buf, c);
         return Parsed {
             scan: scan,
             line: Line::Skipped,
         };
     }
     let mut letters = [0u8; 8];
-    let w = input::word(buf, &mut letters, c);
+    let w = input::word(rt, buf, &mut letters, c);
     if (w.scan.byte != b' ') & (w.scan.byte != b'\n') {
-        return unknown(buf, w.scan);
+        return unknown(rt, buf, w.scan);
     }
     let verb = verb_of(&letters, w.count);
-    line_of(buf, given, body, w.scan, verb)
+    line_of(rt, buf, given, body, w.scan, verb)
 }
 
 // The slot of a `record` line is one of the table's, of which a replay has at most 300 rows.

@@ -23,86 +23,86 @@ pub struct LinkAnswered {
 }
 
 // The value after the first, where a kind has n.
-fn next_value(o: &mut [u8; 65536], at: usize, k: usize, n: usize, v: u64) -> usize
+fn next_value(rt: HostRuntime, o: &mut [u8; 65536], at: usize, k: usize, n: usize, v: u64) -> usize
     ensures { result ≤ 65536 }
 {
     if k < n {
-        let a = output::byte(o, at, b',');
-        return output::decimal(o, a, v);
+        let a = output::byte(rt, o, at, b',');
+        return output::decimal(rt, o, a, v);
     }
-    output::text(o, at, b"")
+    output::text(rt, o, at, b"")
 }
 
 // V1,V2,.., of n.
-fn values(o: &mut [u8; 65536], at: usize, n: usize, vs: [u64; 12]) -> usize
+fn values(rt: HostRuntime, o: &mut [u8; 65536], at: usize, n: usize, vs: [u64; 12]) -> usize
     ensures { result ≤ 65536 }
 {
-    let a = output::decimal(o, at, vs[0]);
-    let b = next_value(o, a, 1, n, vs[1]);
-    let c = next_value(o, b, 2, n, vs[2]);
-    let d = next_value(o, c, 3, n, vs[3]);
-    let e = next_value(o, d, 4, n, vs[4]);
-    let f = next_value(o, e, 5, n, vs[5]);
-    let g = next_value(o, f, 6, n, vs[6]);
-    let h = next_value(o, g, 7, n, vs[7]);
-    let i = next_value(o, h, 8, n, vs[8]);
-    let j = next_value(o, i, 9, n, vs[9]);
-    let k = next_value(o, j, 10, n, vs[10]);
-    next_value(o, k, 11, n, vs[11])
+    let a = output::decimal(rt, o, at, vs[0]);
+    let b = next_value(rt, o, a, 1, n, vs[1]);
+    let c = next_value(rt, o, b, 2, n, vs[2]);
+    let d = next_value(rt, o, c, 3, n, vs[3]);
+    let e = next_value(rt, o, d, 4, n, vs[4]);
+    let f = next_value(rt, o, e, 5, n, vs[5]);
+    let g = next_value(rt, o, f, 6, n, vs[6]);
+    let h = next_value(rt, o, g, 7, n, vs[7]);
+    let i = next_value(rt, o, h, 8, n, vs[8]);
+    let j = next_value(rt, o, i, 9, n, vs[9]);
+    let k = next_value(rt, o, j, 10, n, vs[10]);
+    next_value(rt, o, k, 11, n, vs[11])
 }
 
 // Fields, `-` for none.
-fn fields(o: &mut [u8; 65536], at: usize, f: Fields) -> usize
+fn fields(rt: HostRuntime, o: &mut [u8; 65536], at: usize, f: Fields) -> usize
     ensures { result ≤ 65536 }
 {
     if !f.named {
-        return output::byte(o, at, b'-');
+        return output::byte(rt, o, at, b'-');
     }
     let kind = f.kind;
     let vs = f.values;
     let code = [link_message::code_of(kind)];
     let n = link_message::count(kind);
-    let a = output::hex(o, at, &code);
-    let b = output::byte(o, a, b':');
-    values(o, b, n, vs)
+    let a = output::hex(rt, o, at, &code);
+    let b = output::byte(rt, o, a, b':');
+    values(rt, o, b, n, vs)
 }
 
-fn fate(o: &mut [u8; 65536], at: usize, f: Fate) -> usize
+fn fate(rt: HostRuntime, o: &mut [u8; 65536], at: usize, f: Fate) -> usize
     ensures { result ≤ 65536 }
 {
     match f {
-        Fate::Taken => output::text(o, at, b" taken"),
-        Fate::Queued => output::text(o, at, b" queued"),
-        Fate::Denied => output::text(o, at, b" denied"),
-        Fate::Dropped => output::text(o, at, b" dropped"),
+        Fate::Taken => output::text(rt, o, at, b" taken"),
+        Fate::Queued => output::text(rt, o, at, b" queued"),
+        Fate::Denied => output::text(rt, o, at, b" denied"),
+        Fate::Dropped => output::text(rt, o, at, b" dropped"),
     }
 }
 
 // The message taken up, if one was.
-fn then(o: &mut [u8; 65536], at: usize, up: TakenUp) -> usize
+fn then(rt: HostRuntime, o: &mut [u8; 65536], at: usize, up: TakenUp) -> usize
     ensures { result ≤ 65536 }
 {
     if !up.some {
-        return output::text(o, at, b"");
+        return output::text(rt, o, at, b"");
     }
     let f = up.fields;
     let t = up.fate;
-    let a = output::text(o, at, b" then");
-    let b = output::field(o, a, up.link as u64);
-    let c = output::byte(o, b, b' ');
-    let d = fields(o, c, f);
-    fate(o, d, t)
+    let a = output::text(rt, o, at, b" then");
+    let b = output::field(rt, o, a, up.link as u64);
+    let c = output::byte(rt, o, b, b' ');
+    let d = fields(rt, o, c, f);
+    fate(rt, o, d, t)
 }
 
 // The message's bytes, or `-`.
-fn message(o: &mut [u8; 65536], at: usize, said: Answered) -> usize
+fn message(rt: HostRuntime, o: &mut [u8; 65536], at: usize, said: Answered) -> usize
     ensures { result ≤ 65536 }
 {
     let bytes = said.message;
     if said.made {
-        output::hex(o, at, &bytes)
+        output::hex(rt, o, at, &bytes)
     } else {
-        output::byte(o, at, b'-')
+        output::byte(rt, o, at, b'-')
     }
 }
 
@@ -121,70 +121,84 @@ fn shown(out: &[u8]) -> usize
 }
 
 // The buffer, and the line's end.
-fn with_out(o: &mut [u8; 65536], at: usize, out: &[u8]) -> usize
+fn with_out(rt: HostRuntime, o: &mut [u8; 65536], at: usize, out: &[u8]) -> usize
     ensures { result ≤ 65536 }
 {
     let k = shown(out);
-    let a = output::text(o, at, b" out ");
-    let b = output::hex(o, a, &out[0..k]);
-    output::byte(o, b, b'\n')
+    let a = output::text(rt, o, at, b" out ");
+    let b = output::hex(rt, o, a, &out[0..k]);
+    output::byte(rt, o, b, b'\n')
 }
 
-fn refused(o: &mut [u8; 65536], at: usize, k: u8, out: &[u8]) -> usize
+fn refused(rt: HostRuntime, o: &mut [u8; 65536], at: usize, k: u8, out: &[u8]) -> usize
     ensures { result ≤ 65536 }
 {
-    let a = output::text(o, at, b"refused");
-    let b = output::field(o, a, k as u64);
-    with_out(o, b, out)
+    let a = output::text(rt, o, at, b"refused");
+    let b = output::field(rt, o, a, k as u64);
+    with_out(rt, o, b, out)
 }
 
-fn heard(o: &mut [u8; 65536], at: usize, d: LinkDone) -> usize
+fn heard(rt: HostRuntime, o: &mut [u8; 65536], at: usize, d: LinkDone) -> usize
     ensures { result ≤ 65536 }
 {
     let said = d.answer;
     let f = d.fields;
     let t = d.fate;
     let up = d.up;
-    let a = output::text(o, at, b"linkmsg ");
-    let b = fields(o, a, f);
-    let c = fate(o, b, t);
-    let e = output::text(o, c, b" reply ");
-    let g = message(o, e, said);
-    then(o, g, up)
+    let a = output::text(rt, o, at, b"linkmsg ");
+    let b = fields(rt, o, a, f);
+    let c = fate(rt, o, b, t);
+    let e = output::text(rt, o, c, b" reply ");
+    let g = message(rt, o, e, said);
+    then(rt, o, g, up)
 }
 
-fn sent(o: &mut [u8; 65536], at: usize, d: LinkDone) -> usize
+fn sent(rt: HostRuntime, o: &mut [u8; 65536], at: usize, d: LinkDone) -> usize
     ensures { result ≤ 65536 }
 {
     let said = d.answer;
     let up = d.up;
-    let a = output::text(o, at, b"linksend ");
-    let b = message(o, a, said);
-    then(o, b, up)
+    let a = output::text(rt, o, at, b"linksend ");
+    let b = message(rt, o, a, said);
+    then(rt, o, b, up)
 }
 
 // What a call's line names before the count.
-fn named(o: &mut [u8; 65536], at: usize, command: LinkCommand, d: LinkDone) -> usize
+fn named(
+    rt: HostRuntime,
+    o: &mut [u8; 65536],
+    at: usize,
+    command: LinkCommand,
+    d: LinkDone,
+) -> usize
     ensures { result ≤ 65536 }
 {
     match command {
-        LinkCommand::Change(_, _) => output::text(o, at, b"link"),
-        LinkCommand::Message(_) => heard(o, at, d),
-        LinkCommand::Send(_, _) => sent(o, at, d),
+        LinkCommand::Change(_, _) => output::text(rt, o, at, b"link"),
+        LinkCommand::Message(_) => heard(rt, o, at, d),
+        LinkCommand::Send(_, _) => sent(rt, o, at, d),
     }
 }
 
-fn accepted(o: &mut [u8; 65536], at: usize, command: LinkCommand, d: LinkDone, out: &[u8]) -> usize
+fn accepted(
+    rt: HostRuntime,
+    o: &mut [u8; 65536],
+    at: usize,
+    command: LinkCommand,
+    d: LinkDone,
+    out: &[u8],
+) -> usize
     ensures { result ≤ 65536 }
 {
-    let a = named(o, at, command, d);
-    let b = output::text(o, a, b" count");
-    let c = output::field(o, b, d.count as u64);
-    with_out(o, c, out)
+    let a = named(rt, o, at, command, d);
+    let b = output::text(rt, o, a, b" count");
+    let c = output::field(rt, o, b, d.count as u64);
+    with_out(rt, o, c, out)
 }
 
 // What is printed of a call, with the buffer as it left it.
 pub fn answer(
+    rt: HostRuntime,
     o: &mut [u8; 65536],
     at: usize,
     command: LinkCommand,
@@ -196,8 +210,8 @@ pub fn answer(
     let said = d.answer;
     let reply = said.reply;
     match reply {
-        Reply::Refused(k) => refused(o, at, k, out),
-        _ => accepted(o, at, command, d, out),
+        Reply::Refused(k) => refused(rt, o, at, k, out),
+        _ => accepted(rt, o, at, command, d, out),
     }
 }
 
@@ -306,10 +320,16 @@ fn with_exchange(links: Links, x: Exchange, q: Queue) -> Links
     next
 }
 
-fn lay_role(o: &mut [u8; 65536], at: usize, links: Links, role: Role) -> LinkAnswered
+fn lay_role(
+    rt: HostRuntime,
+    o: &mut [u8; 65536],
+    at: usize,
+    links: Links,
+    role: Role,
+) -> LinkAnswered
     ensures { (result.at ≤ 65536) × (result.links ≡ role_set links role) }
 {
-    let to = output::text(o, at, b"role\n");
+    let to = output::text(rt, o, at, b"role\n");
     let left = with_role(links, role);
     LinkAnswered {
         links: left,
@@ -317,10 +337,16 @@ fn lay_role(o: &mut [u8; 65536], at: usize, links: Links, role: Role) -> LinkAns
     }
 }
 
-fn lay_exchange(o: &mut [u8; 65536], at: usize, links: Links, x: Exchange) -> LinkAnswered
+fn lay_exchange(
+    rt: HostRuntime,
+    o: &mut [u8; 65536],
+    at: usize,
+    links: Links,
+    x: Exchange,
+) -> LinkAnswered
     ensures { (result.at ≤ 65536) × (result.links ≡ exchange_set links x links.queue) }
 {
-    let to = output::text(o, at, b"exchange\n");
+    let to = output::text(rt, o, at, b"exchange\n");
     let q = links.queue;
     let left = with_exchange(links, x, q);
     LinkAnswered {
@@ -329,10 +355,16 @@ fn lay_exchange(o: &mut [u8; 65536], at: usize, links: Links, x: Exchange) -> Li
     }
 }
 
-fn lay_queue(o: &mut [u8; 65536], at: usize, links: Links, given: &[u8]) -> LinkAnswered
+fn lay_queue(
+    rt: HostRuntime,
+    o: &mut [u8; 65536],
+    at: usize,
+    links: Links,
+    given: &[u8],
+) -> LinkAnswered
     ensures { (result.at ≤ 65536) × (result.links ≡ exchange_set links links.exchange (queue_in given.now)) }
 {
-    let to = output::text(o, at, b"queue\n");
+    let to = output::text(rt, o, at, b"queue\n");
     let x = links.exchange;
     let q = queue_in(given);
     let left = with_exchange(links, x, q);
@@ -343,6 +375,7 @@ fn lay_queue(o: &mut [u8; 65536], at: usize, links: Links, given: &[u8]) -> Link
 }
 
 fn lay_states(
+    rt: HostRuntime,
     o: &mut [u8; 65536],
     at: usize,
     links: Links,
@@ -353,7 +386,7 @@ fn lay_states(
 ) -> LinkAnswered
     ensures { (result.at ≤ 65536) × (result.links ≡ states_set links a b c d) }
 {
-    let to = output::text(o, at, b"links\n");
+    let to = output::text(rt, o, at, b"links\n");
     let left = with_states(links, a, b, c, d);
     LinkAnswered {
         links: left,
@@ -363,6 +396,7 @@ fn lay_states(
 
 // Lays in what the line names, and prints its word.
 pub fn act(
+    rt: HostRuntime,
     o: &mut [u8; 65536],
     at: usize,
     links: Links,
@@ -372,10 +406,10 @@ pub fn act(
     ensures { (result.at ≤ 65536) × (result.links ≡ left_of links given.now line) }
 {
     match line {
-        LinkLine::Role(role) => lay_role(o, at, links, role),
-        LinkLine::States(a, b, c, d) => lay_states(o, at, links, a, b, c, d),
-        LinkLine::Exchange(x) => lay_exchange(o, at, links, x),
-        LinkLine::Queue => lay_queue(o, at, links, given),
+        LinkLine::Role(role) => lay_role(rt, o, at, links, role),
+        LinkLine::States(a, b, c, d) => lay_states(rt, o, at, links, a, b, c, d),
+        LinkLine::Exchange(x) => lay_exchange(rt, o, at, links, x),
+        LinkLine::Queue => lay_queue(rt, o, at, links, given),
     }
 }
 
@@ -391,53 +425,53 @@ fn is_zeros(bytes: [u8; 44]) -> bool {
 }
 
 // L M
-fn waiting(o: &mut [u8; 65536], at: usize, w: Waiting) -> usize
+fn waiting(rt: HostRuntime, o: &mut [u8; 65536], at: usize, w: Waiting) -> usize
     ensures { result ≤ 65536 }
 {
     let bytes = w.bytes;
-    let a = output::field(o, at, w.link as u64);
-    let b = output::byte(o, a, b' ');
+    let a = output::field(rt, o, at, w.link as u64);
+    let b = output::byte(rt, o, a, b' ');
     if is_zeros(bytes) {
-        output::byte(o, b, b'-')
+        output::byte(rt, o, b, b'-')
     } else {
-        output::hex(o, b, &bytes)
+        output::hex(rt, o, b, &bytes)
     }
 }
 
-fn queue(o: &mut [u8; 65536], at: usize, q: Queue) -> usize
+fn queue(rt: HostRuntime, o: &mut [u8; 65536], at: usize, q: Queue) -> usize
     ensures { result ≤ 65536 }
 {
     let p = q.places;
-    let a = output::text(o, at, b"queue");
-    let b = output::field(o, a, q.count as u64);
-    let c = waiting(o, b, p[0]);
-    let d = waiting(o, c, p[1]);
-    let e = waiting(o, d, p[2]);
-    let f = waiting(o, e, p[3]);
-    output::byte(o, f, b'\n')
+    let a = output::text(rt, o, at, b"queue");
+    let b = output::field(rt, o, a, q.count as u64);
+    let c = waiting(rt, o, b, p[0]);
+    let d = waiting(rt, o, c, p[1]);
+    let e = waiting(rt, o, d, p[2]);
+    let f = waiting(rt, o, e, p[3]);
+    output::byte(rt, o, f, b'\n')
 }
 
-fn exchange(o: &mut [u8; 65536], at: usize, x: Exchange) -> usize
+fn exchange(rt: HostRuntime, o: &mut [u8; 65536], at: usize, x: Exchange) -> usize
     ensures { result ≤ 65536 }
 {
-    let a = output::text(o, at, b"exchange");
-    let b = output::field(o, a, x.stage as u64);
-    let c = output::field(o, b, x.v as u64);
-    let d = output::field(o, c, x.w as u64);
-    output::byte(o, d, b'\n')
+    let a = output::text(rt, o, at, b"exchange");
+    let b = output::field(rt, o, a, x.stage as u64);
+    let c = output::field(rt, o, b, x.v as u64);
+    let d = output::field(rt, o, c, x.w as u64);
+    output::byte(rt, o, d, b'\n')
 }
 
 // The three last lines of `table`, as they would be laid.
-pub fn lines(o: &mut [u8; 65536], at: usize, links: Links) -> usize
+pub fn lines(rt: HostRuntime, o: &mut [u8; 65536], at: usize, links: Links) -> usize
     ensures { result ≤ 65536 }
 {
     let role = links.role;
     let x = links.exchange;
     let q = links.queue;
     let a = match role {
-        Role::Client => output::text(o, at, b"role client\n"),
-        Role::Server => output::text(o, at, b"role server\n"),
+        Role::Client => output::text(rt, o, at, b"role client\n"),
+        Role::Server => output::text(rt, o, at, b"role server\n"),
     };
-    let b = exchange(o, a, x);
-    queue(o, b, q)
+    let b = exchange(rt, o, a, x);
+    queue(rt, o, b, q)
 }

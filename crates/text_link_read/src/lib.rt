@@ -92,35 +92,35 @@ fn parsed(scan: Scan, line: LinkLine) -> LinkParsed
 }
 
 // Three letters.
-fn three(buf: &mut [u8; 65536], scan: Scan, a: u8, b: u8, c: u8) -> Scan
+fn three(rt: HostRuntime, buf: &mut [u8; 65536], scan: Scan, a: u8, b: u8, c: u8) -> Scan
     ensures { result.left ≤ scan.left }
 {
-    let c1 = input::taken(buf, scan, a);
-    let c2 = input::taken(buf, c1, b);
-    input::taken(buf, c2, c)
+    let c1 = input::taken(rt, buf, scan, a);
+    let c2 = input::taken(rt, buf, c1, b);
+    input::taken(rt, buf, c2, c)
 }
 
 // A space, and `client` or `server`.
-fn role_line(buf: &mut [u8; 65536], c: Scan) -> LinkParsed
+fn role_line(rt: HostRuntime, buf: &mut [u8; 65536], c: Scan) -> LinkParsed
     ensures { result.scan.left ≤ c.left }
 {
-    let start = input::taken(buf, c, b' ');
+    let start = input::taken(rt, buf, c, b' ');
     if start.byte == b'c' {
-        let half = three(buf, start, b'c', b'l', b'i');
-        let scan = three(buf, half, b'e', b'n', b't');
+        let half = three(rt, buf, start, b'c', b'l', b'i');
+        let scan = three(rt, buf, half, b'e', b'n', b't');
         return parsed(scan, LinkLine::Role(Role::Client));
     }
-    let half = three(buf, start, b's', b'e', b'r');
-    let scan = three(buf, half, b'v', b'e', b'r');
+    let half = three(rt, buf, start, b's', b'e', b'r');
+    let scan = three(rt, buf, half, b'v', b'e', b'r');
     parsed(scan, LinkLine::Role(Role::Server))
 }
 
 // A B
-fn two_states(buf: &mut [u8; 65536], c: Scan) -> TwoStates
+fn two_states(rt: HostRuntime, buf: &mut [u8; 65536], c: Scan) -> TwoStates
     ensures { result.scan.left ≤ c.left }
 {
-    let first = input::number(buf, c, 1);
-    let second = input::number(buf, first.scan, 1);
+    let first = input::number(rt, buf, c, 1);
+    let second = input::number(rt, buf, first.scan, 1);
     let scan = second.scan;
     TwoStates {
         scan: scan,
@@ -130,11 +130,11 @@ fn two_states(buf: &mut [u8; 65536], c: Scan) -> TwoStates
 }
 
 // A B C D
-fn states_line(buf: &mut [u8; 65536], c: Scan) -> LinkParsed
+fn states_line(rt: HostRuntime, buf: &mut [u8; 65536], c: Scan) -> LinkParsed
     ensures { result.scan.left ≤ c.left }
 {
-    let p = two_states(buf, c);
-    let q = two_states(buf, p.scan);
+    let p = two_states(rt, buf, c);
+    let q = two_states(rt, buf, p.scan);
     parsed(
         q.scan,
         LinkLine::States(p.first, p.second, q.first, q.second),
@@ -142,11 +142,11 @@ fn states_line(buf: &mut [u8; 65536], c: Scan) -> LinkParsed
 }
 
 // ROOM, where the line has it.
-fn room_of(buf: &mut [u8; 65536], c: Scan) -> RoomRead
+fn room_of(rt: HostRuntime, buf: &mut [u8; 65536], c: Scan) -> RoomRead
     ensures { result.scan.left ≤ c.left }
 {
     if c.byte == b' ' {
-        let room = input::number(buf, c, 65600);
+        let room = input::number(rt, buf, c, 65600);
         let scan = room.scan;
         return RoomRead {
             scan: scan,
@@ -160,10 +160,16 @@ fn room_of(buf: &mut [u8; 65536], c: Scan) -> RoomRead
 }
 
 // The end of a call's line.
-fn call_of(buf: &mut [u8; 65536], c: Scan, command: LinkCommand, count: usize) -> LinkCallLine
+fn call_of(
+    rt: HostRuntime,
+    buf: &mut [u8; 65536],
+    c: Scan,
+    command: LinkCommand,
+    count: usize,
+) -> LinkCallLine
     ensures { result.scan.left ≤ c.left }
 {
-    let p = room_of(buf, c);
+    let p = room_of(rt, buf, c);
     let scan = p.scan;
     let room = p.room;
     LinkCallLine {
@@ -175,12 +181,13 @@ fn call_of(buf: &mut [u8; 65536], c: Scan, command: LinkCommand, count: usize) -
 }
 
 // LINK UP
-fn change_line(buf: &mut [u8; 65536], c: Scan) -> LinkCallLine
+fn change_line(rt: HostRuntime, buf: &mut [u8; 65536], c: Scan) -> LinkCallLine
     ensures { result.scan.left ≤ c.left }
 {
-    let link = input::number(buf, c, 255);
-    let up = input::number(buf, link.scan, 1);
+    let link = input::number(rt, buf, c, 255);
+    let up = input::number(rt, buf, link.scan, 1);
     call_of(
+        rt,
         buf,
         up.scan,
         LinkCommand::Change(link.value as u8, up.value == 1),
@@ -189,47 +196,67 @@ fn change_line(buf: &mut [u8; 65536], c: Scan) -> LinkCallLine
 }
 
 // LINK HEX
-fn message_line(buf: &mut [u8; 65536], given: &mut [u8], c: Scan) -> LinkCallLine
+fn message_line(rt: HostRuntime, buf: &mut [u8; 65536], given: &mut [u8], c: Scan) -> LinkCallLine
     ensures { result.scan.left ≤ c.left }
 {
-    let link = input::number(buf, c, 255);
-    let b = input::bytes(buf, given, link.scan);
-    call_of(buf, b.scan, LinkCommand::Message(link.value as u8), b.count)
+    let link = input::number(rt, buf, c, 255);
+    let b = input::bytes(rt, buf, given, link.scan);
+    call_of(
+        rt,
+        buf,
+        b.scan,
+        LinkCommand::Message(link.value as u8),
+        b.count,
+    )
 }
 
 // The comma that stands before all values but the first.
-fn comma(buf: &mut [u8; 65536], c: Scan, k: usize) -> Scan
+fn comma(rt: HostRuntime, buf: &mut [u8; 65536], c: Scan, k: usize) -> Scan
     ensures { result.left ≤ c.left }
 {
     if 0 < k {
-        return input::taken(buf, c, b',');
+        return input::taken(rt, buf, c, b',');
     }
     c
 }
 
 // Value k, counted from 0, where a kind has n, at its place.
-fn value(b: &mut [u8; 96], buf: &mut [u8; 65536], c: Scan, k: usize, n: usize) -> Scan
+fn value(
+    rt: HostRuntime,
+    b: &mut [u8; 96],
+    buf: &mut [u8; 65536],
+    c: Scan,
+    k: usize,
+    n: usize,
+) -> Scan
     requires { k < 12 }
     ensures { result.left ≤ c.left }
 {
     if n <= k {
         return c;
     }
-    let start = comma(buf, c, k);
-    let v = input::bare_number(buf, start, u64::MAX);
+    let start = comma(rt, buf, c, k);
+    let v = input::bare_number(rt, buf, start, u64::MAX);
     layout::put_number(b, 8 * k, 8, v.value);
     v.scan
 }
 
 // Values k to k + 3.
-fn four(b: &mut [u8; 96], buf: &mut [u8; 65536], c: Scan, k: usize, n: usize) -> Scan
+fn four(
+    rt: HostRuntime,
+    b: &mut [u8; 96],
+    buf: &mut [u8; 65536],
+    c: Scan,
+    k: usize,
+    n: usize,
+) -> Scan
     requires { k < 9 }
     ensures { result.left ≤ c.left }
 {
-    let c1 = value(b, buf, c, k, n);
-    let c2 = value(b, buf, c1, k + 1, n);
-    let c3 = value(b, buf, c2, k + 2, n);
-    value(b, buf, c3, k + 3, n)
+    let c1 = value(rt, b, buf, c, k, n);
+    let c2 = value(rt, b, buf, c1, k + 1, n);
+    let c3 = value(rt, b, buf, c2, k + 2, n);
+    value(rt, b, buf, c3, k + 3, n)
 }
 
 fn keep_values(given: &mut [u8], b: [u8; 96]) {
@@ -237,14 +264,14 @@ fn keep_values(given: &mut [u8], b: [u8; 96]) {
 }
 
 // V1,V2,.., as many as the kind has.
-fn values_of(buf: &mut [u8; 65536], given: &mut [u8], c: Scan, kind: Kind) -> Scan
+fn values_of(rt: HostRuntime, buf: &mut [u8; 65536], given: &mut [u8], c: Scan, kind: Kind) -> Scan
     ensures { result.left ≤ c.left }
 {
     let n = link_message::count(kind);
     let mut b = [0u8; 96];
-    let c1 = four(&mut b, buf, c, 0, n);
-    let c2 = four(&mut b, buf, c1, 4, n);
-    let scan = four(&mut b, buf, c2, 8, n);
+    let c1 = four(rt, &mut b, buf, c, 0, n);
+    let c2 = four(rt, &mut b, buf, c1, 4, n);
+    let scan = four(rt, &mut b, buf, c2, 8, n);
     keep_values(given, b);
     scan
 }
@@ -261,13 +288,13 @@ fn digit(b: u8) -> u8 {
 }
 
 // The second digit of a kind; the first is 0 of every one.
-fn kind_of(buf: &mut [u8; 65536], c: Scan) -> KindRead
+fn kind_of(rt: HostRuntime, buf: &mut [u8; 65536], c: Scan) -> KindRead
     ensures { result.scan.left ≤ c.left }
 {
     let d = digit(c.byte);
     let kind = link_message::kind_of(d);
     if link_message::is_named(d) {
-        let scan = input::next(buf, c);
+        let scan = input::next(rt, buf, c);
         return KindRead {
             scan: scan,
             kind: kind,
@@ -281,14 +308,14 @@ fn kind_of(buf: &mut [u8; 65536], c: Scan) -> KindRead
 }
 
 // A space, a kind and a colon.
-fn kind_word(buf: &mut [u8; 65536], c: Scan) -> KindRead
+fn kind_word(rt: HostRuntime, buf: &mut [u8; 65536], c: Scan) -> KindRead
     ensures { result.scan.left ≤ c.left }
 {
-    let space = input::taken(buf, c, b' ');
-    let zero = input::taken(buf, space, b'0');
-    let k = kind_of(buf, zero);
+    let space = input::taken(rt, buf, c, b' ');
+    let zero = input::taken(rt, buf, space, b'0');
+    let k = kind_of(rt, buf, zero);
     let kind = k.kind;
-    let scan = input::taken(buf, k.scan, b':');
+    let scan = input::taken(rt, buf, k.scan, b':');
     KindRead {
         scan: scan,
         kind: kind,
@@ -296,24 +323,24 @@ fn kind_word(buf: &mut [u8; 65536], c: Scan) -> KindRead
 }
 
 // LINK FIELDS
-fn send_line(buf: &mut [u8; 65536], given: &mut [u8], c: Scan) -> LinkCallLine
+fn send_line(rt: HostRuntime, buf: &mut [u8; 65536], given: &mut [u8], c: Scan) -> LinkCallLine
     ensures { result.scan.left ≤ c.left }
 {
-    let d = input::number(buf, c, 255);
+    let d = input::number(rt, buf, c, 255);
     let link = d.value as u8;
-    let k = kind_word(buf, d.scan);
+    let k = kind_word(rt, buf, d.scan);
     let kind = k.kind;
-    let scan = values_of(buf, given, k.scan, kind);
-    call_of(buf, scan, LinkCommand::Send(link, kind), 0)
+    let scan = values_of(rt, buf, given, k.scan, kind);
+    call_of(rt, buf, scan, LinkCommand::Send(link, kind), 0)
 }
 
 // STAGE V W
-fn exchange_line(buf: &mut [u8; 65536], c: Scan) -> LinkParsed
+fn exchange_line(rt: HostRuntime, buf: &mut [u8; 65536], c: Scan) -> LinkParsed
     ensures { result.scan.left ≤ c.left }
 {
-    let stage = input::number(buf, c, 11);
-    let v = input::number(buf, stage.scan, 255);
-    let w = input::number(buf, v.scan, 255);
+    let stage = input::number(rt, buf, c, 11);
+    let v = input::number(rt, buf, stage.scan, 255);
+    let w = input::number(rt, buf, v.scan, 255);
     let x = Exchange {
         stage: stage.value as u8,
         v: v.value as u8,
@@ -336,13 +363,13 @@ fn of_44(m: Run) -> Scan
 }
 
 // L M, of which M is 44 bytes, or `-` for zeros: laid at their place.
-fn waiting_of(b: &mut [u8; 181], at: usize, buf: &mut [u8; 65536], c: Scan) -> Scan
+fn waiting_of(rt: HostRuntime, b: &mut [u8; 181], at: usize, buf: &mut [u8; 65536], c: Scan) -> Scan
     requires { at ≤ 136 }
     ensures { result.left ≤ c.left }
 {
-    let link = input::number(buf, c, 255);
+    let link = input::number(rt, buf, c, 255);
     let mut t = [0u8; 44];
-    let m = input::bytes(buf, &mut t, link.scan);
+    let m = input::bytes(rt, buf, &mut t, link.scan);
     layout::put_number(b, at, 1, link.value as u64);
     layout::put_bytes(b, at + 1, &t);
     of_44(m)
@@ -353,46 +380,58 @@ fn keep_queue(given: &mut [u8], b: [u8; 181]) {
 }
 
 // L1 M1 L2 M2 L3 M3 L4 M4
-fn places_of(b: &mut [u8; 181], buf: &mut [u8; 65536], c: Scan) -> Scan
+fn places_of(rt: HostRuntime, b: &mut [u8; 181], buf: &mut [u8; 65536], c: Scan) -> Scan
     ensures { result.left ≤ c.left }
 {
-    let c1 = waiting_of(b, 1, buf, c);
-    let c2 = waiting_of(b, 46, buf, c1);
-    let c3 = waiting_of(b, 91, buf, c2);
-    waiting_of(b, 136, buf, c3)
+    let c1 = waiting_of(rt, b, 1, buf, c);
+    let c2 = waiting_of(rt, b, 46, buf, c1);
+    let c3 = waiting_of(rt, b, 91, buf, c2);
+    waiting_of(rt, b, 136, buf, c3)
 }
 
 // COUNT, and the places.
-fn queue_line(buf: &mut [u8; 65536], given: &mut [u8], c: Scan) -> LinkParsed
+fn queue_line(rt: HostRuntime, buf: &mut [u8; 65536], given: &mut [u8], c: Scan) -> LinkParsed
     ensures { result.scan.left ≤ c.left }
 {
     let mut b = [0u8; 181];
-    let count = input::number(buf, c, 255);
+    let count = input::number(rt, buf, c, 255);
     layout::put_number(&mut b, 0, 1, count.value as u64);
-    let scan = places_of(&mut b, buf, count.scan);
+    let scan = places_of(rt, &mut b, buf, count.scan);
     keep_queue(given, b);
     parsed(scan, LinkLine::Queue)
 }
 
 // What follows the verb, up to where the line should end.
-pub fn parse(buf: &mut [u8; 65536], given: &mut [u8], c: Scan, verb: LinkVerb) -> LinkParsed
+pub fn parse(
+    rt: HostRuntime,
+    buf: &mut [u8; 65536],
+    given: &mut [u8],
+    c: Scan,
+    verb: LinkVerb,
+) -> LinkParsed
     ensures { result.scan.left ≤ c.left }
 {
     match verb {
-        LinkVerb::Role => role_line(buf, c),
-        LinkVerb::States => states_line(buf, c),
-        LinkVerb::Exchange => exchange_line(buf, c),
-        LinkVerb::Queue => queue_line(buf, given, c),
+        LinkVerb::Role => role_line(rt, buf, c),
+        LinkVerb::States => states_line(rt, buf, c),
+        LinkVerb::Exchange => exchange_line(rt, buf, c),
+        LinkVerb::Queue => queue_line(rt, buf, given, c),
     }
 }
 
 // The same of a call.
-pub fn call(buf: &mut [u8; 65536], given: &mut [u8], c: Scan, verb: LinkCallVerb) -> LinkCallLine
+pub fn call(
+    rt: HostRuntime,
+    buf: &mut [u8; 65536],
+    given: &mut [u8],
+    c: Scan,
+    verb: LinkCallVerb,
+) -> LinkCallLine
     ensures { result.scan.left ≤ c.left }
 {
     match verb {
-        LinkCallVerb::Change => change_line(buf, c),
-        LinkCallVerb::Message => message_line(buf, given, c),
-        LinkCallVerb::Send => send_line(buf, given, c),
+        LinkCallVerb::Change => change_line(rt, buf, c),
+        LinkCallVerb::Message => message_line(rt, buf, given, c),
+        LinkCallVerb::Send => send_line(rt, buf, given, c),
     }
 }

@@ -47,10 +47,10 @@ pub struct PoolAnswered {
 
 const MOST: u32 = 4294967295;
 
-fn take_line(buf: &mut [u8; 65536], c: Scan) -> PoolParsed
+fn take_line(rt: HostRuntime, buf: &mut [u8; 65536], c: Scan) -> PoolParsed
     ensures { result.scan.left ≤ c.left }
 {
-    let units = input::number(buf, c, MOST);
+    let units = input::number(rt, buf, c, MOST);
     let scan = units.scan;
     PoolParsed {
         scan: scan,
@@ -58,11 +58,11 @@ fn take_line(buf: &mut [u8; 65536], c: Scan) -> PoolParsed
     }
 }
 
-fn return_line(buf: &mut [u8; 65536], c: Scan) -> PoolParsed
+fn return_line(rt: HostRuntime, buf: &mut [u8; 65536], c: Scan) -> PoolParsed
     ensures { result.scan.left ≤ c.left }
 {
-    let start = input::number(buf, c, MOST);
-    let units = input::number(buf, start.scan, MOST);
+    let start = input::number(rt, buf, c, MOST);
+    let units = input::number(rt, buf, start.scan, MOST);
     let scan = units.scan;
     PoolParsed {
         scan: scan,
@@ -71,7 +71,7 @@ fn return_line(buf: &mut [u8; 65536], c: Scan) -> PoolParsed
 }
 
 // Alone it prints the books; with bytes it lays them in, and they must be 64.
-fn books_line(buf: &mut [u8; 65536], given: &mut [u8], c: Scan) -> PoolParsed
+fn books_line(rt: HostRuntime, buf: &mut [u8; 65536], given: &mut [u8], c: Scan) -> PoolParsed
     ensures { result.scan.left ≤ c.left }
 {
     if c.byte == b'\n' {
@@ -80,7 +80,7 @@ fn books_line(buf: &mut [u8; 65536], given: &mut [u8], c: Scan) -> PoolParsed
             line: PoolLine::Show,
         };
     }
-    let b = input::bytes(buf, given, c);
+    let b = input::bytes(rt, buf, given, c);
     let scan = b.scan;
     if b.count != 64 {
         let bad = input::spoilt(scan, input::BYTES);
@@ -96,7 +96,13 @@ fn books_line(buf: &mut [u8; 65536], given: &mut [u8], c: Scan) -> PoolParsed
 }
 
 // What follows the verb, up to where the line should end.
-pub fn parse(buf: &mut [u8; 65536], given: &mut [u8], c: Scan, verb: PoolVerb) -> PoolParsed
+pub fn parse(
+    rt: HostRuntime,
+    buf: &mut [u8; 65536],
+    given: &mut [u8],
+    c: Scan,
+    verb: PoolVerb,
+) -> PoolParsed
     ensures { result.scan.left ≤ c.left }
 {
     match verb {
@@ -104,9 +110,9 @@ pub fn parse(buf: &mut [u8; 65536], given: &mut [u8], c: Scan, verb: PoolVerb) -
             scan: c,
             line: PoolLine::Fresh,
         },
-        PoolVerb::Take => take_line(buf, c),
-        PoolVerb::Return => return_line(buf, c),
-        PoolVerb::Books => books_line(buf, given, c),
+        PoolVerb::Take => take_line(rt, buf, c),
+        PoolVerb::Return => return_line(rt, buf, c),
+        PoolVerb::Books => books_line(rt, buf, given, c),
     }
 }
 
@@ -130,46 +136,47 @@ fn laid(given: &[u8]) -> [u8; 64]
     books
 }
 
-fn reply(o: &mut [u8; 65536], at: usize, r: Reply) -> usize
+fn reply(rt: HostRuntime, o: &mut [u8; 65536], at: usize, r: Reply) -> usize
     ensures { result ≤ 65536 }
 {
     match r {
         Reply::Block(start) => {
-            let a = output::text(o, at, b"take");
-            let b = output::field(o, a, start as u64);
-            output::byte(o, b, b'\n')
+            let a = output::text(rt, o, at, b"take");
+            let b = output::field(rt, o, a, start as u64);
+            output::byte(rt, o, b, b'\n')
         }
-        Reply::Returned => output::text(o, at, b"return\n"),
+        Reply::Returned => output::text(rt, o, at, b"return\n"),
         Reply::Refused(k) => {
-            let a = output::text(o, at, b"refused");
-            let b = output::field(o, a, k as u64);
-            output::byte(o, b, b'\n')
+            let a = output::text(rt, o, at, b"refused");
+            let b = output::field(rt, o, a, k as u64);
+            output::byte(rt, o, b, b'\n')
         }
     }
 }
 
-fn answered(o: &mut [u8; 65536], at: usize, said: Outcome) -> PoolAnswered
+fn answered(rt: HostRuntime, o: &mut [u8; 65536], at: usize, said: Outcome) -> PoolAnswered
     ensures { (result.at ≤ 65536) × (result.books ≡ said.books) }
 {
     let r = said.reply;
     let books = said.books;
-    let to = reply(o, at, r);
+    let to = reply(rt, o, at, r);
     PoolAnswered {
         books: books,
         at: to,
     }
 }
 
-fn show(o: &mut [u8; 65536], at: usize, books: [u8; 64]) -> usize
+fn show(rt: HostRuntime, o: &mut [u8; 65536], at: usize, books: [u8; 64]) -> usize
     ensures { result ≤ 65536 }
 {
-    let a = output::text(o, at, b"books ");
-    let b = output::hex(o, a, &books);
-    output::byte(o, b, b'\n')
+    let a = output::text(rt, o, at, b"books ");
+    let b = output::hex(rt, o, a, &books);
+    output::byte(rt, o, b, b'\n')
 }
 
 // Makes the line's call on the books, and prints its answer.
 pub fn act(
+    rt: HostRuntime,
     o: &mut [u8; 65536],
     at: usize,
     books: [u8; 64],
@@ -181,21 +188,21 @@ pub fn act(
     match line {
         PoolLine::Fresh => {
             let fresh = pool::free_pool();
-            let to = output::text(o, at, b"pool\n");
+            let to = output::text(rt, o, at, b"pool\n");
             PoolAnswered {
                 books: fresh,
                 at: to,
             }
         }
-        PoolLine::Take(units) => answered(o, at, pool::take(books, units)),
-        PoolLine::Return(start, units) => answered(o, at, pool::give_back(books, start, units)),
+        PoolLine::Take(units) => answered(rt, o, at, pool::take(books, units)),
+        PoolLine::Return(start, units) => answered(rt, o, at, pool::give_back(books, start, units)),
         PoolLine::Lay => {
             let new = laid(given);
-            let to = output::text(o, at, b"books\n");
+            let to = output::text(rt, o, at, b"books\n");
             PoolAnswered { books: new, at: to }
         }
         PoolLine::Show => {
-            let to = show(o, at, books);
+            let to = show(rt, o, at, books);
             PoolAnswered {
                 books: books,
                 at: to,

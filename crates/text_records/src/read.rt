@@ -77,11 +77,11 @@ struct Cursors {
 const MOST: u32 = 4294967295;
 
 // An offset and a wrap number.
-fn cursor_of(buf: &mut [u8; 65536], c: Scan) -> At
+fn cursor_of(rt: HostRuntime, buf: &mut [u8; 65536], c: Scan) -> At
     ensures { result.scan.left ≤ c.left }
 {
-    let offset = input::number(buf, c, MOST);
-    let wrap = input::number(buf, offset.scan, 65535);
+    let offset = input::number(rt, buf, c, MOST);
+    let wrap = input::number(rt, buf, offset.scan, 65535);
     let k = Cursor {
         offset: offset.value,
         wrap: wrap.value as u16,
@@ -94,14 +94,14 @@ fn cursor_of(buf: &mut [u8; 65536], c: Scan) -> At
 }
 
 // OPEN OWN PEER LINK SIZE
-fn who_of(buf: &mut [u8; 65536], c: Scan) -> Who
+fn who_of(rt: HostRuntime, buf: &mut [u8; 65536], c: Scan) -> Who
     ensures { result.scan.left ≤ c.left }
 {
-    let opened = input::number(buf, c, 1);
-    let own = input::number(buf, opened.scan, MOST);
-    let peer = input::number(buf, own.scan, MOST);
-    let link = input::number(buf, peer.scan, 255);
-    let size = input::number(buf, link.scan, MOST);
+    let opened = input::number(rt, buf, c, 1);
+    let own = input::number(rt, buf, opened.scan, MOST);
+    let peer = input::number(rt, buf, own.scan, MOST);
+    let link = input::number(rt, buf, peer.scan, 255);
+    let size = input::number(rt, buf, link.scan, MOST);
     let id = Identity {
         opened: opened.value == 1,
         own: own.value,
@@ -117,11 +117,11 @@ fn who_of(buf: &mut [u8; 65536], c: Scan) -> Who
 }
 
 // KEY BASE
-fn token_of(buf: &mut [u8; 65536], c: Scan) -> Token
+fn token_of(rt: HostRuntime, buf: &mut [u8; 65536], c: Scan) -> Token
     ensures { result.scan.left ≤ c.left }
 {
-    let key = input::number(buf, c, MOST);
-    let base = input::long_number(buf, key.scan, conn_record::MOST_ADDRESS);
+    let key = input::number(rt, buf, c, MOST);
+    let base = input::long_number(rt, buf, key.scan, conn_record::MOST_ADDRESS);
     let token = RToken {
         key: key.value,
         base: base.value,
@@ -134,14 +134,14 @@ fn token_of(buf: &mut [u8; 65536], c: Scan) -> Token
 }
 
 // INDEX KEY1 BASE1 KEY2 BASE2 KEY3 BASE3 KEY4 BASE4, after the size; the index is at most `most`.
-pub fn remote(buf: &mut [u8; 65536], c: Scan, size: u32, most: u32) -> Reached
+pub fn remote(rt: HostRuntime, buf: &mut [u8; 65536], c: Scan, size: u32, most: u32) -> Reached
     ensures { result.scan.left ≤ c.left }
 {
-    let index = input::number(buf, c, most);
-    let one = token_of(buf, index.scan);
-    let two = token_of(buf, one.scan);
-    let three = token_of(buf, two.scan);
-    let four = token_of(buf, three.scan);
+    let index = input::number(rt, buf, c, most);
+    let one = token_of(rt, buf, index.scan);
+    let two = token_of(rt, buf, one.scan);
+    let three = token_of(rt, buf, two.scan);
+    let four = token_of(rt, buf, three.scan);
     let a = one.token;
     let b = two.token;
     let d = three.token;
@@ -162,14 +162,14 @@ pub fn remote(buf: &mut [u8; 65536], c: Scan, size: u32, most: u32) -> Reached
 }
 
 // The five cursors, in the order P C T Q R.
-fn cursors_of(buf: &mut [u8; 65536], from: Scan) -> Cursors
+fn cursors_of(rt: HostRuntime, buf: &mut [u8; 65536], from: Scan) -> Cursors
     ensures { result.scan.left ≤ from.left }
 {
-    let producer = cursor_of(buf, from);
-    let consumer = cursor_of(buf, producer.scan);
-    let told = cursor_of(buf, consumer.scan);
-    let ours = cursor_of(buf, told.scan);
-    let theirs = cursor_of(buf, ours.scan);
+    let producer = cursor_of(rt, buf, from);
+    let consumer = cursor_of(rt, buf, producer.scan);
+    let told = cursor_of(rt, buf, consumer.scan);
+    let ours = cursor_of(rt, buf, told.scan);
+    let theirs = cursor_of(rt, buf, ours.scan);
     let p = producer.cursor;
     let c = consumer.cursor;
     let t = told.cursor;
@@ -187,12 +187,12 @@ fn cursors_of(buf: &mut [u8; 65536], from: Scan) -> Cursors
 }
 
 // NEXT HEARD MARKS
-fn counts_of(buf: &mut [u8; 65536], c: Scan) -> Counts
+fn counts_of(rt: HostRuntime, buf: &mut [u8; 65536], c: Scan) -> Counts
     ensures { result.scan.left ≤ c.left }
 {
-    let next = input::number(buf, c, 65535);
-    let last = input::number(buf, next.scan, 65535);
-    let marks = input::number(buf, last.scan, 511);
+    let next = input::number(rt, buf, c, 65535);
+    let last = input::number(rt, buf, next.scan, 65535);
+    let marks = input::number(rt, buf, last.scan, 511);
     let scan = marks.scan;
     Counts {
         scan: scan,
@@ -203,12 +203,12 @@ fn counts_of(buf: &mut [u8; 65536], c: Scan) -> Counts
 }
 
 // OFFSET:WRAP
-fn standing_of(buf: &mut [u8; 65536], c: Scan) -> Place
+fn standing_of(rt: HostRuntime, buf: &mut [u8; 65536], c: Scan) -> Place
     ensures { result.scan.left ≤ c.left }
 {
-    let offset = input::bare_number(buf, c, MOST as u64);
-    let colon = input::taken(buf, offset.scan, b':');
-    let wrap = input::bare_number(buf, colon, 65535);
+    let offset = input::bare_number(rt, buf, c, MOST as u64);
+    let colon = input::taken(rt, buf, offset.scan, b':');
+    let wrap = input::bare_number(rt, buf, colon, 65535);
     let k = Cursor {
         offset: offset.value as u32,
         wrap: wrap.value as u16,
@@ -225,30 +225,30 @@ fn standing_of(buf: &mut [u8; 65536], c: Scan) -> Place
 }
 
 // A space and an urgent place, `-` for none.
-fn place_of(buf: &mut [u8; 65536], c: Scan) -> Place
+fn place_of(rt: HostRuntime, buf: &mut [u8; 65536], c: Scan) -> Place
     ensures { result.scan.left ≤ c.left }
 {
-    let start = input::taken(buf, c, b' ');
+    let start = input::taken(rt, buf, c, b' ');
     if start.byte == b'-' {
         let k = Cursor { offset: 0, wrap: 0 };
         let none = Urgent {
             standing: false,
             place: k,
         };
-        let after = input::next(buf, start);
+        let after = input::next(rt, buf, start);
         return Place {
             scan: after,
             urgent: none,
         };
     }
-    standing_of(buf, start)
+    standing_of(rt, buf, start)
 }
 
-fn places_of(buf: &mut [u8; 65536], c: Scan) -> Places
+fn places_of(rt: HostRuntime, buf: &mut [u8; 65536], c: Scan) -> Places
     ensures { result.scan.left ≤ c.left }
 {
-    let sends = place_of(buf, c);
-    let element = place_of(buf, sends.scan);
+    let sends = place_of(rt, buf, c);
+    let element = place_of(rt, buf, sends.scan);
     let ours = sends.urgent;
     let theirs = element.urgent;
     let scan = element.scan;
@@ -318,15 +318,15 @@ fn record_of(id: Identity, remote: Remote, k: Cursors, n: Counts, urgent: Places
 }
 
 // The line's numbers, in their order.
-pub fn record(buf: &mut [u8; 65536], c: Scan) -> Laid
+pub fn record(rt: HostRuntime, buf: &mut [u8; 65536], c: Scan) -> Laid
     ensures { (result.scan.left ≤ c.left) × (result.slot ≤ 300) }
 {
-    let slot = input::number(buf, c, 300);
-    let h = who_of(buf, slot.scan);
-    let k = cursors_of(buf, h.scan);
-    let n = counts_of(buf, k.scan);
-    let to = remote(buf, n.scan, h.size, 255);
-    let urgent = places_of(buf, to.scan);
+    let slot = input::number(rt, buf, c, 300);
+    let h = who_of(rt, buf, slot.scan);
+    let k = cursors_of(rt, buf, h.scan);
+    let n = counts_of(rt, buf, k.scan);
+    let to = remote(rt, buf, n.scan, h.size, 255);
+    let urgent = places_of(rt, buf, to.scan);
     let id = h.id;
     let peer = to.remote;
     let r = record_of(id, peer, k, n, urgent);

@@ -76,6 +76,7 @@ pub fn first() -> World
 }
 
 pub fn start_over(
+    rt: HostRuntime,
     mem: &mut [u8],
     o: &mut [u8; 65536],
     w: World,
@@ -90,7 +91,7 @@ pub fn start_over(
 {
     let most = least(len, mem.len());
     fill(&mut mem[0..most], 0);
-    let at = output::text(o, w.at, b"group\n");
+    let at = output::text(rt, o, w.at, b"group\n");
     let books = w.books;
     let settings = w.settings;
     fresh(s, n, len, count, books, settings, at)
@@ -98,6 +99,7 @@ pub fn start_over(
 
 // Makes the call, every byte of out A5 before it, and prints its answer.
 fn call(
+    rt: HostRuntime,
     mem: &mut [u8],
     bytes: &[u8],
     out: &mut [u8],
@@ -115,7 +117,7 @@ fn call(
     let said = a.answer;
     let after = a.table;
     let left = said.links;
-    let at = text_answers::answer(o, w.at, command, said, out);
+    let at = text_answers::answer(rt, o, w.at, command, said, out);
     let mut next = w;
     next.table = after;
     next.links = left;
@@ -125,6 +127,7 @@ fn call(
 
 // A call, with what it is lent: LEN bytes of memory, its bytes, and ROOM bytes of out.
 pub fn lent(
+    rt: HostRuntime,
     mem: &mut [u8],
     given: &[u8],
     out: &mut [u8],
@@ -141,6 +144,7 @@ pub fn lent(
     let k = least(count, given.len());
     let most = least(room, out.len());
     call(
+        rt,
         &mut mem[0..len],
         &given[0..k],
         &mut out[0..most],
@@ -152,6 +156,7 @@ pub fn lent(
 
 // Sends a head and a body, and prints its answer.
 fn gather<'a>(
+    rt: HostRuntime,
     mem: &[u8],
     head: &'a [u8],
     body: &'a [u8],
@@ -168,7 +173,7 @@ fn gather<'a>(
     let after = a.table;
     let answer = said.answer;
     let left = answer.links;
-    let at = text_gather::answer(o, w.at, said, head, body);
+    let at = text_gather::answer(rt, o, w.at, said, head, body);
     let mut next = w;
     next.table = after;
     next.links = left;
@@ -178,6 +183,7 @@ fn gather<'a>(
 
 // The same, with what it is lent: LEN bytes of memory, the head and the body.
 pub fn gather_line<'a>(
+    rt: HostRuntime,
     mem: &[u8],
     given: &'a [u8],
     body: &'a [u8],
@@ -192,15 +198,21 @@ pub fn gather_line<'a>(
     let len = least(w.len, mem.len());
     let k = least(h, given.len());
     let l = least(b, body.len());
-    gather(&mem[0..len], &given[0..k], &body[0..l], o, w, slot)
+    gather(rt, &mem[0..len], &given[0..k], &body[0..l], o, w, slot)
 }
 
 // A line of the pool, made on its books.
-pub fn pool_line(given: &[u8], o: &mut [u8; 65536], w: World, line: PoolLine) -> World
+pub fn pool_line(
+    rt: HostRuntime,
+    given: &[u8],
+    o: &mut [u8; 65536],
+    w: World,
+    line: PoolLine,
+) -> World
     ensures { (result.at ≤ 65536) × ((result ≡ at_to (books_to w result.books) result.at) × Left w.books given.now line result.books) }
 {
     let books = w.books;
-    let a = text_pool::act(o, w.at, books, given, line);
+    let a = text_pool::act(rt, o, w.at, books, given, line);
     let after = a.books;
     let mut next = w;
     next.books = after;
@@ -210,6 +222,7 @@ pub fn pool_line(given: &[u8], o: &mut [u8; 65536], w: World, line: PoolLine) ->
 
 // A line on setting up, made with the settings.
 pub fn setup_line(
+    rt: HostRuntime,
     given: &[u8],
     out: &mut [u8],
     o: &mut [u8; 65536],
@@ -220,7 +233,7 @@ pub fn setup_line(
         × ((result ≡ at_to (settings_to w result.settings) result.at) × (result.settings ≡ Setup.left_of w.settings given.now line)) }
 {
     let settings = w.settings;
-    let a = text_setup::act(o, w.at, settings, given, out, line);
+    let a = text_setup::act(rt, o, w.at, settings, given, out, line);
     let after = a.settings;
     let mut next = w;
     next.settings = after;
@@ -229,12 +242,18 @@ pub fn setup_line(
 }
 
 // A line that lays something of the links in.
-pub fn link_line(given: &[u8], o: &mut [u8; 65536], w: World, line: LinkLine) -> World
+pub fn link_line(
+    rt: HostRuntime,
+    given: &[u8],
+    o: &mut [u8; 65536],
+    w: World,
+    line: LinkLine,
+) -> World
     ensures { (result.at ≤ 65536)
         × ((result ≡ at_to (links_to w result.links) result.at) × (result.links ≡ Link.left_of w.links given.now line)) }
 {
     let links = w.links;
-    let a = text_link::act(o, w.at, links, given, line);
+    let a = text_link::act(rt, o, w.at, links, given, line);
     let after = a.links;
     let mut next = w;
     next.links = after;
@@ -244,6 +263,7 @@ pub fn link_line(given: &[u8], o: &mut [u8; 65536], w: World, line: LinkLine) ->
 
 // Makes one of the three calls on links, every byte of the buffer A5 before it, and prints its answer.
 fn link_called(
+    rt: HostRuntime,
     mem: &[u8],
     bytes: &[u8],
     given: Values,
@@ -265,7 +285,7 @@ fn link_called(
     let after = a.table;
     let told = done.answer;
     let left = told.links;
-    let at = text_link::answer(o, w.at, command, done, buffer);
+    let at = text_link::answer(rt, o, w.at, command, done, buffer);
     let mut next = w;
     next.table = after;
     next.links = left;
@@ -275,6 +295,7 @@ fn link_called(
 
 // The same, with what it is lent: LEN bytes of memory, its bytes or its values, and the buffer.
 pub fn link_lent(
+    rt: HostRuntime,
     mem: &[u8],
     given: &[u8],
     out: &mut [u8],
@@ -291,6 +312,7 @@ pub fn link_lent(
     let most = least(text_link::room_of(w.s, room), out.len());
     let values = text_link::values_in(given);
     link_called(
+        rt,
         &mem[0..len],
         &given[0..k],
         values,

@@ -44,27 +44,27 @@ pub fn filled_to(w: World, at: usize) -> World
     filled
 }
 
-pub fn bad(o: &mut [u8; 65536], w: World) -> World
+pub fn bad(rt: HostRuntime, o: &mut [u8; 65536], w: World) -> World
     ensures { (result.at ≤ 65536) × (result ≡ at_to w result.at) }
 {
-    let at = output::text(o, w.at, b"bad line\n");
+    let at = output::text(rt, o, w.at, b"bad line\n");
     filled_to(w, at)
 }
 
 // Lays a record into a slot from 1 to COUNT.
-pub fn lay_record(o: &mut [u8; 65536], w: World, slot: usize, c: Record) -> World
+pub fn lay_record(rt: HostRuntime, o: &mut [u8; 65536], w: World, slot: usize, c: Record) -> World
     ensures { (result.at ≤ 65536) × ((result ≡ at_to (table_to w result.table) result.at) × (result.table ≡ laid_in_of w.table w.count slot c)) }
 {
     if slot < 1 {
-        return bad(o, w);
+        return bad(rt, o, w);
     }
     if least(w.count, text_records::ROWS) < slot {
-        return bad(o, w);
+        return bad(rt, o, w);
     }
     let i = slot - 1;
     let mut after = w.table;
     after[i] = c;
-    let at = output::text(o, w.at, b"record\n");
+    let at = output::text(rt, o, w.at, b"record\n");
     let mut next = w;
     next.table = after;
     next.at = at;
@@ -73,6 +73,7 @@ pub fn lay_record(o: &mut [u8; 65536], w: World, slot: usize, c: Record) -> Worl
 
 // Lays bytes into the memory from byte `at` on, where they lie within it.
 pub fn poke(
+    rt: HostRuntime,
     mem: &mut [u8],
     given: &[u8],
     o: &mut [u8; 65536],
@@ -87,59 +88,66 @@ pub fn poke(
     let len = least(w.len, mem.len());
     let k = least(count, given.len());
     if len < at {
-        return bad(o, w);
+        return bad(rt, o, w);
     }
     if len - at < k {
-        return bad(o, w);
+        return bad(rt, o, w);
     }
     layout::put_bytes(&mut mem[0..len], at, &given[0..k]);
-    let to = output::text(o, w.at, b"poke\n");
+    let to = output::text(rt, o, w.at, b"poke\n");
     filled_to(w, to)
 }
 
 // Prints bytes of the memory from byte `at` on, where they lie within it.
-pub fn memory(mem: &[u8], o: &mut [u8; 65536], w: World, at: usize, count: usize) -> World
+pub fn memory(
+    rt: HostRuntime,
+    mem: &[u8],
+    o: &mut [u8; 65536],
+    w: World,
+    at: usize,
+    count: usize,
+) -> World
     ensures { (result.at ≤ 65536) × (result ≡ at_to w result.at) }
 {
     let len = least(w.len, mem.len());
     if at <= len {
         if count <= len - at {
             let end = at + count;
-            let to = text_answers::memory(o, w.at, &mem[at..end]);
+            let to = text_answers::memory(rt, o, w.at, &mem[at..end]);
             return filled_to(w, to);
         }
     }
-    bad(o, w)
+    bad(rt, o, w)
 }
 
-pub fn table(o: &mut [u8; 65536], w: World) -> World
+pub fn table(rt: HostRuntime, o: &mut [u8; 65536], w: World) -> World
     ensures { (result.at ≤ 65536) × (result ≡ at_to w result.at) }
 {
     let table = w.table;
     let links = w.links;
-    let a = print::tables(o, w.at, table, w.count, links);
-    let at = text_link::lines(o, a, links);
+    let a = print::tables(rt, o, w.at, table, w.count, links);
+    let at = text_link::lines(rt, o, a, links);
     filled_to(w, at)
 }
 
 // A link's health, as the press room sees it.
-pub fn health(o: &mut [u8; 65536], w: World, link: u8) -> World
+pub fn health(rt: HostRuntime, o: &mut [u8; 65536], w: World, link: u8) -> World
     ensures { (result.at ≤ 65536) × (result ≡ at_to w result.at) }
 {
     let links = w.links;
     let g = group_table::gauge_of(links, link);
-    let a = output::text(o, w.at, b"health ");
-    let at = text_gauge::health(o, a, gauge::health_of(g));
+    let a = output::text(rt, o, w.at, b"health ");
+    let at = text_gauge::health(rt, o, a, gauge::health_of(g));
     filled_to(w, at)
 }
 
 // Lays a gauge in at a link.
-pub fn lay_gauge(o: &mut [u8; 65536], w: World, link: u8, g: Gauge) -> World
+pub fn lay_gauge(rt: HostRuntime, o: &mut [u8; 65536], w: World, link: u8, g: Gauge) -> World
     ensures { (result.at ≤ 65536) × ((result ≡ at_to (links_to w result.links) result.at) × (result.links ≡ gauge_set w.links link g)) }
 {
     let before = w.links;
     let after = group_table::set_gauge(before, link, g);
-    let at = output::text(o, w.at, b"gauge\n");
+    let at = output::text(rt, o, w.at, b"gauge\n");
     let mut next = w;
     next.links = after;
     next.at = at;

@@ -2,7 +2,8 @@
 ghost use Rattle.std.specs.Prelude.{◌≡◌, ◌-◌, ◌≤◌, length};
 ghost use Rattle.text_stream.specs.Stream.{spoilt_of};
 
-use libc::STDIN_FILENO;
+use std::io;
+use std::io::Read;
 
 // `byte` is the next byte, not yet taken; at the end of the input it is a line feed. `left` bounds how many bytes may still come, this
 // one among them, and is 0 at the end: it starts at a number that no run uses up, so that every loop over the stream is seen to end.
@@ -93,12 +94,24 @@ fn less(x: u64) -> u64
     if 0 < x { x - 1 } else { 0 }
 }
 
+// A read that failed, on the standard error: the system's words, without its number where they are all there.
+fn tell(rt: HostRuntime, e: io::Error) {
+    let told = match format!(in rt.alloc(); "{e}") {
+        Ok(said) => match said.split_once(" (os error ") {
+            Some((words, _)) => rt.eprintln(format_args!("standard input: {words}")),
+            None => rt.eprintln(format_args!("standard input: {e}")),
+        },
+        Err(_) => rt.eprintln(format_args!("standard input: {e}")),
+    };
+    let _ = told;
+}
+
 // The end of the input. A read that failed is told on the standard error, by the system's words.
-fn ended(got: isize, c: Scan) -> Scan
+fn ended(rt: HostRuntime, got: io::Result<usize>, c: Scan) -> Scan
     ensures { result.left ≡ 0 }
 {
-    if got < 0 {
-        os::fail(b"standard input");
+    if let Err(e) = got {
+        tell(rt, e);
         return Scan {
             byte: b'\n',
             left: 0,
@@ -116,15 +129,24 @@ fn ended(got: isize, c: Scan) -> Scan
     }
 }
 
+// How many bytes came: none where the read failed.
+fn count(got: io::Result<usize>) -> usize {
+    match got {
+        Ok(n) => n,
+        Err(_) => 0,
+    }
+}
+
 // Reads once more: the first of what came is the next byte.
-fn refilled(buf: &mut [u8; 65536], c: Scan) -> Scan
+fn refilled(rt: HostRuntime, buf: &mut [u8; 65536], c: Scan) -> Scan
     ensures { result.left ≤ c.left - 1 }
 {
-    let got = libc::read(STDIN_FILENO, buf);
-    let end = io::count(got, buf);
+    let mut from = rt.stdin();
+    let got = from.read(buf);
+    let end = count(got);
     let left = less(c.left);
     if end == 0 {
-        return ended(got, c);
+        return ended(rt, got, c);
     }
     Scan {
         byte: buf[0],
@@ -136,7 +158,7 @@ fn refilled(buf: &mut [u8; 65536], c: Scan) -> Scan
 }
 
 // Takes the next byte.
-pub fn next(buf: &mut [u8; 65536], c: Scan) -> Scan
+pub fn next(rt: HostRuntime, buf: &mut [u8; 65536], c: Scan) -> Scan
     ensures { result.left ≤ c.left - 1 }
 {
     let at = c.at;
@@ -161,11 +183,11 @@ pub fn next(buf: &mut [u8; 65536], c: Scan) -> Scan
             };
         }
     }
-    refilled(buf, c)
+    refilled(rt, buf, c)
 }
 
 // The first byte of the input.
-pub fn begin(buf: &mut [u8; 65536]) -> Scan
+pub fn begin(rt: HostRuntime, buf: &mut [u8; 65536]) -> Scan
     ensures { result.left ≤ 18446744073709551614 }
 {
     let before = Scan {
@@ -175,7 +197,7 @@ pub fn begin(buf: &mut [u8; 65536]) -> Scan
         end: 0,
         why: FINE,
     };
-    next(buf, before)
+    next(rt, buf, before)
 }
 
 // The line does not parse, and why; what was wrong before stays the reason.
@@ -196,11 +218,11 @@ fn ends_or(c: Scan, why: u8) -> u8 {
 }
 
 // Takes the byte that is wanted next.
-pub fn taken(buf: &mut [u8; 65536], c: Scan, byte: u8) -> Scan
+pub fn taken(rt: HostRuntime, buf: &mut [u8; 65536], c: Scan, byte: u8) -> Scan
     ensures { result.left ≤ c.left }
 {
     if c.byte == byte {
-        next(buf, c)
+        next(rt, buf, c)
     } else {
         spoilt(c, ends_or(c, CHARACTER))
     }
@@ -231,7 +253,7 @@ fn longer(sum: Sum, digit: u8) -> Sum {
     }
 }
 
-fn digits(buf: &mut [u8; 65536], c: Scan) -> Figures
+fn digits(rt: HostRuntime, buf: &mut [u8; 65536], c: Scan) -> Figures
     ensures { result.scan.left ≤ c.left }
 {
     let mut scan = c;
@@ -241,7 +263,7 @@ fn digits(buf: &mut [u8; 65536], c: Scan) -> Figures
     };
     while 0 < scan.left && is_digit(scan.byte) {
         sum = longer(sum, scan.byte);
-        scan = next(buf, scan);
+        scan = next(rt, buf, scan);
     }
     Figures {
         scan: scan,
@@ -250,7 +272,7 @@ fn digits(buf: &mut [u8; 65536], c: Scan) -> Figures
 }
 
 // A decimal number up to `most`; 0 where the line does not parse.
-pub fn bare_number(buf: &mut [u8; 65536], c: Scan, most: u64) -> LongDecimal
+pub fn bare_number(rt: HostRuntime, buf: &mut [u8; 65536], c: Scan, most: u64) -> LongDecimal
     ensures { (result.scan.left ≤ c.left) × (result.value ≤ most) }
 {
     if !is_digit(c.byte) {
@@ -260,7 +282,7 @@ pub fn bare_number(buf: &mut [u8; 65536], c: Scan, most: u64) -> LongDecimal
             value: 0,
         };
     }
-    let d = digits(buf, c);
+    let d = digits(rt, buf, c);
     let scan = d.scan;
     let sum = d.sum;
     if !sum.past {
@@ -279,18 +301,18 @@ pub fn bare_number(buf: &mut [u8; 65536], c: Scan, most: u64) -> LongDecimal
 }
 
 // A space and such a number.
-pub fn long_number(buf: &mut [u8; 65536], c: Scan, most: u64) -> LongDecimal
+pub fn long_number(rt: HostRuntime, buf: &mut [u8; 65536], c: Scan, most: u64) -> LongDecimal
     ensures { (result.scan.left ≤ c.left) × (result.value ≤ most) }
 {
-    let start = taken(buf, c, b' ');
-    bare_number(buf, start, most)
+    let start = taken(rt, buf, c, b' ');
+    bare_number(rt, buf, start, most)
 }
 
 // The same, of 32 bits.
-pub fn number(buf: &mut [u8; 65536], c: Scan, most: u32) -> Decimal
+pub fn number(rt: HostRuntime, buf: &mut [u8; 65536], c: Scan, most: u32) -> Decimal
     ensures { (result.scan.left ≤ c.left) × (result.value ≤ most) }
 {
-    let d = long_number(buf, c, most as u64);
+    let d = long_number(rt, buf, c, most as u64);
     let scan = d.scan;
     Decimal {
         scan: scan,
@@ -318,15 +340,15 @@ fn nibble(b: u8) -> u8
 }
 
 // Two hexadecimal digits.
-fn octet(buf: &mut [u8; 65536], c: Scan) -> Pair
+fn octet(rt: HostRuntime, buf: &mut [u8; 65536], c: Scan) -> Pair
     ensures { result.scan.left ≤ c.left - 1 }
 {
     let high = nibble(c.byte);
-    let second = next(buf, c);
+    let second = next(rt, buf, c);
     let low = nibble(second.byte);
     if high < 16 {
         if low < 16 {
-            let after = next(buf, second);
+            let after = next(rt, buf, second);
             return Pair {
                 scan: after,
                 byte: high * 16 + low,
@@ -338,13 +360,13 @@ fn octet(buf: &mut [u8; 65536], c: Scan) -> Pair
 }
 
 // As many bytes as there are, or as `to` has room for.
-fn octets(buf: &mut [u8; 65536], to: &mut [u8], c: Scan) -> Run
+fn octets(rt: HostRuntime, buf: &mut [u8; 65536], to: &mut [u8], c: Scan) -> Run
     ensures { (result.scan.left ≤ c.left) × (result.count ≤ length to.old) }
 {
     let mut scan = c;
     let mut k: usize = 0;
     while 0 < scan.left && k < to.len() && nibble(scan.byte) < 16 {
-        let o = octet(buf, scan);
+        let o = octet(rt, buf, scan);
         to[k] = o.byte;
         k += 1;
         scan = o.scan;
@@ -356,10 +378,10 @@ fn octets(buf: &mut [u8; 65536], to: &mut [u8], c: Scan) -> Run
 }
 
 // The same; digits that are left over are too many.
-fn all_octets(buf: &mut [u8; 65536], to: &mut [u8], c: Scan) -> Run
+fn all_octets(rt: HostRuntime, buf: &mut [u8; 65536], to: &mut [u8], c: Scan) -> Run
     ensures { (result.scan.left ≤ c.left) × (result.count ≤ length to.old) }
 {
-    let r = octets(buf, to, c);
+    let r = octets(rt, buf, to, c);
     let scan = r.scan;
     if nibble(scan.byte) < 16 {
         let bad = spoilt(scan, BYTES);
@@ -372,19 +394,19 @@ fn all_octets(buf: &mut [u8; 65536], to: &mut [u8], c: Scan) -> Run
 }
 
 // A space and bytes in hexadecimal, `-` for none.
-pub fn bytes(buf: &mut [u8; 65536], to: &mut [u8], c: Scan) -> Run
+pub fn bytes(rt: HostRuntime, buf: &mut [u8; 65536], to: &mut [u8], c: Scan) -> Run
     ensures { (result.scan.left ≤ c.left) × (result.count ≤ length to.old) }
 {
-    let start = taken(buf, c, b' ');
+    let start = taken(rt, buf, c, b' ');
     if start.byte == b'-' {
-        let after = next(buf, start);
+        let after = next(rt, buf, start);
         return Run {
             scan: after,
             count: 0,
         };
     }
     if nibble(start.byte) < 16 {
-        all_octets(buf, to, start)
+        all_octets(rt, buf, to, start)
     } else {
         let bad = spoilt(start, ends_or(start, HEX));
         Run {
@@ -395,7 +417,7 @@ pub fn bytes(buf: &mut [u8; 65536], to: &mut [u8], c: Scan) -> Run
 }
 
 // A word of small letters, as far as `to` has room: letters that are left over are neither a space nor the line's end.
-pub fn word(buf: &mut [u8; 65536], to: &mut [u8; 8], c: Scan) -> Run
+pub fn word(rt: HostRuntime, buf: &mut [u8; 65536], to: &mut [u8; 8], c: Scan) -> Run
     ensures { (result.scan.left ≤ c.left) × (result.count ≤ 8) }
 {
     let mut scan = c;
@@ -403,7 +425,7 @@ pub fn word(buf: &mut [u8; 65536], to: &mut [u8; 8], c: Scan) -> Run
     while 0 < scan.left && k < 8 && is_letter(scan.byte) {
         to[k] = scan.byte;
         k += 1;
-        scan = next(buf, scan);
+        scan = next(rt, buf, scan);
     }
     Run {
         scan: scan,
@@ -412,13 +434,13 @@ pub fn word(buf: &mut [u8; 65536], to: &mut [u8; 8], c: Scan) -> Run
 }
 
 // The start of the next line.
-pub fn next_line(buf: &mut [u8; 65536], c: Scan) -> Scan
+pub fn next_line(rt: HostRuntime, buf: &mut [u8; 65536], c: Scan) -> Scan
     ensures { result.left ≤ c.left - 1 }
 {
     let mut scan = c;
     while 0 < scan.left && scan.byte != b'\n' {
-        scan = next(buf, scan);
+        scan = next(rt, buf, scan);
     }
     scan.why = FINE;
-    next(buf, scan)
+    next(rt, buf, scan)
 }
