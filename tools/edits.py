@@ -38,6 +38,17 @@ def files(crate, kind='must-fail'):
     return [os.path.join(folder, f) for f in sorted(os.listdir(folder))] if os.path.isdir(folder) else []
 
 
+def lines():
+    """The lines of crates.txt: a crate's name, whether it is a static library, and the crates that it names."""
+    for line in open('crates.txt', encoding='utf-8'):
+        words, _, needs = line.split('#')[0].partition(':')
+        if words.strip():
+            yield words.split()[0], 'staticlib' in words.split()[1:], needs.split()
+
+
 def crates():
-    lines = (line.split('#')[0] for line in open('crates.txt', encoding='utf-8'))
-    return [line.split(':')[0].strip() for line in lines if line.strip()]
+    return [name for name, _, _ in lines()]
+
+
+def static():
+    return [name for name, is_static, _ in lines() if is_static]

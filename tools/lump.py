@@ -6,25 +6,28 @@ import re
 import shutil
 import subprocess
 
+import edits
+
 FUNCTION = re.compile(r'(pub )?(extern "C" )?fn ')
-KIT = ('std', 'check', 'io', 'bytes', 'os', 'libc')
+# what is a proof of a function
+OF_FUNCTION = ('Answers.antt', 'Invariants.antt', 'Proof.antt')
 
 
 def kit():
-    """The kit's folder, and below it what is this machine's."""
-    home = os.environ.get('RATTLE_HOME') or os.path.dirname(os.path.dirname(os.path.realpath(shutil.which('rt'))))
-    return home, os.path.join(home, 'on', os.uname().machine)
+    """The kit's folder."""
+    said = subprocess.run(['rt', 'doc'], stdout=subprocess.PIPE, text=True, check=True).stdout
+    return os.path.dirname(said.strip())
 
 
 def without_functions(folder):
-    """Leaves a crate's types, constants, definitions and theorems, and takes out its functions with their proofs."""
+    """Leaves a crate's types, constants, definitions and theorems, and takes out its functions, those that derives make too, with their proofs."""
     for place, _, files in os.walk(os.path.join(folder, 'src')):
         for name in files:
             path = os.path.join(place, name)
             kept, held, skip = [], [], False
             for line in open(path, encoding='utf-8').read().split('\n'):
                 if line.startswith('#['):
-                    held.append(line)
+                    held += [line] * (not line.startswith('#[derive('))
                     continue
                 if FUNCTION.match(line):
                     skip, held = True, []
@@ -36,18 +39,43 @@ def without_functions(folder):
             open(path, 'w', encoding='utf-8').write('\n'.join(kept))
     proofs = os.path.join(folder, 'proofs')
     for place, _, files in list(os.walk(proofs)):
-        if 'Proof.antt' in files and place != proofs:
+        if place != proofs and {*files} & {*OF_FUNCTION}:
             shutil.rmtree(place, ignore_errors=True)
 
 
-def deps():
-    """Each crate of crates.txt with those that it names."""
-    found = {}
-    for line in open('crates.txt', encoding='utf-8'):
-        name, _, needs = line.split('#')[0].partition(':')
-        if name.strip():
-            found[name.strip()] = needs.split()
-    return found
+class Crates:
+    """The crates of crates.txt, each with those that it names, and the words by which the prover is called."""
+
+    def __init__(self):
+        self.deps = {name: needs for name, _, needs in edits.lines()}
+
+    def below(self, wanted):
+        """These crates and all that they use, the lowest first."""
+        seen = []
+
+        def visit(name):
+            if name in self.deps and name not in seen:
+                for other in self.deps[name]:
+                    visit(other)
+                seen.append(name)
+
+        for name in wanted:
+            visit(name)
+        return seen
+
+    def over(self, name):
+        """Of a crate, called in a folder that has its src/: over what is built of the crates below."""
+        home = kit()
+        root = 'src/main.rt' if os.path.isfile(os.path.join('crates', name, 'src', 'main.rt')) else 'src/lib.rt'
+        words = ['--crate-name', name, root, '--extern', f'std={home}/rlibs/std.rlib', '-L', f'dependency={home}/rlibs']
+        for other in self.deps[name]:
+            words += ['--extern', f'{other}={os.path.abspath(os.path.join("crates", other, "out", "rlib", other + ".rlib"))}']
+        for other in self.below([name])[:-1]:
+            words += ['-L', f'dependency={os.path.abspath(os.path.join("crates", other, "out", "rlib"))}']
+        return words + ['--antt-project', f'{home}/rattle/logic/antt-project.json', '--logic-built', f'{home}/logic_built', '--links', f'{name}=']
+
+    def build(self, name):
+        return [os.path.join(kit(), 'bin', 'rattle'), 'build', *self.over(name)]
 
 
 def shared(saved, to):
@@ -55,11 +83,12 @@ def shared(saved, to):
     shutil.copytree(saved, to, copy_function=os.link)
 
 
-class Tree:
-    """The crates as the check sees them: each by its folder."""
+class Tree(Crates):
+    """The crates as the check of all in one process sees them: each by its folder."""
 
     def __init__(self, work, whole):
-        self.work, self.whole, self.deps = work, whole, deps()
+        super().__init__()
+        self.work, self.whole = work, whole
         for name in self.deps:
             self.copy(name, work)
         os.makedirs(os.path.join(work, 'top', 'src'))
@@ -83,7 +112,7 @@ class Tree:
 
     def cites_none(self, name):
         """Whether the proofs of a crate cite no lemma of another."""
-        cited = re.compile(rf'^use Rattle·(?!{name}·)\w+\.proofs\b', re.M)
+        cited = re.compile(rf'^(?:pub )?use Rattle\.(?!{name}\.)\w+\.proofs\b', re.M)
         folder = os.path.join(self.work, 'crates', name, 'proofs')
         return not any(cited.search(open(os.path.join(place, f), encoding='utf-8').read()) for place, _, files in os.walk(folder) for f in files)
 
@@ -98,38 +127,24 @@ class Tree:
             module = todo.pop()
             if module not in kept:
                 kept.append(module)
-                todo += re.findall(rf'^use Rattle·{name}·proofs\.proofs\.(\w+)', text[module], re.M)
+                todo += re.findall(rf'^(?:pub )?use Rattle\.{name}\.proofs\.(\w+)', text[module], re.M)
         if kept:
             for module in set(text) - set(kept):
                 os.remove(os.path.join(folder, module + '.antt'))
             with open(os.path.join(folder, 'Lib.antt'), 'w', encoding='utf-8') as lib:
                 lib.write(''.join(f'pub mod {module}\n' for module in kept))
 
-    def below(self, wanted):
-        seen = []
-
-        def visit(name):
-            if name in self.deps and name not in seen:
-                for other in self.deps[name]:
-                    visit(other)
-                seen.append(name)
-
-        for name in wanted:
-            visit(name)
-        return seen
-
     def check(self, wanted, saved, *places):
         """What the prover says of these crates and all below, each from the first of `places` that has it, or ours."""
-        home, own = kit()
+        home = kit()
         top = os.path.join(self.work, 'top', 'src', 'lib.rt')
-        words = [os.path.join(own, 'bin', 'rattle'), 'check', '--crate-name', 'top', top,
-                 '--antt-project', os.path.join(home, 'logic', 'antt-project.json'), '--logic-built', os.path.join(own, 'logic-built'),
-                 '--incremental', saved, '-L', 'dependency=' + os.path.join(own, 'rlib')]
-        for name in KIT:
-            if os.path.exists(os.path.join(own, 'rlib', name + '.rlib')):
-                words += ['--extern', f'{name}={own}/rlib/{name}.rlib']
+        words = [os.path.join(home, 'bin', 'rattle'), 'check', '--crate-name', 'top', top,
+                 '--antt-project', f'{home}/rattle/logic/antt-project.json', '--logic-built', f'{home}/logic_built',
+                 '--incremental', saved, '-L', f'dependency={home}/rlibs', '--extern', f'core={home}/rlibs/core.rlib',
+                 '--extern', f'std={home}/rlibs/std.rlib']
         for name in self.below(wanted):
             folders = (os.path.join(place, 'crates', name) for place in (*places, self.work))
-            root = os.path.join(next(f for f in folders if os.path.isdir(f)), 'src', 'lib.rt')
-            words += ['--lib', f'{name}:{",".join(["std"] + self.deps[name])}={root}']
+            folder = next(f for f in folders if os.path.isdir(f))
+            root = os.path.join(folder, 'src', 'lib.rt')
+            words += ['--lib', f'{name}:{",".join(["core", "std"] + self.deps[name])}={root}']
         return subprocess.run(words, stdout=subprocess.PIPE, stderr=subprocess.STDOUT, text=True, errors='replace').stdout
