@@ -4,7 +4,7 @@
 set -eu
 cd "$(dirname "$0")/.."
 mkdir -p target
-rt staticlib bench_element >target/bench.log 2>&1 || { cat target/bench.log; exit 1; }
+tools/static bench_element >target/bench.log 2>&1 || { cat target/bench.log; exit 1; }
 lib=target/staticlib/libbench_element.a
 bad=0
 

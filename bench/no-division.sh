@@ -12,7 +12,7 @@ if sed -e 's://.*$::' crates/cursor/src/lib.rt | grep -vE '^ghost |^ *(requires|
     bad=1
 fi
 
-rt staticlib bench_cursor >target/bench.log 2>&1 || { cat target/bench.log; exit 1; }
+tools/static bench_cursor >target/bench.log 2>&1 || { cat target/bench.log; exit 1; }
 code=$(objdump -d -j .text.cursor_step target/staticlib/libbench_cursor.a)
 case $code in
 *cursor_step*ret*) ;;

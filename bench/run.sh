@@ -3,7 +3,5 @@
 set -eu
 cd "$(dirname "$0")/.."
 mkdir -p target
-for name in bench_element bench_cursor; do
-    rt staticlib "$name" >target/bench.log 2>&1 || { cat target/bench.log; exit 1; }
-done
+tools/static bench_element bench_cursor >target/bench.log 2>&1 || { cat target/bench.log; exit 1; }
 RUSTFLAGS="-L native=$PWD/target/staticlib" CARGO_TARGET_DIR="$PWD/target/bench" cargo run --quiet --release --manifest-path bench/Cargo.toml
