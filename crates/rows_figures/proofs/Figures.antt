@@ -1,5 +1,5 @@
 -- Every message of specs/Figures, by computation. Assumes nothing.
-use mathlib.Core.Path.{◌≡◌, refl}
+use mathlib.Core.Path.{refl}
 use Rattle.layout.specs.Layout.{bits_of, number_of, spread, gather, lay_out, cut, written_of, fields_of, number_at}
 use Rattle.link_message.specs.Layouts.{table_of, value_at, values_in, reduced, third_first, laid_rows, rows_of, nums, encode_of}
 use Rattle.setup_read.specs.Clc as Clc
