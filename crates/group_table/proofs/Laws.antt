@@ -1,24 +1,22 @@
 -- Sizes, slots, links and the search by token: what each definition gives. Assumes nothing.
-use Prim.Native.Nat.{ℕ, zero, suc, ◌+◌, ◌-◌, ◌*◌, ◌≤◌, ◌<◌}
+use Prim.Native.Nat.{ℕ, zero, suc, ◌-◌, ◌*◌, ◌≤◌, ◌<◌}
 use mathlib.Core.Path.{◌≡◌, refl, sym, ap, ◌∙◌}
 use mathlib.Core.Bool.{Bool, true, false, ◌&&◌, not, cond}
 use mathlib.Core.List.{List, [], ◌∷◌}
-use native.Mathlib.Numerals.{add-one}
 use native.Mathlib.Omega.{arith}
-use native.Mathlib.Decide.{dec_le}
-use lib.Dec.{T as Holds, leb, eqb, ltb, nltb→le}
-use lib.ListN.{length, get_or, drop, set, get_or-eq_default, length-set}
-use lib.Seq.{drop-cons, get_or-set_same, get_or-set_other, set-get_or, set_out}
+use lib.Dec.{leb, eqb}
+use lib.ListN.{length, get_or, set, get_or-eq_default, length-set}
+use lib.Seq.{get_or-set_same, get_or-set_other, set-get_or, set_out}
 use mir.Val.{Val}
 use denote.Laws.{Is}
-use borrow.Author.Tests.{le-leb, lt-leb, leb-true, eqb-true, eq-eqb, ne_eqb}
+use borrow.Author.Tests.{le-leb, leb-true, eqb-true, eq-eqb, ne_eqb}
 use Rattle.gauge.specs.declared.Gauge.{Gauge}
 use Rattle.gauge.specs.Gauge.{cleared_of}
 use Rattle.conn_record.specs.declared.Record.{Record}
 use Rattle.conn_record.specs.Connection.{least_size, most_size, zero_record}
 use Rattle.conn_record.proofs.Laws.{and_left, and_right, holds}
 use Rattle.group_table.specs.declared.Links.{Links}
-use Rattle.group_table.specs.Table.{most_slots, sizes_b, slot_b, index_of, record_at, open_b, active_b, gauge_at, holds_b, or_later, lowest, find_from, holder_in, with_record, with_link, with_gauge, found_of_all}
+use Rattle.group_table.specs.Table.{most_slots, sizes_b, slot_b, record_at, open_b, active_b, gauge_at, holds_b, or_later, lowest, find_from, holder_in, with_record, with_link, with_gauge, found_of_all}
 use Rattle.group_table.specs.contracts.Links.{the_row}
 
 -- THE ARRAYS' LENGTHS, which a value of the type has

@@ -1,12 +1,11 @@
 -- The slots of a lent table: where a slot's record stands, and the search by token, as the code counts them. Assumes nothing.
 use Prim.Native.Nat.{ℕ, zero, suc, ◌+◌, ◌-◌, ◌≤◌, ◌<◌}
 use mathlib.Core.Path.{◌≡◌, refl, sym, ap, ◌∙◌}
-use mathlib.Core.Bool.{Bool, true, false, not}
+use mathlib.Core.Bool.{Bool, true, false}
 use mathlib.Core.List.{List}
 use native.Mathlib.Numerals.{add-one}
 use native.Mathlib.Omega.{arith}
 use native.Mathlib.Decide.{dec_le}
-use lib.Dec.{T as Holds, ltb, nltb→le}
 use lib.ListN.{length, get_or, drop, set, get_or-eq_default}
 use lib.Seq.{drop-cons, set_out}
 use borrow.Author.Tests.{le-leb, lt-leb}
@@ -60,19 +59,19 @@ module _ (t : List Record) (k : ℕ) where
       ]
 
   module _ (r : ℕ) (e : r ≡ index_of k (length t)) where
-    pub record_at_returns : Holds (ltb r (length t)) → get_or t r zero_record ≡ record_at t k
+    pub record_at_returns : r < length t → get_or t r zero_record ≡ record_at t k
     record_at_returns h = ap (λ (i : ℕ). get_or t i zero_record) e ∙ record_index
 
-    pub record_at_returns_2 : Holds (not (ltb r (length t))) → (c : Record) → c ≡ zero_record → c ≡ record_at t k
+    pub record_at_returns_2 : length t ≤ r → (c : Record) → c ≡ zero_record → c ≡ record_at t k
     record_at_returns_2 h c z =
-        z ∙ sym (get_or-eq_default t zero_record (nltb→le r (length t) h)) ∙ ap (λ (i : ℕ). get_or t i zero_record) e ∙ record_index
+        z ∙ sym (get_or-eq_default t zero_record h) ∙ ap (λ (i : ℕ). get_or t i zero_record) e ∙ record_index
 
   module _ (c : Record) (r : ℕ) (e : r ≡ index_of k (length t)) where
-    pub put_record_returns : Holds (ltb r (length t)) → set t r c ≡ with_record t k c
+    pub put_record_returns : r < length t → set t r c ≡ with_record t k c
     put_record_returns h = ap (λ (i : ℕ). set t i c) e ∙ with_index c
 
-    pub put_record_returns_2 : Holds (not (ltb r (length t))) → t ≡ with_record t k c
-    put_record_returns_2 h = sym (set_out t r c (nltb→le r (length t) h)) ∙ ap (λ (i : ℕ). set t i c) e ∙ with_index c
+    pub put_record_returns_2 : length t ≤ r → t ≡ with_record t k c
+    put_record_returns_2 h = sym (set_out t r c h) ∙ ap (λ (i : ℕ). set t i c) e ∙ with_index c
 
 -- THE SEARCH. A slot that the rest of a search counts, after i slots
 abbrev pub after : ℕ → ℕ → ℕ
