@@ -37,6 +37,7 @@ use Rattle.c_send.proofs.Agree.{rule_of, sending_unless, refused_first, Agrees, 
 -- THE RECORD THAT THE SLOT SHOWS
 inside : (b : Bool) → Holds b → b ≡ true
 inside true h = refl
+inside false h = elim h [ ]
 
 beyond : (b : Bool) → Holds (not b) → b ≡ false
 beyond true h = absurd h

@@ -63,9 +63,11 @@ module _ (s n len : ℕ) (t : List Record) (links : LinkStates) (k : ℕ) where
   pub refusal_at_returns : (b : Bool) → b ≡ sizes_b s n len (length t) → Holds b
       → (j : ℕ) → j ≡ held_of s n links.active k (record_at t k) → j ≡ refusal_at s n len t links.active k
   refusal_at_returns true e h j f = f ∙ sym (sized_is true (sym e))
+  refusal_at_returns false e h j f = elim h [ ]
 
   pub refusal_at_returns_2 : (b : Bool) → b ≡ sizes_b s n len (length t) → Holds (not b) → 1 ≡ refusal_at s n len t links.active k
   refusal_at_returns_2 false e h = sym (sized_is false (sym e))
+  refusal_at_returns_2 true e h = elim h [ ]
 
 -- no call on a record changes the links
 pub links_stay : (j : ℕ) (ls : Links) (c : Record) (o : Outcome) → (settled_by j ls c o).answer.links ≡ ls

@@ -64,14 +64,17 @@ module _ (t : List Record) (k : ℕ) where
   pub leave_returns : (m : Marks) (closes : Bool) → Holds closes → Unit {0} → (u : List Record) → u ≡ with_record t k zero_record
       → u ≡ with_record t k (leaves_of (record_at t k) m closes)
   leave_returns m true h v u eu = eu
+  leave_returns m false h v u eu = elim h [ ]
 
   pub leave_returns_2 : (m : Marks) (closes : Bool) → Holds (not closes) → Unit {0} → (u : List Record)
       → u ≡ with_record t k (marked_record (record_at t k) m) → u ≡ with_record t k (leaves_of (record_at t k) m closes)
   leave_returns_2 m false h v u eu = eu
+  leave_returns_2 m true h v u eu = elim h [ ]
 
 -- BY THE PLAN
 inside : (b : Bool) → Holds b → b ≡ true
 inside true h = refl
+inside false h = elim h [ ]
 
 beyond : (b : Bool) → Holds (not b) → b ≡ false
 beyond true h = absurd h

@@ -308,7 +308,8 @@ module _ (names : Two Names) (ends : Two End) where
       go near c a m =
           let x = made_first (m near).1 in (
             x.0,
-            λ t. elim t [
+            λ t. elim t as (λ (k : Side). (end : Group)
+                × Made (pick k (after names ends (record { side = near; call = c; said = a }))).group (calls_at k es) (said_at k es) end) [
               | near ↦ (
                 (m near).0,
                 subst (λ (g : Group). Made g (calls_at near es) (said_at near es) (m near).0)
@@ -324,7 +325,8 @@ module _ (names : Two Names) (ends : Two End) where
       go far c a m =
           let x = made_first (m far).1 in (
             x.0,
-            λ t. elim t [
+            λ t. elim t as (λ (k : Side). (end : Group)
+                × Made (pick k (after names ends (record { side = far; call = c; said = a }))).group (calls_at k es) (said_at k es) end) [
               | near ↦ (
                 (m near).0,
                 subst (λ (g : Group). Made g (calls_at near es) (said_at near es) (m near).0)

@@ -186,6 +186,7 @@ module _ {d d' : ℕ} {n : Names} {S : ℕ → Type 0} {took : List ℕ} {ended 
       let p = way_owed at v w j in
       record { z = p.z; low = omega (arith, p.low); high = p.high; place_is = p.place_is; value-is = p.value-is }
   way_owed at v (a_message m w) (later j) = way_owed at v w j
+  way_owed {y = y} {t = t} at v there x8 = elim x8 [ ]
 
   -- the number of the byte under way to the place of a position is that position
   pub way_number : {y t x s : ℕ} {l : List Item} {ms : List Mark} → 0 < d → (z : ℕ) → Way d d' n S took ended y t x s l ms → x ≤ z → z < y
