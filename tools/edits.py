@@ -52,3 +52,11 @@ def crates():
 
 def static():
     return [name for name, is_static, _ in lines() if is_static]
+
+
+def jobs():
+    """How many checks run side by side: RT_JOBS, or a processor each as far as there are 4 GB for it."""
+    if os.environ.get('RT_JOBS', '').isdigit():
+        return max(1, int(os.environ['RT_JOBS']))
+    free = re.search(r'MemAvailable:\s+(\d+)', open('/proc/meminfo', encoding='utf-8').read())
+    return max(1, min(len(os.sched_getaffinity(0)), int(free.group(1)) // 4_000_000))

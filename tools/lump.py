@@ -134,13 +134,13 @@ class Tree(Crates):
             with open(os.path.join(folder, 'Lib.antt'), 'w', encoding='utf-8') as lib:
                 lib.write(''.join(f'pub mod {module}\n' for module in kept))
 
-    def check(self, wanted, saved, *places):
+    def check(self, wanted, saved, *places, jobs=1):
         """What the prover says of these crates and all below, each from the first of `places` that has it, or ours."""
         home = kit()
         top = os.path.join(self.work, 'top', 'src', 'lib.rt')
         words = [os.path.join(home, 'bin', 'rattle'), 'check', '--crate-name', 'top', top,
                  '--antt-project', f'{home}/rattle/logic/antt-project.json', '--logic-built', f'{home}/logic_built',
-                 '--incremental', saved, '-L', f'dependency={home}/rlibs', '--extern', f'core={home}/rlibs/core.rlib',
+                 '--jobs', str(jobs), '--incremental', saved, '-L', f'dependency={home}/rlibs', '--extern', f'core={home}/rlibs/core.rlib',
                  '--extern', f'std={home}/rlibs/std.rlib']
         for name in self.below(wanted):
             folders = (os.path.join(place, 'crates', name) for place in (*places, self.work))
