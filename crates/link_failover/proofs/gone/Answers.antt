@@ -10,3 +10,6 @@ pub returns : goal.returns
 returns c =
     let b = c in
     gone_in_lem b.args.p b.args.link (omega arith)
+
+pub returns-then-link-gt-MOST_LINK : goal.returns-then-link-gt-MOST_LINK
+returns-then-link-gt-MOST_LINK c = gone_out c.args.p c.args.link (before_length c.args.p _ c.well_formed.0) (omega arith)
