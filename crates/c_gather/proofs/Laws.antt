@@ -4,9 +4,9 @@ use mathlib.Core.Path.{◌≡◌, refl, sym, ap, ◌∙◌, subst}
 use mathlib.Core.Bool.{Bool, true, false, not, cond}
 use mathlib.Core.List.{List, [], ◌∷◌, ◌++◌}
 use native.Mathlib.Omega.{arith}
-use lib.Dec.{T as Holds, ltb, ltb→lt, nltb→le, eqb}
+use lib.Dec.{ltb, eqb}
 use lib.ListN.{length, get_or, take, length-append}
-use borrow.Author.Tests.{eqb-true, eqb-false, eq-eqb, ne_eqb}
+use borrow.Author.Tests.{eqb-true, eqb-false, eq-eqb, ne_eqb, ltb-false}
 use Rattle.cursor.specs.declared.Cursor.{Cursor}
 use Rattle.cursor.specs.Cursor.{in_range, step_of}
 use Rattle.cursor.proofs.Laws.{range_is, step_none}
@@ -53,11 +53,11 @@ last_here rec t token p h et ep =
     simp (ep, et, eq-eqb t.said.refusal 0 z)
 
 -- THE RECORD THAT THE SLOT SHOWS
-pub last_at_returns : (t : List Record) (k : ℕ) (q : Sending) → (r : ℕ) → r ≡ index_of k (length t) → Holds (ltb r (length t))
+pub last_at_returns : (t : List Record) (k : ℕ) (q : Sending) → (r : ℕ) → r ≡ index_of k (length t) → r < length t
     → (p : Placing) → p ≡ last_by (get_or t r zero_record) q → p ≡ last_by (record_at t k) q
 last_at_returns t k q r e h p ep = ep ∙ ap (λ (x : Record). last_by x q) (record_at_returns t k r e h)
 
-pub last_at_returns_2 : (t : List Record) (k : ℕ) (q : Sending) → (r : ℕ) → r ≡ index_of k (length t) → Holds (not (ltb r (length t)))
+pub last_at_returns_2 : (t : List Record) (k : ℕ) (q : Sending) → (r : ℕ) → r ≡ index_of k (length t) → length t ≤ r
     → (z : Record) → z ≡ zero_record → (p : Placing) → p ≡ last_by z q → p ≡ last_by (record_at t k) q
 last_at_returns_2 t k q r e h z ez p ep = ep ∙ ap (λ (x : Record). last_by x q) (record_at_returns_2 t k r e h z ez)
 
@@ -107,13 +107,13 @@ gather_on_returns t k head body b urgent eb len el r er p ep v c ec w u eu a ea 
       ec ∙ (λ i. message_left (eb i) (record_at t k) (e i) b),
     )
 
-pub gather_unless_returns : (j : ℕ) (t : List Record) (k : ℕ) (head body b : List ℕ) → Holds (ltb 0 j)
+pub gather_unless_returns : (j : ℕ) (t : List Record) (k : ℕ) (head body b : List ℕ) → 0 < j
     → (a : Joined) → a ≡ refused_answer j → GatherUnless j t k head body b a t b
-gather_unless_returns j t k head body b h a ea = (λ e. absurd (omega (arith, ltb→lt 0 j h, e)), λ e. (ea, refl, refl))
+gather_unless_returns j t k head body b h a ea = (λ e. absurd (omega (arith, h, e)), λ e. (ea, refl, refl))
 
-pub gather_unless_returns_2 : (j : ℕ) (t : List Record) (k : ℕ) (head body b : List ℕ) → Holds (not (ltb 0 j))
+pub gather_unless_returns_2 : (j : ℕ) (t : List Record) (k : ℕ) (head body b : List ℕ) → j ≤ 0
     → (a : Joined) (u : List Record) (c : List ℕ) → GatherBy t k head body b a u c → GatherUnless j t k head body b a u c
-gather_unless_returns_2 j t k head body b h a u c l = (λ e. l, λ e. absurd (omega (arith, nltb→le 0 j h, e)))
+gather_unless_returns_2 j t k head body b h a u c l = (λ e. l, λ e. absurd (omega (arith, h, e)))
 
 positive : (j : ℕ) → (j ≡ 0 → ⊥) → 0 < j
 positive zero z = absurd (z refl)
@@ -186,7 +186,7 @@ module _
           (sending_steps rec (length head + length body) (ap (λ (x : Sending). x.said.refusal) (sym e) ∙ no))
       steps false y z =
           let e : zero_record ≡ rec =
-          record_at_returns_2 t k (index_of k (length t)) refl (subst (λ (x : Bool). Holds (not x)) (sym y) tt) zero_record refl in
+          record_at_returns_2 t k (index_of k (length t)) refl (ltb-false (index_of k (length t)) (length t) y) zero_record refl in
           absurd (none_there e (facts z).q_range)
 
       last_by_lem : (z : Bool) → eqb a.sent.refusal 0 ≡ z → a.last ≡ named a.sent.refusal a.sent.taken

@@ -1,10 +1,10 @@
 -- What the walks of `hearing_at`, `take_at`, `end_at`, `put`, `tell_at` and `fordlinnet_make_hear` give. Assumes nothing.
-use Prim.Native.Nat.{ℕ}
+use Prim.Native.Nat.{ℕ, ◌<◌, ◌≤◌}
 use mathlib.Core.Path.{◌≡◌, refl, sym, ap, ◌∙◌, subst}
 use mathlib.Core.Bool.{Bool, true, false, ◌&&◌, ◌||◌, not, cond, false≢true}
 use mathlib.Core.List.{List, []}
 use native.Mathlib.Omega.{arith}
-use lib.Dec.{T as Holds, ltb, eqb, ltb→lt, nltb→le}
+use lib.Dec.{ltb, eqb}
 use lib.ListN.{length, get_or, set}
 use borrow.Author.Tests.{ne_eqb}
 use Rattle.cdc.specs.declared.Message.{Message}
@@ -39,7 +39,7 @@ use Rattle.c_hear.proofs.Agree.{left_of, Agrees, refused_agrees, agree}
 
 -- THE RECORD THAT THE SLOT SHOWS
 pub hearing_at_returns : (n : ℕ) (t : List Record) (links : LinkStates) (k : ℕ) (m : Message) (j : ℕ)
-    → (r : ℕ) → r ≡ index_of k (length t) → Holds (ltb r (length t))
+    → (r : ℕ) → r ≡ index_of k (length t) → r < length t
     → (q : Hearing) → q ≡ hearing_of n (active_b links.active (get_or t r zero_record).id.link) (get_or t r zero_record) m j
     → q ≡ hearing_of n (active_b links.active (record_at t k).id.link) (record_at t k) m j
 hearing_at_returns n t links k m j r e h q eq =
@@ -54,7 +54,7 @@ unfolding none_hearing hearing_of
 none_is n active m j = simp (refusal_3 n active zero_record false (zero_incoherent n))
 
 pub hearing_at_returns_2 : (n : ℕ) (t : List Record) (links : LinkStates) (k : ℕ) (m : Message) (j : ℕ)
-    → (r : ℕ) → r ≡ index_of k (length t) → Holds (not (ltb r (length t))) → (q : Hearing) → q ≡ none_hearing j
+    → (r : ℕ) → r ≡ index_of k (length t) → length t ≤ r → (q : Hearing) → q ≡ none_hearing j
     → q ≡ hearing_of n (active_b links.active (record_at t k).id.link) (record_at t k) m j
 hearing_at_returns_2 n t links k m j r e h q eq =
     eq
@@ -62,36 +62,36 @@ hearing_at_returns_2 n t links k m j r e h q eq =
     ∙ ap (λ (c : Record). hearing_of n (active_b links.active c.id.link) c m j) (record_at_returns_2 t k r e h zero_record refl)
 
 pub tell_at_returns : (t : List Record) (k : ℕ) (q : Hearing) (b : List ℕ)
-    → (r : ℕ) → r ≡ index_of k (length t) → Holds (ltb r (length t)) → (u : Unit {0}) (c : List ℕ)
+    → (r : ℕ) → r ≡ index_of k (length t) → r < length t → (u : Unit {0}) (c : List ℕ)
     → c ≡ message_left (get_or t r zero_record) q b → c ≡ message_left (record_at t k) q b
 tell_at_returns t k q b r e h u c ec = ec ∙ ap (λ (x : Record). message_left x q b) (record_at_returns t k r e h)
 
 pub tell_at_returns_2 : (t : List Record) (k : ℕ) (q : Hearing) (b : List ℕ)
-    → (r : ℕ) → r ≡ index_of k (length t) → Holds (not (ltb r (length t))) → (z : Record) → z ≡ zero_record → (u : Unit {0}) (c : List ℕ)
+    → (r : ℕ) → r ≡ index_of k (length t) → length t ≤ r → (z : Record) → z ≡ zero_record → (u : Unit {0}) (c : List ℕ)
     → c ≡ message_left z q b → c ≡ message_left (record_at t k) q b
 tell_at_returns_2 t k q b r e h z ez u c ec = ec ∙ ap (λ (x : Record). message_left x q b) (record_at_returns_2 t k r e h z ez)
 
 pub take_at_returns : (t : List Record) (k : ℕ) (m : Message) (q : Hearing)
-    → (r : ℕ) → r ≡ index_of k (length t) → Holds (ltb r (length t)) → (c : Record) → c ≡ record_left (get_or t r zero_record) m q
+    → (r : ℕ) → r ≡ index_of k (length t) → r < length t → (c : Record) → c ≡ record_left (get_or t r zero_record) m q
     → set t r c ≡ with_record t k (record_left (record_at t k) m q)
 take_at_returns t k m q r e h c ec =
     put_record_returns t k c r e h
     ∙ ap (with_record t k) (ec ∙ ap (λ (x : Record). record_left x m q) (record_at_returns t k r e h))
 
 pub take_at_returns_2 : (t : List Record) (k : ℕ) (m : Message) (q : Hearing)
-    → (r : ℕ) → r ≡ index_of k (length t) → Holds (not (ltb r (length t)))
+    → (r : ℕ) → r ≡ index_of k (length t) → length t ≤ r
     → t ≡ with_record t k (record_left (record_at t k) m q)
 take_at_returns_2 t k m q r e h = put_record_returns_2 t k (record_left (record_at t k) m q) r e h
 
 pub end_at_returns : (t : List Record) (k : ℕ) (q : Hearing)
-    → (r : ℕ) → r ≡ index_of k (length t) → Holds (ltb r (length t)) → (c : Record) → c ≡ ended_of (get_or t r zero_record) q
+    → (r : ℕ) → r ≡ index_of k (length t) → r < length t → (c : Record) → c ≡ ended_of (get_or t r zero_record) q
     → set t r c ≡ with_record t k (ended_of (record_at t k) q)
 end_at_returns t k q r e h c ec =
     put_record_returns t k c r e h
     ∙ ap (with_record t k) (ec ∙ ap (λ (x : Record). ended_of x q) (record_at_returns t k r e h))
 
 pub end_at_returns_2 : (t : List Record) (k : ℕ) (q : Hearing)
-    → (r : ℕ) → r ≡ index_of k (length t) → Holds (not (ltb r (length t)))
+    → (r : ℕ) → r ≡ index_of k (length t) → length t ≤ r
     → t ≡ with_record t k (ended_of (record_at t k) q)
 end_at_returns_2 t k q r e h = put_record_returns_2 t k (ended_of (record_at t k) q) r e h
 
@@ -281,22 +281,22 @@ none_refused : (j : ℕ) → eqb j 0 ≡ false → none_hearing j ≡ refused_he
 unfolding none_hearing
 none_refused j e = simp e
 
-pub hear_unless_returns : (j n : ℕ) (t : List Record) (links : LinkStates) (k : ℕ) (m : Message) (b : List ℕ) → Holds (ltb 0 j)
+pub hear_unless_returns : (j n : ℕ) (t : List Record) (links : LinkStates) (k : ℕ) (m : Message) (b : List ℕ) → 0 < j
     → (r : Hearing) → r ≡ none_hearing j → (a : HearAnswer) → a ≡ r.said → HeardBy j n t links.active k m b a t b
 unfolding message_left
 hear_unless_returns j n t links k m b h r er a ea =
-    let z = ne_eqb j 0 (λ e. absurd (omega (arith, e, ltb→lt 0 j h))) in
+    let z = ne_eqb j 0 (λ e. absurd (omega (arith, e, h))) in
     let e = hearing_refused n (active_b links.active (record_at t k).id.link) (record_at t k) m j z in (
       ea ∙ ap (λ (q : Hearing). q.said) (er ∙ none_refused j z ∙ sym e),
       sym (ap (table_left t k m) e ∙ left_is t k m (refused_hearing j) refl ∙ record_kept t k),
       sym (ap (λ (q : Hearing). message_left (record_at t k) q b) e),
     )
 
-pub hear_unless_returns_2 : (j n : ℕ) (t : List Record) (links : LinkStates) (k : ℕ) (m : Message) (b : List ℕ) → Holds (not (ltb 0 j))
+pub hear_unless_returns_2 : (j n : ℕ) (t : List Record) (links : LinkStates) (k : ℕ) (m : Message) (b : List ℕ) → j ≤ 0
     → (a : HearAnswer) (u : List Record) (c : List ℕ) → HeardBy 0 n t links.active k m b a u c
     → HeardBy j n t links.active k m b a u c
 hear_unless_returns_2 j n t links k m b h a u c e =
-    let z : 0 ≡ j = omega (arith, nltb→le 0 j h) in subst (λ (x : ℕ). HeardBy x n t links.active k m b a u c) z e
+    let z : 0 ≡ j = omega (arith, h) in subst (λ (x : ℕ). HeardBy x n t links.active k m b a u c) z e
 
 pub fordlinnet_make_hear_returns : (s n : ℕ) (mem : List ℕ) (t : List Record) (states : LinkStates) (bytes b : List ℕ)
     → (w : Parsed) → w ≡ parsed_in bytes → (token : ℕ) → token ≡ w.message.token → (k : ℕ) → k ≡ holder_in t token

@@ -1,9 +1,9 @@
 -- What the walks of `placing_at` and `fordlinnet_make_place` give. Assumes nothing.
-use Prim.Native.Nat.{ℕ, ◌+◌}
+use Prim.Native.Nat.{ℕ, ◌+◌, ◌<◌, ◌≤◌}
 use mathlib.Core.Path.{◌≡◌, refl, sym, ap, ◌∙◌, subst}
 use mathlib.Core.Bool.{Bool, true, false, not, cond}
 use mathlib.Core.List.{List, []}
-use lib.Dec.{T as Holds, ltb, eqb}
+use lib.Dec.{ltb, eqb}
 use borrow.Author.Tests.{eqb-true}
 use lib.ListN.{length, get_or}
 use Rattle.element.specs.Element.{base_of, stored_of}
@@ -32,11 +32,11 @@ use Rattle.c_place.proofs.Agree.{reply_by, answered_by, agree}
 
 -- THE RECORD THAT THE SLOT SHOWS
 module _ (n : ℕ) (t : List Record) (k first at len : ℕ) (r : ℕ) (e : r ≡ index_of k (length t)) where
-  pub placing_at_returns : Holds (ltb r (length t)) → (q : ℕ) → q ≡ placing_of n (get_or t r zero_record) first at len
+  pub placing_at_returns : r < length t → (q : ℕ) → q ≡ placing_of n (get_or t r zero_record) first at len
       → q ≡ placing_of n (record_at t k) first at len
   placing_at_returns h q eq = eq ∙ ap (λ (c : Record). placing_of n c first at len) (record_at_returns t k r e h)
 
-  pub placing_at_returns_2 : Holds (not (ltb r (length t))) → (z : Record) → z ≡ zero_record → (q : ℕ) → q ≡ placing_of n z first at len
+  pub placing_at_returns_2 : length t ≤ r → (z : Record) → z ≡ zero_record → (q : ℕ) → q ≡ placing_of n z first at len
       → q ≡ placing_of n (record_at t k) first at len
   placing_at_returns_2 h z ez q eq = eq ∙ ap (λ (c : Record). placing_of n c first at len) (record_at_returns_2 t k r e h z ez)
 

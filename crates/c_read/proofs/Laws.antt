@@ -1,10 +1,10 @@
 -- What the walks of `reading_at`, `put`, `tell_at` and `fordlinnet_make_read` give. Assumes nothing.
-use Prim.Native.Nat.{ℕ, zero, suc}
+use Prim.Native.Nat.{ℕ, zero, suc, ◌<◌, ◌≤◌}
 use mathlib.Core.Path.{◌≡◌, refl, sym, ap, ◌∙◌, subst}
 use mathlib.Core.Bool.{Bool, true, false, ◌||◌, not, cond}
 use mathlib.Core.List.{List, []}
 use native.Mathlib.Omega.{arith}
-use lib.Dec.{T as Holds, ltb, eqb, ltb→lt, nltb→le}
+use lib.Dec.{ltb, eqb}
 use lib.ListN.{length, get_or, set}
 use Rattle.cdc.specs.Cdc.{encode_of}
 use Rattle.element.specs.Element.{base_of, intact_at}
@@ -37,38 +37,38 @@ use Rattle.c_read.proofs.Agree.{Agrees, agree, refused_agree}
 
 -- THE RECORD THAT THE SLOT SHOWS
 pub reading_at_returns : (n : ℕ) (m : List ℕ) (t : List Record) (k room : ℕ)
-    → (r : ℕ) → r ≡ index_of k (length t) → Holds (ltb r (length t))
+    → (r : ℕ) → r ≡ index_of k (length t) → r < length t
     → (q : Reading) → q ≡ reading_of n (intact_at m (base_of n k)) (get_or t r zero_record) room
     → q ≡ reading_of n (intact_at m (base_of n k)) (record_at t k) room
 reading_at_returns n m t k room r e h q eq =
     eq ∙ ap (λ (c : Record). reading_of n (intact_at m (base_of n k)) c room) (record_at_returns t k r e h)
 
 pub reading_at_returns_2 : (n : ℕ) (m : List ℕ) (t : List Record) (k room : ℕ)
-    → (r : ℕ) → r ≡ index_of k (length t) → Holds (not (ltb r (length t))) → (z : Record) → z ≡ zero_record
+    → (r : ℕ) → r ≡ index_of k (length t) → length t ≤ r → (z : Record) → z ≡ zero_record
     → (q : Reading) → q ≡ reading_of n (intact_at m (base_of n k)) z room
     → q ≡ reading_of n (intact_at m (base_of n k)) (record_at t k) room
 reading_at_returns_2 n m t k room r e h z ez q eq =
     eq ∙ ap (λ (c : Record). reading_of n (intact_at m (base_of n k)) c room) (record_at_returns_2 t k r e h z ez)
 
 pub tell_at_returns : (t : List Record) (k : ℕ) (q : Reading) (b : List ℕ)
-    → (r : ℕ) → r ≡ index_of k (length t) → Holds (ltb r (length t)) → (u : Unit {0}) (c : List ℕ)
+    → (r : ℕ) → r ≡ index_of k (length t) → r < length t → (u : Unit {0}) (c : List ℕ)
     → c ≡ message_left (get_or t r zero_record) q b → c ≡ message_left (record_at t k) q b
 tell_at_returns t k q b r e h u c ec = ec ∙ ap (λ (x : Record). message_left x q b) (record_at_returns t k r e h)
 
 pub tell_at_returns_2 : (t : List Record) (k : ℕ) (q : Reading) (b : List ℕ)
-    → (r : ℕ) → r ≡ index_of k (length t) → Holds (not (ltb r (length t))) → (z : Record) → z ≡ zero_record → (u : Unit {0}) (c : List ℕ)
+    → (r : ℕ) → r ≡ index_of k (length t) → length t ≤ r → (z : Record) → z ≡ zero_record → (u : Unit {0}) (c : List ℕ)
     → c ≡ message_left z q b → c ≡ message_left (record_at t k) q b
 tell_at_returns_2 t k q b r e h z ez u c ec = ec ∙ ap (λ (x : Record). message_left x q b) (record_at_returns_2 t k r e h z ez)
 
 pub put_returns : (t : List Record) (k : ℕ) (q : Reading)
-    → (r : ℕ) → r ≡ index_of k (length t) → Holds (ltb r (length t)) → (c : Record) → c ≡ record_left (get_or t r zero_record) q
+    → (r : ℕ) → r ≡ index_of k (length t) → r < length t → (c : Record) → c ≡ record_left (get_or t r zero_record) q
     → set t r c ≡ with_record t k (record_left (record_at t k) q)
 put_returns t k q r e h c ec =
     put_record_returns t k c r e h
     ∙ ap (with_record t k) (ec ∙ ap (λ (x : Record). record_left x q) (record_at_returns t k r e h))
 
 pub put_returns_2 : (t : List Record) (k : ℕ) (q : Reading)
-    → (r : ℕ) → r ≡ index_of k (length t) → Holds (not (ltb r (length t)))
+    → (r : ℕ) → r ≡ index_of k (length t) → length t ≤ r
     → t ≡ with_record t k (record_left (record_at t k) q)
 put_returns_2 t k q r e h = put_record_returns_2 t k (record_left (record_at t k) q) r e h
 
@@ -238,14 +238,14 @@ read_on_returns n m t k out b r er v c ec w u eu x l el a ea = (
   ec ∙ ap (λ (q : Reading). message_left (record_at t k) q b) er,
 )
 
-pub read_unless_returns : (j n : ℕ) (m : List ℕ) (t : List Record) (k : ℕ) (out b : List ℕ) → Holds (ltb 0 j)
+pub read_unless_returns : (j n : ℕ) (m : List ℕ) (t : List Record) (k : ℕ) (out b : List ℕ) → 0 < j
     → (a : ReadAnswer) → a ≡ refused_answer j → LeftUnless j n m t k out b a t out b
 read_unless_returns j n m t k out b h a e =
-    (λ z. absurd (omega (arith, z, ltb→lt 0 j h)), λ _. (e, refl, refl, refl))
+    (λ z. absurd (omega (arith, z, h)), λ _. (e, refl, refl, refl))
 
-pub read_unless_returns_2 : (j n : ℕ) (m : List ℕ) (t : List Record) (k : ℕ) (out b : List ℕ) → Holds (not (ltb 0 j))
+pub read_unless_returns_2 : (j n : ℕ) (m : List ℕ) (t : List Record) (k : ℕ) (out b : List ℕ) → j ≤ 0
     → (a : ReadAnswer) (u : List Record) (l c : List ℕ) → LeftBy n m t k out b a u l c → LeftUnless j n m t k out b a u l c
-read_unless_returns_2 j n m t k out b h a u l c e = (λ _. e, λ z. absurd (z (omega (arith, nltb→le 0 j h))))
+read_unless_returns_2 j n m t k out b h a u l c e = (λ _. e, λ z. absurd (z (omega (arith, h))))
 
 pub fordlinnet_make_read_returns : (s n : ℕ) (m : List ℕ) (t : List Record) (states : LinkStates) (k : ℕ) (out b : List ℕ)
     → (j : ℕ) → j ≡ refusal_at s n (length m) t states.active k

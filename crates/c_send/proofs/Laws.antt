@@ -1,12 +1,12 @@
 -- What the walks of `sending_at`, `put`, `tell_at`, `send_on`, `send_unless`, `send` and `fordlinnet_make_send` give. Assumes nothing.
-use Prim.Native.Nat.{ℕ, zero, suc, ◌<◌}
+use Prim.Native.Nat.{ℕ, zero, suc, ◌<◌, ◌≤◌}
 use mathlib.Core.Path.{◌≡◌, refl, sym, ap, ◌∙◌, subst}
 use mathlib.Core.Bool.{Bool, true, false, not, cond}
 use mathlib.Core.List.{List, []}
 use native.Mathlib.Omega.{arith}
-use lib.Dec.{T as Holds, ltb, ltb→lt, nltb→le, eqb}
+use lib.Dec.{ltb, eqb}
 use lib.ListN.{length, get_or, set}
-use borrow.Author.Tests.{eqb-true, eqb-false}
+use borrow.Author.Tests.{eqb-true, eqb-false, lt-ltb, le-ltb, ltb-false}
 use Rattle.cdc.specs.Cdc.{encode_of}
 use Rattle.conn_record.specs.declared.Record.{Record}
 use Rattle.conn_answer.specs.declared.Outcome.{Outcome}
@@ -35,48 +35,40 @@ use Rattle.c_send.specs.DirectSend.{send_answer_of, request_of, Sends, SendMade,
 use Rattle.c_send.proofs.Agree.{rule_of, sending_unless, refused_first, Agrees, agree}
 
 -- THE RECORD THAT THE SLOT SHOWS
-inside : (b : Bool) → Holds b → b ≡ true
-inside true h = refl
-inside false h = elim h [ ]
-
-beyond : (b : Bool) → Holds (not b) → b ≡ false
-beyond true h = absurd h
-beyond false h = refl
-
-pub sending_at_returns : (urgent : Bool) (t : List Record) (k len : ℕ) → (r : ℕ) → r ≡ index_of k (length t) → Holds (ltb r (length t))
+pub sending_at_returns : (urgent : Bool) (t : List Record) (k len : ℕ) → (r : ℕ) → r ≡ index_of k (length t) → r < length t
     → (q : Sending) → q ≡ sending_of urgent (get_or t r zero_record) len → q ≡ sending_at urgent t k len
 unfolding sending_at
 sending_at_returns urgent t k len r e h q eq =
-    let i : ltb (index_of k (length t)) (length t) ≡ true = ap (λ (x : ℕ). ltb x (length t)) (sym e) ∙ inside (ltb r (length t)) h in
+    let i : ltb (index_of k (length t)) (length t) ≡ true = ap (λ (x : ℕ). ltb x (length t)) (sym e) ∙ lt-ltb r (length t) h in
     let c : get_or t r zero_record ≡ record_at t k = record_at_returns t k r e h in
     simp (eq, c, i)
 
 pub sending_at_returns_2 : (urgent : Bool) (t : List Record) (k len : ℕ) → (r : ℕ) → r ≡ index_of k (length t)
-    → Holds (not (ltb r (length t))) → (z : Record) → z ≡ zero_record → (q : Sending) → q ≡ unsent 0 z.outbound → q ≡ sending_at urgent t k len
+    → length t ≤ r → (z : Record) → z ≡ zero_record → (q : Sending) → q ≡ unsent 0 z.outbound → q ≡ sending_at urgent t k len
 unfolding sending_at
 sending_at_returns_2 urgent t k len r e h z ez q eq =
-    let i : ltb (index_of k (length t)) (length t) ≡ false = ap (λ (x : ℕ). ltb x (length t)) (sym e) ∙ beyond (ltb r (length t)) h in
+    let i : ltb (index_of k (length t)) (length t) ≡ false = ap (λ (x : ℕ). ltb x (length t)) (sym e) ∙ le-ltb r (length t) h in
     simp (eq, ez, i)
 
 pub tell_at_returns : (urgent : Bool) (t : List Record) (k : ℕ) (q : Sending) (b : List ℕ)
-    → (r : ℕ) → r ≡ index_of k (length t) → Holds (ltb r (length t)) → (u : Unit {0}) (c : List ℕ)
+    → (r : ℕ) → r ≡ index_of k (length t) → r < length t → (u : Unit {0}) (c : List ℕ)
     → c ≡ message_left urgent (get_or t r zero_record) q b → c ≡ message_left urgent (record_at t k) q b
 tell_at_returns urgent t k q b r e h u c ec = ec ∙ ap (λ (x : Record). message_left urgent x q b) (record_at_returns t k r e h)
 
 pub tell_at_returns_2 : (urgent : Bool) (t : List Record) (k : ℕ) (q : Sending) (b : List ℕ)
-    → (r : ℕ) → r ≡ index_of k (length t) → Holds (not (ltb r (length t))) → (z : Record) → z ≡ zero_record → (u : Unit {0}) (c : List ℕ)
+    → (r : ℕ) → r ≡ index_of k (length t) → length t ≤ r → (z : Record) → z ≡ zero_record → (u : Unit {0}) (c : List ℕ)
     → c ≡ message_left urgent z q b → c ≡ message_left urgent (record_at t k) q b
 tell_at_returns_2 urgent t k q b r e h z ez u c ec = ec ∙ ap (λ (x : Record). message_left urgent x q b) (record_at_returns_2 t k r e h z ez)
 
 pub put_returns : (urgent : Bool) (t : List Record) (k : ℕ) (q : Sending)
-    → (r : ℕ) → r ≡ index_of k (length t) → Holds (ltb r (length t)) → (c : Record) → c ≡ record_left urgent (get_or t r zero_record) q
+    → (r : ℕ) → r ≡ index_of k (length t) → r < length t → (c : Record) → c ≡ record_left urgent (get_or t r zero_record) q
     → set t r c ≡ with_record t k (record_left urgent (record_at t k) q)
 put_returns urgent t k q r e h c ec =
     put_record_returns t k c r e h
     ∙ ap (with_record t k) (ec ∙ ap (λ (x : Record). record_left urgent x q) (record_at_returns t k r e h))
 
 pub put_returns_2 : (urgent : Bool) (t : List Record) (k : ℕ) (q : Sending)
-    → (r : ℕ) → r ≡ index_of k (length t) → Holds (not (ltb r (length t)))
+    → (r : ℕ) → r ≡ index_of k (length t) → length t ≤ r
     → t ≡ with_record t k (record_left urgent (record_at t k) q)
 put_returns_2 urgent t k q r e h = put_record_returns_2 t k (record_left urgent (record_at t k) q) r e h
 
@@ -101,7 +93,7 @@ module _
     by_place true e = simp e
     by_place false e =
         let z : zero_record ≡ record_at t k =
-        record_at_returns_2 t k (index_of k (length t)) refl (subst (λ (b : Bool). Holds (not b)) (sym e) tt) zero_record refl in
+        record_at_returns_2 t k (index_of k (length t)) refl (ltb-false (index_of k (length t)) (length t) e) zero_record refl in
         absurd (zero_refused s n size t active k first z h f)
 
     shown : sending_at urgent t k len ≡ sending_of urgent (record_at t k) len
@@ -248,13 +240,13 @@ send_on_returns urgent t k bytes b r er v c ec w u eu a ea = (
   ec ∙ ap (λ (q : Sending). message_left urgent (record_at t k) q b) er,
 )
 
-pub send_unless_returns : (j : ℕ) (urgent : Bool) (t : List Record) (k : ℕ) (bytes b : List ℕ) → Holds (ltb 0 j)
+pub send_unless_returns : (j : ℕ) (urgent : Bool) (t : List Record) (k : ℕ) (bytes b : List ℕ) → 0 < j
     → (a : SendAnswer) → a ≡ unsent_answer j → LeftUnless j urgent t k bytes b a t b
-send_unless_returns j urgent t k bytes b h a ea = (λ e. absurd (omega (arith, ltb→lt 0 j h, e)), λ e. (ea, refl, refl))
+send_unless_returns j urgent t k bytes b h a ea = (λ e. absurd (omega (arith, h, e)), λ e. (ea, refl, refl))
 
-pub send_unless_returns_2 : (j : ℕ) (urgent : Bool) (t : List Record) (k : ℕ) (bytes b : List ℕ) → Holds (not (ltb 0 j))
+pub send_unless_returns_2 : (j : ℕ) (urgent : Bool) (t : List Record) (k : ℕ) (bytes b : List ℕ) → j ≤ 0
     → (a : SendAnswer) (u : List Record) (c : List ℕ) → LeftBy urgent t k bytes b a u c → LeftUnless j urgent t k bytes b a u c
-send_unless_returns_2 j urgent t k bytes b h a u c l = (λ e. l, λ e. absurd (omega (arith, nltb→le 0 j h, e)))
+send_unless_returns_2 j urgent t k bytes b h a u c l = (λ e. l, λ e. absurd (omega (arith, h, e)))
 
 pub send_returns : (urgent : Bool) (s n : ℕ) (m : List ℕ) (t : List Record) (states : LinkStates) (k : ℕ) (bytes b : List ℕ)
     → (first : ℕ) → first ≡ refusal_at s n (length m) t states.active k

@@ -6,7 +6,7 @@ use mathlib.Core.List.{List, [], ◌∷◌}
 use native.Mathlib.Nat.{not-suc-le-zero, le_of_suc-le-suc}
 use native.Mathlib.Numerals.{add-one}
 use native.Mathlib.Omega.{arith}
-use lib.Dec.{T as Holds, ltb, ltb→lt, nltb→le}
+use lib.Dec.{ltb}
 use lib.ListN.{length, get_or, set, drop}
 use lib.Seq.{drop-cons, drop-length}
 use Rattle.conn_record.specs.declared.Record.{Record}
@@ -75,10 +75,9 @@ module _ (t₀ : List Record) (n : ℕ) (p : Plan) (b₀ : List ℕ) where
   move_each_begins = record { within = zero-le; moved = refl; told = refl }
 
   module _ (i at : ℕ) (t : List Record) (b : List ℕ) (s : move_each_Stands t₀ n p b₀ i at t b) where
-    pub move_each_turn : Holds (ltb i (length t₀)) → (r : ℕ) (u : List Record) (d : List ℕ) → Turned t (i + 1) n p b at (record_at t (i + 1)) u r d
+    pub move_each_turn : i < length t₀ → (r : ℕ) (u : List Record) (d : List ℕ) → Turned t (i + 1) n p b at (record_at t (i + 1)) u r d
         → move_each_Stands t₀ n p b₀ (i + 1) r u d
     move_each_turn h r u d e =
-        let l = ltb→lt i (length t₀) h in
         let j : i + 1 - 1 ≡ i = omega arith in
         let c : record_at t (i + 1) ≡ get_or t₀ i zero_record =
         record_in t (i + 1) (omega arith) ∙ ap (λ (k : ℕ). get_or t k zero_record) j ∙ ap (λ (x : List Record). get_or x i zero_record) s.moved ∙ upto_here n p i t₀ in
@@ -87,36 +86,32 @@ module _ (t₀ : List Record) (n : ℕ) (p : Plan) (b₀ : List ℕ) where
         ∙ with_in t (i + 1) (moved_of n p (get_or t₀ i zero_record)) (omega arith)
         ∙ ap (λ (k : ℕ). set t k (moved_of n p (get_or t₀ i zero_record))) j
         ∙ ap (λ (x : List Record). set x i (moved_of n p (get_or t₀ i zero_record))) s.moved
-        ∙ upto_next n p i t₀ l in
+        ∙ upto_next n p i t₀ h in
         let z : standing r d ≡ told_by n p (get_or t₀ i zero_record) (standing at b) =
         (λ k. standing (e.1.0 k) (e.1.1 k)) ∙ ap (λ (x : Record). told_by n p x (standing at b)) c in
         record {
-          within = omega (arith, l);
+          within = omega (arith, h);
           moved = e.0 ∙ w ∙ ap (λ (k : ℕ). upto n p k t₀) (sym (add-one i));
-          told = ap (told_from n p (drop (i + 1) t₀)) z ∙ sym (told_next n p t₀ i (standing at b) l) ∙ s.told;
+          told = ap (told_from n p (drop (i + 1) t₀)) z ∙ sym (told_next n p t₀ i (standing at b) h) ∙ s.told;
         }
 
-    pub move_each_returns : Holds (not (ltb i (length t₀)))
+    pub move_each_returns : length t₀ ≤ i
         → (t ≡ moved_all n p t₀) × ((at ≡ (told_all n p t₀ b₀).at) × (b ≡ (told_all n p t₀ b₀).buffer))
     move_each_returns h =
-        let e : i ≡ length t₀ = omega (arith, s.within, nltb→le i (length t₀) h) in
+        let e : i ≡ length t₀ = omega (arith, s.within, h) in
         let z : standing at b ≡ told_all n p t₀ b₀ = sym (told_end n p t₀ i (standing at b) e) ∙ s.told in
         (s.moved ∙ ap (λ (k : ℕ). upto n p k t₀) e ∙ upto_all n p t₀, (ap Told.at z, ap Told.buffer z))
 
 -- WHERE NOTHING CAN MOVE
-is_false : (b : Bool) → Holds (not b) → b ≡ false
-is_false true h = absurd h
-is_false false h = refl
-
 module _ (t : List Record) (n : ℕ) (p : Plan) (b : List ℕ) (s : Bool) (e : s ≡ some_b p) where
   abbrev Moved : List Record → ℕ → List ℕ → Type 0
   Moved u r d = (u ≡ moved_all n p t) × ((r ≡ (told_all n p t b).at) × (d ≡ (told_all n p t b).buffer))
 
-  pub move_all_returns : Holds s → (r : ℕ) (u : List Record) (d : List ℕ) → Moved u r d → Moved u r d
+  pub move_all_returns : s ≡ true → (r : ℕ) (u : List Record) (d : List ℕ) → Moved u r d → Moved u r d
   move_all_returns h r u d m = m
 
-  pub move_all_returns_2 : Holds (not s) → Moved t 0 b
+  pub move_all_returns_2 : s ≡ false → Moved t 0 b
   move_all_returns_2 h =
-      let f = sym e ∙ is_false s h in
+      let f = sym e ∙ h in
       let z = still_told p n t (standing 0 b) f in
       (still_moved p n t f, (ap Told.at z, ap Told.buffer z))

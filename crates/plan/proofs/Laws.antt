@@ -1,9 +1,9 @@
 -- The links' states, refusals 1, 2, 3 and 6, and the abort mark: what each definition gives. Assumes nothing.
-use Prim.Native.Nat.{ℕ}
+use Prim.Native.Nat.{ℕ, ◌<◌, ◌≤◌}
 use mathlib.Core.Path.{◌≡◌, refl, sym, ap, ◌∙◌}
 use mathlib.Core.Bool.{Bool, true, false, ◌&&◌, ◌||◌, not, cond}
 use mathlib.Core.List.{List}
-use lib.Dec.{T as Holds, ltb, eqb}
+use lib.Dec.{ltb, eqb}
 use lib.ListN.{length, get_or}
 use mir.Val.{Val}
 use denote.Laws.{Is}
@@ -45,12 +45,12 @@ module _ (s n : ℕ) (active : List Bool) (k : ℕ) (c : Record) {b : Bool} (e :
   held_none h = simp (← e, h)
 
 -- the walks of `held_at` and `refusal_at`
-pub held_at_returns : (s n : ℕ) (t : List Record) (links : LinkStates) (k : ℕ) (i : ℕ) → i ≡ index_of k (length t) → Holds (ltb i (length t))
+pub held_at_returns : (s n : ℕ) (t : List Record) (links : LinkStates) (k : ℕ) (i : ℕ) → i ≡ index_of k (length t) → i < length t
     → (j : ℕ) → j ≡ held_of s n links.active k (get_or t i zero_record) → j ≡ held_of s n links.active k (record_at t k)
 held_at_returns s n t links k i e h j f = f ∙ ap (held_of s n links.active k) (record_at_returns t k i e h)
 
 pub held_at_returns_2 : (s n : ℕ) (t : List Record) (links : LinkStates) (k : ℕ)
-    → (i : ℕ) → i ≡ index_of k (length t) → Holds (not (ltb i (length t))) → 2 ≡ held_of s n links.active k (record_at t k)
+    → (i : ℕ) → i ≡ index_of k (length t) → length t ≤ i → 2 ≡ held_of s n links.active k (record_at t k)
 held_at_returns_2 s n t links k i e h =
     sym (held_shut s n links.active k) ∙ ap (held_of s n links.active k) (record_at_returns_2 t k i e h zero_record refl)
 
@@ -60,14 +60,14 @@ module _ (s n len : ℕ) (t : List Record) (links : LinkStates) (k : ℕ) where
   unfolding refusal_at
   sized_is b e = ap (λ (x : Bool). cond x (held_of s n links.active k (record_at t k)) 1) e
 
-  pub refusal_at_returns : (b : Bool) → b ≡ sizes_b s n len (length t) → Holds b
+  pub refusal_at_returns : (b : Bool) → b ≡ sizes_b s n len (length t) → b ≡ true
       → (j : ℕ) → j ≡ held_of s n links.active k (record_at t k) → j ≡ refusal_at s n len t links.active k
   refusal_at_returns true e h j f = f ∙ sym (sized_is true (sym e))
-  refusal_at_returns false e h j f = elim h [ ]
+  refusal_at_returns false e h j f = cc
 
-  pub refusal_at_returns_2 : (b : Bool) → b ≡ sizes_b s n len (length t) → Holds (not b) → 1 ≡ refusal_at s n len t links.active k
+  pub refusal_at_returns_2 : (b : Bool) → b ≡ sizes_b s n len (length t) → b ≡ false → 1 ≡ refusal_at s n len t links.active k
   refusal_at_returns_2 false e h = sym (sized_is false (sym e))
-  refusal_at_returns_2 true e h = elim h [ ]
+  refusal_at_returns_2 true e h = cc
 
 -- no call on a record changes the links
 pub links_stay : (j : ℕ) (ls : Links) (c : Record) (o : Outcome) → (settled_by j ls c o).answer.links ≡ ls
