@@ -15,6 +15,8 @@ use Rattle.example_series.specs.Series.{MadeTwo, Joined, two_of}
 pub joined : Joined
 joined g h end [] ds [] also none_made rest = rest
 joined g h end (c ∷ cs) ds (a ∷ said) also (one_made d m) rest = one_made d (joined _ h end cs ds said also m rest)
+joined g h end [] ds (a ∷ said) also x4 rest = elim x4 [ ]
+joined g h end (c ∷ cs) ds [] also x4 rest = elim x4 [ ]
 
 pub make_two_returns : (s n : ℕ) (m : List ℕ) (t : List Record) (ls : Links) (c : Command) (b out : List ℕ) (d : Command) (b' out' : List ℕ)
     → (a₁ : Answered) (m₁ : List ℕ) (t₁ : List Record) (o₁ : List ℕ)
