@@ -1,23 +1,21 @@
 -- What a call on one record promises, from the number of its refusal and what its step gave: of what it is given, for all inputs; and in any
 -- table that shows the record, the answer and the group that is left are what the rules say. Assumes nothing.
-use Prim.Native.Nat.{ℕ, zero, suc}
+use Prim.Native.Nat.{ℕ}
 use mathlib.Core.Path.{◌≡◌, refl, sym, ap, ◌∙◌, subst}
 use mathlib.Core.Bool.{Bool, true, false, ◌&&◌, not, cond}
-use mathlib.Core.List.{List, []}
-use native.Mathlib.Omega.{arith}
+use mathlib.Core.List.{List}
 use lib.Dec.{eqb}
 use lib.ListN.{length}
-use borrow.Author.Tests.{eq-eqb, ne_eqb, eqb-true, eqb-false}
+use borrow.Author.Tests.{eqb-true, eqb-false}
 use Rattle.element.specs.Element.{splice, base_of, element_of}
 use Rattle.conn_record.specs.declared.Record.{Record}
 use Rattle.conn_answer.specs.declared.Outcome.{Outcome}
 use Rattle.group_table.specs.declared.Links.{Links}
-use Rattle.group_table.specs.declared.Answered.{Answered}
 use Rattle.group_table.specs.declared.Turned.{Turned}
-use Rattle.group_table.specs.Table.{sizes_b, slot_b, record_at, open_b, active_b, with_record, found_of_all, refused_by, kept_by_of, turned_by, settled_by}
+use Rattle.group_table.specs.Table.{sizes_b, slot_b, record_at, open_b, with_record, found_of_all, refused_by, kept_by_of, turned_by, settled_by}
 use Rattle.group_table.proofs.Laws.{record_kept, found_sized, found_slot, found_open}
-use Rattle.group_rules.specs.Rules.{Group, Request, Call, Turn, Done, Did, group_of, answer_of, does, turn_of, put_turn, request_turn, refuses, on_does, out_of, record_of_all, element_in, link_of}
-use Rattle.group_rules.specs.Promises.{Shown, shown_by, keeps_all, shows_turn, active_for, on_record, InTable, Promise}
+use Rattle.group_rules.specs.Rules.{Group, Request, Call, Turn, Done, group_of, does, turn_of, put_turn, request_turn, refuses, on_does, out_of, record_of_all, element_in, link_of}
+use Rattle.group_rules.specs.Promises.{shown_by, keeps_all, shows_turn, active_for, on_record, InTable, Promise}
 use Rattle.group_rules.proofs.Memory.{kept_memory}
 
 -- REFUSALS 1 AND 2

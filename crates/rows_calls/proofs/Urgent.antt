@@ -23,8 +23,6 @@ use Rattle.conn_record.specs.Connection.{opened_record, place_at}
 use Rattle.link_failover.specs.Failover as Failover
 use Rattle.link_failover.specs.Failover.{plan_of, target_of, gone_b, moves_b, tells_b, moved_all, messages_of, count_of, buffer_left}
 use Rattle.group_rules.specs.Rules.{turn_of, request_turn, hear_turn, refuses, put_turn, on_does, hear_at, hear_does, open_refusal, open_does, free_refusal, free_does, link_does, link_refusal, fails_over}
-use Rattle.conn_record.specs.declared.Record.{Record}
-use Rattle.conn_record.specs.declared.Outbound.{Outbound}
 use Rattle.group_rules.specs.Rules.{Group, answer, next, record_of_all}
 use Rattle.rows_calls.specs.Vectors.{Line, gives, hands, slot, memory, gauge, Vector, plays, message_in, played, found, cur, start, inwards, unmarked, token_a, token_b, laid, a_group}
 use Rattle.rows_calls.specs.Urgent.{urgents, UrgentRight}

@@ -1,5 +1,5 @@
 -- Every row of specs/Vectors comes out as it says, by computation. Assumes nothing.
-use mathlib.Core.Path.{◌≡◌, refl}
+use mathlib.Core.Path.{refl}
 use lib.Ieee.{add, sub, mul, lt, of_int, of_bits}
 use Rattle.gauge.specs.Gauge.{smoothed, late_at, sampled_of, health_of}
 use Rattle.cursor.specs.Cursor.{in_range, same_b, moved_of, step_of, turns_of, distance_of, good_b, gap_of}

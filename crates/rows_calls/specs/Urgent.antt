@@ -5,8 +5,6 @@ use Rattle.std.proofs.Math.Option.{none}
 use Rattle.cursor.specs.declared.Cursor.{Cursor}
 use Rattle.closing.specs.declared.State.TheVariants.{Active}
 use Rattle.element.specs.Element.{fresh_element}
-use Rattle.conn_record.specs.declared.Inbound.{Inbound}
-use Rattle.conn_record.specs.declared.Outbound.{Outbound}
 use Rattle.conn_record.specs.declared.Record.{Record}
 use Rattle.conn_record.specs.Connection.{no_place, place_at}
 use Rattle.group_rules.specs.Rules.{Group, send, urgent, read, abort, on, refusal, accepted, sent, was_read_of, heard}

@@ -30,7 +30,7 @@ use Rattle.conn_record.specs.declared.Opening.{Opening}
 use Rattle.conn_record.specs.Connection.{zero_record, zero_token, no_place, place_at, no_marks}
 use Rattle.conn_gather.specs.Pieces.{Piece}
 use Rattle.group_table.specs.Table.{gauge_at}
-use Rattle.group_rules.specs.Rules.{Group, Request, send, gather, urgent, place, read, shutdown, close, abort, open_slot, free_slot, link_change, link_changed}
+use Rattle.group_rules.specs.Rules.{Group, send, gather, place, read, shutdown, close, abort, open_slot, free_slot, link_change, link_changed}
 use Rattle.group_rules.specs.Rules.{sample, Call, on, hear, manage, Says, refusal, accepted, sent, gathered, was_read_of, torn, reset, heard}
 use Rattle.group_rules.specs.Rules.{sampled, link_heard, link_sent, Answer, answer, next, record_of_all, group_of}
 

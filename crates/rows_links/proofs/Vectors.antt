@@ -1,5 +1,5 @@
 -- Every line of specs/Vectors comes out as it says, by computation. Assumes nothing.
-use mathlib.Core.Path.{◌≡◌, refl}
+use mathlib.Core.Path.{refl}
 use Rattle.layout.specs.Layout.{bits_of, number_of, spread, gather, lay_out, written_of, number_at}
 use Rattle.link_message.specs.Llc.{class_of}
 use Rattle.link_message.specs.Layouts.{kind_of, named_b, table_of, value_at, values_in, reduced, filled, read_of, reduced_of, third_first, laid_rows, rows_of, nums, encode_of}

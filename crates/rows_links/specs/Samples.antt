@@ -5,7 +5,6 @@ use Rattle.std.specs.Float.{binary64}
 use Rattle.std.specs.Float.Ieee.{of_bits}
 use Rattle.link_exchange.specs.declared.Role.TheVariants.{Server}
 use Rattle.gauge.specs.declared.Gauge.{Gauge}
-use Rattle.gauge.specs.declared.Health.{Health}
 use Rattle.gauge.specs.declared.Health.TheVariants.{Steady, Late}
 use Rattle.group_rules.specs.Rules.{Group, Says, refusal, sampled, sample}
 use Rattle.rows_links.specs.Rows.{zeros, at, nobody, grouped, Row, Right}

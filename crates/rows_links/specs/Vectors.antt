@@ -1,6 +1,6 @@
 -- Request 2026-01, part 10: "a server with link 1 active", its seven lines and what each shows; and document 01's classes of first bytes.
 -- Assumes nothing.
-use Rattle.std.specs.Prelude.{ℕ, ◌-◌, ◌≡◌, Bool, true, false, cond, List, [], ◌∷◌, ◌++◌, map, length, replicate}
+use Rattle.std.specs.Prelude.{ℕ, ◌-◌, ◌≡◌, Bool, true, false, List, [], ◌∷◌, ◌++◌, map, length, replicate}
 use Rattle.link_message.specs.declared.Kind.{Kind}
 use Rattle.link_message.specs.declared.Kind.TheVariants.{ConfirmLink, AddLink, DeleteLink, ConfirmRkey}
 use Rattle.link_exchange.specs.declared.Role.TheVariants.{Client, Server}

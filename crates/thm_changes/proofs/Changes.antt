@@ -5,7 +5,6 @@ use mathlib.Core.Bool.{true, false≢true, cond, Bool, false, not, ◌&&◌, ◌
 use Prim.Native.Nat.{ℕ, zero, suc}
 use native.Mathlib.Omega.{arith}
 use lib.ListN.{length}
-use Rattle.group_table.specs.declared.Links.{Links}
 use Rattle.group_table.specs.Table.{record_at, with_record}
 use Rattle.thm_links.specs.Statements.{Call as LinkCall}
 use Rattle.thm_links.proofs.Theorems.{links_touched}
@@ -15,7 +14,7 @@ use Rattle.link_failover.specs.declared.Plan.{Plan}
 use Rattle.link_failover.specs.Failover.{plan_of, moved_of}
 use Rattle.link_failover.proofs.Keeps.{moved_keeps}
 use Rattle.link_failover.proofs.Still.{same_moved}
-use Rattle.group_rules.specs.Rules.{links_of, Group, Call, Turn, Done, does, answer, refuses, put_turn, record_of_all, sizes_ok, on, request_turn, next, element_in, link_of, close, hear_turn, turn_of, says_of, refusal, heard, Answer, holder_of, sent, gathered, Request, hear, link_change, link_message, link_send, open_slot, free_slot, sample, manage}
+use Rattle.group_rules.specs.Rules.{links_of, Group, Call, Turn, Done, does, answer, refuses, put_turn, record_of_all, sizes_ok, on, request_turn, next, element_in, link_of, close, hear_turn, turn_of, says_of, refusal, heard, Answer, holder_of, Request, hear, link_change, link_message, link_send, open_slot, free_slot, sample, manage}
 use Rattle.thm_order.proofs.Slots.{slot_in, record_other, table_long, memory_long, open_in, open_is, open_there, record_same}
 use Rattle.thm_changes.specs.Changes.{aside_of, OneTurned, OneRecord, Touches, LinksByLinkCalls, HeardFor, Closes, ClosedBy, Forward, NeverBack, Kept, MarksStay, by_close, by_hear, by_abort, by_free, AbortAnswer, AbortHeard, slot_of_all, Closing}
 use Rattle.thm_safety.proofs.Effects.{Acts, Effect, refuses_it, links_it, samples_it, puts_turn, effect, opens, open_facts, free_facts, asks, hears, frees}

@@ -43,7 +43,7 @@ use Rattle.thm_links.proofs.Theorems.{links_touched}
 use Rattle.group_table.specs.declared.Links.{Links}
 use Rattle.group_table.specs.Table.{open_b, link_in, active_b, gauge_at, with_link, with_gauge, gauge_set, link_set}
 use Rattle.group_table.proofs.Laws.{gauge_set_same, gauge_set_other, gauge_cleared, with_gauge_length}
-use Rattle.group_rules.specs.Rules.{Group, open_slot, free_slot, link_change, link_message, link_send, sample, Call, on, hear, manage, refusal, link_heard, link_sent, Answer, plain, healthy, Turn, Done, does, answer, next, refuses, put_turn, out_of, sizes_ok, on_does, hear_at, hear_message, hear_does, open_refusal, open_does, free_refusal, free_does, link_does, link_message_does, link_send_does, sample_refusal, sample_does, links_of, with_links, Fresh, Says, lent_ok, link_refusal, fails_over}
+use Rattle.group_rules.specs.Rules.{Group, open_slot, free_slot, link_change, link_message, link_send, sample, Call, on, hear, manage, link_heard, link_sent, healthy, Turn, Done, does, next, refuses, put_turn, out_of, sizes_ok, on_does, hear_at, hear_message, hear_does, open_refusal, open_does, free_refusal, free_does, link_does, link_message_does, link_send_does, sample_refusal, sample_does, links_of, with_links, Fresh, Says, lent_ok, link_refusal, fails_over}
 use Rattle.thm_order.specs.Statement.{leaves}
 use Rattle.thm_changes.specs.Numbers.{refused_b}
 use Rattle.thm_safety.specs.Links.{call_of, relinked}

@@ -16,7 +16,7 @@ use Rattle.conn_answer.specs.declared.Reply.{Reply}
 use Rattle.conn_answer.specs.declared.Reply.TheVariants.{Refused, Accepted, Sent, Read, Torn, Reset, Heard, Sampled}
 use Rattle.conn_receive.specs.Receive.{place_of}
 use Rattle.conn_receive.proofs.Laws.{Placeable, place_accepted}
-use Rattle.group_rules.specs.Rules.{Group, Request, send, gather, urgent, place, read, shutdown, close, abort, Call, on, accepted, Turn, turn_of, request_turn, hear_turn, says_of, placed_in, Done, does, answer, refuses, put_turn, record_of_all, element_in, link_of, sizes_ok}
+use Rattle.group_rules.specs.Rules.{Group, Request, send, gather, urgent, place, read, shutdown, close, abort, Call, on, accepted, Turn, turn_of, request_turn, hear_turn, says_of, placed_in, Done, does, refuses, put_turn, record_of_all, element_in, link_of, sizes_ok}
 use Rattle.thm_order.proofs.Slots.{slot_in, element_long, Sizes, sizes_in}
 use Rattle.thm_changes.specs.Changes.{InElement, MayChange, by_place, by_open, BytesByPlaceAndOpen}
 use Rattle.thm_safety.proofs.Effects.{Acts, asks, hears, opens, frees, Effect, refuses_it, links_it, samples_it, puts_turn, effect}

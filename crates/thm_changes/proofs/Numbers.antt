@@ -13,7 +13,6 @@ use Rattle.cdc.specs.declared.Message.{Message}
 use Rattle.cdc.specs.declared.Decoded.{Decoded}
 use Rattle.cdc.specs.declared.Decoded.TheVariants.{Good, Malformed}
 use Rattle.cdc.specs.Cdc.{decode_of}
-use Rattle.conn_record.specs.declared.Opening as Given
 use Rattle.conn_record.specs.declared.Record.{Record}
 use Rattle.conn_answer.specs.declared.Reply.{Reply}
 use Rattle.conn_answer.specs.declared.Reply.TheVariants.{Heard}

@@ -1,6 +1,6 @@
 -- Who may change what: seven claims about the rules that every contract cites (`answer`, `next`), of any group, however it came about, and
 -- any call. proofs/Changes proves each. Assumes nothing.
-use Rattle.std.specs.Prelude.{ℕ, ◌+◌, ◌*◌, ◌≤◌, ◌<◌, ◌≡◌, ◌⊎◌, ◌≢◌, Bool, true, false, ◌&&◌, ◌||◌, not, List, length}
+use Rattle.std.specs.Prelude.{ℕ, ◌+◌, ◌*◌, ◌≤◌, ◌<◌, ◌≡◌, ◌⊎◌, ◌≢◌, true, false, ◌&&◌, ◌||◌, not, List, length}
 use Rattle.std.proofs.Math.ListN.{get_elem?}
 use Rattle.cursor.specs.declared.Cursor.{Cursor}
 use Rattle.cursor.specs.Cursor.{data_of, good_b}

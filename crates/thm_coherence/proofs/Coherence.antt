@@ -9,8 +9,7 @@ use Rattle.cursor.specs.Cursor.{in_range, good_b, gap_of, lead_of}
 use Rattle.cursor.proofs.Laws.{turns_is, lead_is, good_lead, lead_good, gap_is, range_is, is_range}
 use Rattle.conn_record.specs.declared.Remote.{Remote}
 use Rattle.conn_record.specs.declared.Record.{Record}
-use Rattle.conn_record.specs.declared.Urgent.{Urgent}
-use Rattle.conn_record.specs.Connection.{most_address, last_byte, fits_b, remote_ok, place_ok}
+use Rattle.conn_record.specs.Connection.{most_address, last_byte, fits_b, remote_ok}
 use Rattle.conn_record.proofs.Laws as Laws
 use Rattle.conn_record.proofs.Laws.{fits_facts, remote_facts, place_facts, place_by, coherent_facts, coherent_from}
 use Rattle.thm_coherence.specs.Coherence.{InRange, reach, Good, Stands, Peer, Coherent, CoherentExactly}

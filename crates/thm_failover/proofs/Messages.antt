@@ -21,7 +21,7 @@ use Rattle.link_failover.specs.declared.Plan.{Plan}
 use Rattle.link_failover.specs.Failover.{plan_of, tells_b, failover_of, told_of, messages_of, one, count_of, buffer_left}
 use Rattle.link_failover.proofs.Buffer.{messages_long}
 use Rattle.thm_links.specs.Statements.{Call as LinkCall}
-use Rattle.group_rules.specs.Rules.{Group, Says, link_changed, Done, does, Answer, answer, refuses, record_of_all, links_of, sizes_ok, lent_ok}
+use Rattle.group_rules.specs.Rules.{Group, Says, link_changed, Done, does, Answer, refuses, record_of_all, links_of, sizes_ok, lent_ok}
 use Rattle.group_rules.specs.Rules.{link_refusal, fails_over, link_does, link_message_does, link_send_does}
 use Rattle.thm_order.specs.Statement.{At}
 use Rattle.thm_order.proofs.Slots.{sizes_in}

@@ -20,7 +20,7 @@ use Rattle.conn_answer.specs.Outcome.{outcome_of, refused_of}
 use Rattle.conn_hear.specs.Heard.{next_b}
 use Rattle.conn_hear.specs.Hear.{aborted_of, ruled_of, validated_of, followed_of, hear_of}
 use Rattle.conn_finish.specs.Finish.{abort_of}
-use Rattle.group_rules.specs.Rules.{Group, abort, on, hear, turn_of, request_turn, hear_turn, Done, does, answer, put_turn, record_of_all, element_in}
+use Rattle.group_rules.specs.Rules.{Group, abort, on, hear, turn_of, request_turn, hear_turn, Done, does, put_turn, record_of_all, element_in}
 use Rattle.group_rules.specs.Rules.{link_of, sizes_ok, holder_of}
 use Rattle.thm_order.specs.Statement.{leaves}
 use Rattle.thm_refusals.proofs.Refusals.{memory_back, table_back}

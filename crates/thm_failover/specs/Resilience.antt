@@ -16,7 +16,7 @@ use Rattle.group_table.specs.Table.{link_in, active_b, open_b}
 use Rattle.thm_links.specs.Statements.{Call as LinkCall}
 use Rattle.group_rules.specs.Says.{said_in}
 use Rattle.group_rules.specs.Rules.{Group, abort, open_slot, free_slot, link_change, link_message, link_send, sample, Call, on, hear, manage, Says}
-use Rattle.group_rules.specs.Rules.{refusal, accepted, sent, heard}
+use Rattle.group_rules.specs.Rules.{refusal, accepted, heard}
 use Rattle.group_rules.specs.Rules.{Answer, answer, next, record_of_all, link_of, holder_of, Fresh}
 use Rattle.thm_order.specs.Statement.{leaves, At, hearer}
 use Rattle.thm_safety.specs.Statement.{OpenAt, own_of, accepted_b}

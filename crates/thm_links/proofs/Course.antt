@@ -5,7 +5,7 @@ use mathlib.Core.List.{List}
 use Prim.Native.Nat.{ℕ}
 use native.Mathlib.Omega.{arith}
 use lib.Dec.{eqb, leb}
-use borrow.Author.Tests.{eqb-true, eqb-false, ne_eqb}
+use borrow.Author.Tests.{eqb-true, ne_eqb}
 use Rattle.link_message.specs.declared.Kind.{Kind}
 use Rattle.link_message.specs.Layouts.{encode_of}
 use Rattle.link_exchange.specs.declared.Exchange.{Exchange}
@@ -14,19 +14,19 @@ use Rattle.link_exchange.specs.declared.Fate.TheVariants.{Taken, Denied}
 use Rattle.link_exchange.specs.declared.Touch.{Touch}
 use Rattle.link_exchange.specs.declared.Touch.TheVariants.{Nothing, Up, Down, All}
 use Rattle.link_exchange.specs.declared.Said.{Said}
-use Rattle.link_exchange.specs.Exchange.{no_exchange, add, rkey, sort_of, due_b, next_stage, went_on, due_touch, empty_queue, queued, runs_over, ends_b}
+use Rattle.link_exchange.specs.Exchange.{no_exchange, add, sort_of, due_b, next_stage, went_on, due_touch, empty_queue, queued, runs_over, ends_b}
 use Rattle.link_exchange.specs.Fates.{arriving_of, fates, fate_at, fate_number, is_fate, bad_mtu, fate_of, outside_b, started, taken_exchange, taken_touch, may_send, sent_exchange, sent_touch}
 use Rattle.group_table.specs.declared.Links.{Links}
 use Rattle.group_table.specs.Table.{link_in}
 use Rattle.link_calls.specs.declared.Settled.{Settled}
 use Rattle.link_calls.specs.declared.Sent.{Sent}
-use Rattle.link_calls.specs.Calls.{touched, settled_of, unchanged, change_touch, changed_of, down_b, message_work, heard_of, heard_in, fate_no, no_reply, send_refusal, sent_work, sent_of, sent_in}
-use Rattle.thm_links.specs.Statements.{Call, does, next, Idle, Told}
+use Rattle.link_calls.specs.Calls.{settled_of, unchanged, change_touch, down_b, message_work, heard_in, fate_no, no_reply, send_refusal, sent_work, sent_of, sent_in}
+use Rattle.thm_links.specs.Statements.{Call, Idle}
 use Rattle.thm_links.specs.Statements.Call.{change, message, send}
-use Rattle.thm_links.specs.Course.{Own, Begins, takes_down, Course, OneExchange, would_begin, NoSecond, due_in, Ended, EndsByAny, LeftAlone, OthersAlone, AllCause, AllGoDown}
+use Rattle.thm_links.specs.Course.{Own, Begins, takes_down, Course, OneExchange, would_begin, NoSecond, due_in, EndsByAny, LeftAlone, OthersAlone, AllGoDown}
 use Rattle.thm_links.specs.Course.Course.{stays, goes_on, ends, begins, replaced}
 use Rattle.thm_links.specs.Course.Begins.{adding, deleting, confirming, confirming_more, withdrawing}
-use Rattle.thm_links.proofs.Theorems.{pick, change_cases, heard_cases, sent_cases, due_down, taken_down, sent_down_never, settled_idle, down_ended}
+use Rattle.thm_links.proofs.Theorems.{change_cases, heard_cases, sent_cases, due_down, taken_down, sent_down_never, settled_idle, down_ended}
 
 clash : {A : Type 0} → ◌≡◌ {A = ℕ} 0 1 → A
 clash e = absurd (omega (arith, e))

@@ -1,6 +1,6 @@
 -- What takes links down, of specs/Course: it does. Assumes nothing.
 use Prim.Native.Nat.{ℕ, zero, suc, ◌<◌}
-use mathlib.Core.Path.{◌≡◌, ◌∙◌, refl, ap, sym, subst}
+use mathlib.Core.Path.{◌≡◌, ◌∙◌, refl, ap, sym}
 use mathlib.Core.Bool.{Bool, true, false, ◌&&◌, ◌||◌, not, cond}
 use mathlib.Core.List.{List, [], ◌∷◌}
 use native.Mathlib.Omega.{arith}
@@ -14,18 +14,17 @@ use Rattle.link_message.proofs.Named.{kinds_named}
 use Rattle.link_exchange.specs.declared.Exchange.{Exchange}
 use Rattle.link_exchange.specs.declared.Fate.TheVariants.{Taken, Denied}
 use Rattle.link_exchange.specs.declared.Touch.{Touch}
-use Rattle.link_exchange.specs.declared.Touch.TheVariants.{Nothing, Up, Down, All}
+use Rattle.link_exchange.specs.declared.Touch.TheVariants.{Down, All}
 use Rattle.link_exchange.specs.declared.Said.{Said}
-use Rattle.link_exchange.specs.Exchange.{said_of, stages, due_b, due_touch, sort_of, add, delete, none, rkey}
+use Rattle.link_exchange.specs.Exchange.{said_of, stages, due_b, due_touch, sort_of}
 use Rattle.link_exchange.specs.Fates.{arriving_of, fates, fate_at, fate_number, is_fate, bad_mtu, fate_of, taken_touch, sent_touch}
 use Rattle.group_table.specs.declared.Links.{Links}
 use Rattle.group_table.specs.Table.{link_in, active_b, with_link, link_set}
 use Rattle.link_calls.specs.declared.Settled.{Settled}
-use Rattle.link_calls.specs.declared.Heard.{Heard}
 use Rattle.link_calls.specs.declared.Sent.{Sent}
 use Rattle.link_calls.specs.Calls.{no_fields, first, fields_in, touched, settled_of, unchanged, optional_b, message_refusal, heard_in, fate_no, message_work, heard_work, nothing_heard, heard_of, send_refusal, sent_work, sent_in, sent_of, no_reply}
-use Rattle.thm_links.specs.Statements.{Call, does, next, Idle, AllEnds}
-use Rattle.thm_links.specs.Statements.Call.{change, message, send}
+use Rattle.thm_links.specs.Statements.{Call, does, next}
+use Rattle.thm_links.specs.Statements.Call.{message, send}
 use Rattle.thm_links.specs.Course.{GroupDown, WholeGroup, AllDownByA, ServersDelete, DownByServer, DownByReply}
 use Rattle.thm_links.proofs.Theorems.{links_touched, all_ends}
 

@@ -1,11 +1,10 @@
 -- `runsOver` is what the page's words say. Assumes nothing.
-use Prim.Native.Nat.{ℕ, zero, suc, ◌+◌, ◌≤◌, ◌<◌}
-use mathlib.Core.Path.{◌≡◌, refl, ap, ◌∙◌}
+use Prim.Native.Nat.{ℕ, zero, suc}
+use mathlib.Core.Path.{◌≡◌, refl, ap}
 use mathlib.Core.Bool.{Bool, true, false, ◌&&◌, ◌||◌, not, cond}
 use native.Mathlib.Omega.{arith}
 use borrow.Author.Tests.{le-leb, ne_eqb}
 use lib.Dec.{leb, eqb}
-use Rattle.link_exchange.specs.declared.Exchange.{Exchange}
 use Rattle.link_exchange.specs.Exchange.{sort_of, adding_b, runs_over}
 use Rattle.thm_links.specs.RunsOver.{RunsOverWords}
 

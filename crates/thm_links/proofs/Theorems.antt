@@ -1,7 +1,7 @@
 -- The theorems of specs/Statements.
 -- Assumes nothing.
 use mathlib.Core.Path.{◌≡◌, ◌∙◌, refl, ap, sym, subst}
-use mathlib.Core.Bool.{Bool, true, false, ◌&&◌, ◌||◌, not, cond}
+use mathlib.Core.Bool.{Bool, true, false, ◌&&◌, not, cond}
 use mathlib.Core.List.{List, [], ◌∷◌}
 use Prim.Native.Nat.{ℕ, zero, suc, ◌+◌, ◌-◌, ◌≤◌, ◌<◌, min}
 use native.Mathlib.Omega.{arith}
@@ -17,7 +17,7 @@ use Rattle.link_exchange.specs.declared.Fate.TheVariants.{Taken}
 use Rattle.link_exchange.specs.declared.Touch.{Touch}
 use Rattle.link_exchange.specs.declared.Touch.TheVariants.{Nothing, Up, Down, All}
 use Rattle.link_exchange.specs.declared.Said.{Said}
-use Rattle.link_exchange.specs.Exchange.{no_exchange, due_b, went_on, due_touch, empty_queue, full_b, queued, without_oldest, most_waiting, no_waiting, place_in, runs_over, adding_b, sort_of, ends_b, oldest}
+use Rattle.link_exchange.specs.Exchange.{no_exchange, due_b, went_on, due_touch, empty_queue, full_b, queued, without_oldest, most_waiting, no_waiting, place_in, runs_over, sort_of, ends_b}
 use Rattle.link_exchange.specs.Fates.{arriving_of, fate_at, fate_number, or_denied, fate_of, taken_exchange, taken_touch, sent_touch}
 use Rattle.group_table.specs.declared.Links.{Links}
 use Rattle.group_table.specs.Table.{link_in, link_set}
@@ -26,7 +26,7 @@ use Rattle.link_calls.specs.declared.Heard.{Heard}
 use Rattle.link_calls.specs.declared.Sent.{Sent}
 use Rattle.link_message.specs.Layouts.{encode_of}
 use Rattle.link_calls.specs.Calls.{touched, settled_of, unchanged, change_touch, changed_of, message_refusal, optional_b, send_refusal, no_reply, message_work, heard_work, nothing_heard, heard_of, heard_in, fate_no, sent_work, sent_of, sent_in}
-use Rattle.thm_links.specs.Statements.{Call, does, next, RoleStays, LinksTouched, Refused, RefusedKeeps, Behind, FirstTaken, Emptied, Order, KeepsOrder, AtMostFour, NoneOverDown, Idle, AllEnds, EndsDown, Confirmed, UpCause, BecomesActive, Deleted, Told, HeardDown, DownCause, GoesDown}
+use Rattle.thm_links.specs.Statements.{Call, does, next, RoleStays, LinksTouched, Refused, RefusedKeeps, Behind, FirstTaken, Emptied, Order, KeepsOrder, AtMostFour, NoneOverDown, Idle, AllEnds, EndsDown, Confirmed, BecomesActive, Deleted, Told, HeardDown, GoesDown}
 use Rattle.thm_links.specs.Statements.Call.{change, message, send}
 use Rattle.thm_links.specs.Statements.Order.{kept, behind, first_taken, emptied}
 use Rattle.thm_links.specs.Statements.HeardDown.{replied, told}

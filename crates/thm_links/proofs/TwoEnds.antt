@@ -11,18 +11,17 @@ use Rattle.layout.specs.Layout.{bits_of, number_of, gather, lay_out, written_of}
 use Rattle.link_message.specs.Llc.{class_of}
 use Rattle.link_message.specs.declared.Kind.{Kind}
 use Rattle.link_message.specs.declared.Kind.TheVariants.{ConfirmLink, AddLink, AddLinkContinuation, DeleteLink, ConfirmRkey, TestLink, ConfirmRkeyContinuation, DeleteRkey}
-use Rattle.link_message.specs.Layouts.{code_of, mark, kind_of, named_b, rows_of, encode_of, values_in, table_of, filled, read_of, reduced_of}
+use Rattle.link_message.specs.Layouts.{code_of, mark, kind_of, named_b, rows_of, encode_of, filled, read_of, reduced_of}
 use Rattle.link_message.proofs.RoundTrip.{written}
 use Rattle.link_exchange.specs.declared.Role.{Role}
 use Rattle.link_exchange.specs.declared.Role.TheVariants.{Client, Server}
 use Rattle.link_exchange.specs.declared.Exchange.{Exchange}
-use Rattle.link_exchange.specs.declared.Waiting.{Waiting}
 use Rattle.link_exchange.specs.declared.Queue.{Queue}
 use Rattle.link_exchange.specs.declared.Fate.TheVariants.{Taken}
 use Rattle.link_exchange.specs.declared.Touch.{Touch}
 use Rattle.link_exchange.specs.declared.Touch.TheVariants.{Nothing, Up, Down, All}
 use Rattle.link_exchange.specs.declared.Said.{Said}
-use Rattle.link_exchange.specs.Exchange.{client_b, said_of, no_exchange, add, sort_of, adding_b, stages, due_b, next_stage, went_on, due_touch, queued, full_b, ends_b}
+use Rattle.link_exchange.specs.Exchange.{client_b, said_of, add, sort_of, adding_b, stages, due_b, next_stage, went_on, due_touch, full_b}
 use Rattle.link_exchange.specs.Fates.{arriving_of, fates, fate_at, fate_number, bad_mtu, or_denied, fate_of, acts_b, outside_b, started, taken_exchange, taken_touch, may_send, sent_exchange, sent_touch}
 use Rattle.group_table.specs.declared.Links.{Links}
 use Rattle.group_table.specs.Table.{link_in, active_b, with_link, link_set}
@@ -31,7 +30,7 @@ use Rattle.link_calls.specs.declared.Settled.{Settled}
 use Rattle.link_calls.specs.declared.Heard.{Heard}
 use Rattle.link_calls.specs.declared.Sent.{Sent}
 use Rattle.link_calls.specs.Calls.{first, no_fields, fields_in, touched, settled_of, unchanged, down_b, optional_b, message_b, message_refusal, message_work, heard_of, heard_work, nothing_heard, heard_in, fate_no, no_reply, send_refusal, sent_work, sent_of, sent_in}
-use Rattle.thm_links.specs.Course.{other_role, InStep, bytes_of, sent_end, heard_end, OfAdd, HeardInStep, AddInStep, AddBegins, Adding, SameLinksAdded}
+use Rattle.thm_links.specs.Course.{other_role, InStep, bytes_of, sent_end, heard_end, HeardInStep, AddInStep, AddBegins, SameLinksAdded}
 use Rattle.thm_links.specs.Course.Adding.{done, first_sends, second_sends}
 use Rattle.thm_links.proofs.Theorems.{touched_role}
 

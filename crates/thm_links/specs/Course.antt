@@ -10,7 +10,7 @@ use Rattle.link_exchange.specs.declared.Touch.{Touch}
 use Rattle.link_exchange.specs.declared.Touch.TheVariants.{Nothing, Up, Down, All}
 use Rattle.link_exchange.specs.declared.Said.{Said}
 use Rattle.link_exchange.specs.Exchange.{no_exchange, add, delete, rkey, sort_of, due_b, went_on, empty_queue, runs_over}
-use Rattle.link_exchange.specs.Fates.{arriving_of, outside_b, started}
+use Rattle.link_exchange.specs.Fates.{arriving_of, outside_b}
 use Rattle.group_table.specs.declared.Links.{Links}
 use Rattle.group_table.specs.Table.{link_in, active_b}
 use Rattle.link_calls.specs.Calls.{down_b, heard_in, sent_in, heard_of, sent_of}

@@ -4,8 +4,7 @@ use Rattle.std.specs.Prelude.{ℕ, ◌+◌, ◌≤◌, ◌<◌, min, ◌≡◌, 
 use Rattle.link_message.specs.declared.Kind.{Kind}
 use Rattle.link_exchange.specs.declared.Waiting.{Waiting}
 use Rattle.link_exchange.specs.declared.Queue.{Queue}
-use Rattle.link_exchange.specs.declared.Touch.{Touch}
-use Rattle.link_exchange.specs.declared.Touch.TheVariants.{Nothing, Up, Down, All}
+use Rattle.link_exchange.specs.declared.Touch.TheVariants.{Up, Down, All}
 use Rattle.link_exchange.specs.declared.Said.{Said}
 use Rattle.link_exchange.specs.Exchange.{no_exchange, due_b, empty_queue, most_waiting, place_in, runs_over}
 use Rattle.link_exchange.specs.Fates.{arriving_of}

@@ -2,7 +2,7 @@
 -- Assumes nothing.
 use mathlib.Core.Path.{◌≡◌, refl, sym, ap, ◌∙◌}
 use mathlib.Core.Logic.{◌⊎◌, inl, inr, ◌≢◌}
-use mathlib.Core.Bool.{Bool, true, false, false≢true, not, cond, ◌||◌}
+use mathlib.Core.Bool.{Bool, true, false, false≢true, not, cond}
 use mathlib.Core.List.{List, []}
 use Prim.Native.Nat.{ℕ, zero, suc, ◌<◌}
 use native.Mathlib.Decide.{ℕ_discrete}
@@ -23,9 +23,9 @@ use Rattle.link_failover.specs.declared.Plan.{Plan}
 use Rattle.link_failover.specs.Failover.{plan_of, moved_of, moved_all}
 use Rattle.link_failover.proofs.Keeps.{ButLink, moved_keeps, moved_long, moved_at}
 use Rattle.group_table.specs.Table.{sizes_b, slot_b, record_at, open_b, link_in, active_b, find_from, gauge_at, gauge_set}
-use Rattle.link_calls.specs.Calls.{changed_of, heard_of, sent_of}
+use Rattle.link_calls.specs.Calls.{heard_of, sent_of}
 use Rattle.conn_record.specs.Connection.{opened_record}
-use Rattle.group_rules.specs.Rules.{Group, manage, Management, open_slot, free_slot, link_change, link_message, link_send, sample, Says, Answer, Turn, next, plain, healthy, refuses, sizes_ok, record_of_all, element_in, put_turn, plain_turn, bad_opening, links_of, with_links, open_refusal, open_does, free_refusal, free_does, link_refusal, fails_over, link_does, link_message_does, link_send_does, sample_refusal, sample_does}
+use Rattle.group_rules.specs.Rules.{Group, manage, Management, open_slot, free_slot, link_change, link_message, link_send, sample, Says, Turn, next, healthy, refuses, sizes_ok, record_of_all, element_in, put_turn, plain_turn, bad_opening, links_of, with_links, open_refusal, open_does, free_refusal, free_does, link_refusal, fails_over, link_does, link_message_does, link_send_does, sample_refusal, sample_does}
 use Rattle.thm_order.proofs.Slots.{slot_in, open_in, open_is, open_found, element_long, Sizes, sizes_in, Put, put}
 use Rattle.thm_order.proofs.Acts.{OpenAt, own_of}
 use Rattle.thm_order.proofs.Near.{Good, enough}

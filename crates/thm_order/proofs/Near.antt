@@ -18,7 +18,7 @@ use Rattle.group_rules.specs.Rules.{Group, Call, on, hear, manage, Done, answer,
 use Rattle.thm_order.specs.Statement.{the_manager, connection, nobody, connection_at, owner_of, SameSlot, Agree}
 use Rattle.thm_order.proofs.Records.{Left}
 use Rattle.thm_order.proofs.Slots.{no_slot, open_in, open_is, same_memory, sizes_in, Put}
-use Rattle.thm_order.proofs.Acts.{Conn, target, refusal_by, turn_at_of, act_at, acts, Aims, names_one, OpenAt, own_of, target_open, target_found, whole, turned, turn_left, acts_on_lem, same_open, sees_what}
+use Rattle.thm_order.proofs.Acts.{Conn, target, refusal_by, turn_at_of, act_at, acts, Aims, names_one, OpenAt, own_of, target_open, target_found, turned, turn_left, acts_on_lem, same_open, sees_what}
 
 -- what holds of every group that calls make from a fresh one
 pub record Good (g : Group) : Type 0 where

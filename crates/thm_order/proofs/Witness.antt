@@ -24,7 +24,7 @@ use Rattle.group_table.specs.Table.{sizes_b, slot_b, record_at, open_b, active_b
 use Rattle.link_calls.specs.Calls.{touched, settled_of, change_touch, changed_of}
 use Rattle.conn_record.specs.declared.Opening.{Opening}
 use Rattle.conn_record.specs.Connection.{opened_record}
-use Rattle.group_rules.specs.Rules.{Group, send, gather, open_slot, link_change, Call, on, manage, Says, accepted, sent, Answer, turn_of, request_turn, refuses, put_turn, on_does, open_refusal, open_does, link_refusal, fails_over, link_does, link_changed, next, Fresh}
+use Rattle.group_rules.specs.Rules.{Group, send, open_slot, link_change, Call, on, manage, Says, accepted, sent, Answer, turn_of, request_turn, refuses, put_turn, on_does, open_refusal, open_does, link_refusal, fails_over, link_does, link_changed, next, Fresh}
 use Rattle.link_failover.specs.Failover as Failover
 use Rattle.link_failover.specs.Failover.{plan_of, target_of, gone_b, moves_b, tells_b, moved_all, messages_of, count_of, buffer_left}
 use Rattle.thm_order.specs.Statement.{answers, leaves, At, Whose, the_manager, connection, owner_of, whose_from, whose, AnotherOrder, Made, none_made, one_made, SameOutcome}

@@ -3,7 +3,6 @@ use mathlib.Core.Path.{◌≡◌, refl}
 use mathlib.Core.Bool.{false, and-false}
 use mathlib.Core.List.{[], ◌∷◌}
 use Prim.Native.Nat.{ℕ, zero, suc}
-use native.Mathlib.Omega.{arith}
 use Rattle.thm_order.specs.Statement.{answers}
 use Rattle.cursor.specs.Cursor.{cursor_at, in_range, turns_of, good_b, gap_of, same_b, step_of, moved_of, distance_of}
 use Rattle.thm_positions.specs.Positions.{after_call, journal_from, PeerAnnouncedUnwritten}

@@ -18,7 +18,7 @@ use Rattle.link_exchange.specs.Exchange.{no_exchange, empty_queue}
 use Rattle.group_rules.specs.Says.{said_in}
 use Rattle.group_rules.specs.Rules.{Group, Request, send, gather, urgent, place, read, shutdown, close, abort, open_slot, free_slot, link_change}
 use Rattle.group_rules.specs.Rules.{link_message, link_send, sample, Call, on, hear, manage, Says, accepted, was_read_of}
-use Rattle.group_rules.specs.Rules.{heard, Answer, answer, next, record_of_all, element_in, Fresh}
+use Rattle.group_rules.specs.Rules.{Answer, answer, next, record_of_all, element_in, Fresh}
 use Rattle.thm_order.specs.Statement.{leaves, answers, At}
 use Rattle.thm_safety.specs.Statement.{OpenAt, accepted_b, Opens}
 

@@ -50,7 +50,7 @@ use Rattle.group_table.specs.Table.{link_in}
 use Rattle.conn_gather.specs.Pieces.{pieces_of}
 use Rattle.group_rules.specs.Says.{said_in}
 use Rattle.group_rules.proofs.Says.{says_refusal}
-use Rattle.group_rules.specs.Rules.{Group, Request, send, gather, urgent, place, read, shutdown, close, abort, open_slot, free_slot, link_change, link_message, link_send, sample, Call, on, hear, manage, Says, refusal, sent, heard, says_of, turn_of, request_turn, hear_turn, Done, refuses, answer, sizes_ok, record_of_all, element_in, link_of, put_turn, on_does, holder_of, hear_at, hear_message, hear_does, open_refusal, open_does, free_refusal, free_does, lent_ok, link_refusal, fails_over, link_does, link_message_does, link_send_does, links_of, with_links, healthy, sample_refusal, sample_does, does, bad_opening}
+use Rattle.group_rules.specs.Rules.{Group, Request, send, gather, urgent, place, read, shutdown, close, abort, open_slot, free_slot, link_change, link_message, link_send, sample, Call, on, hear, manage, Says, refusal, says_of, turn_of, request_turn, hear_turn, Done, refuses, answer, sizes_ok, record_of_all, element_in, link_of, put_turn, on_does, holder_of, hear_at, hear_message, hear_does, open_refusal, open_does, free_refusal, free_does, lent_ok, link_refusal, fails_over, link_does, link_message_does, link_send_does, links_of, with_links, healthy, sample_refusal, sample_does, does, bad_opening}
 use Rattle.thm_refusals.specs.Refusals.{outside, sizes_wrong, lent_wrong, slot_outside, slot_closed, incoherent, byte_is, malformed_link, token_unheld, connection_down, link_down, added_b, message_down, state_forbids, aborting, not_aborting, producer_broken, consumer_broken, byte_free, unplaceable, already_open, token_held, zero_or_out, link_outside, acted_outside, heard_fate, message_outside, queue_full, sendable, sending_barred, too_long, Test, ◌when◌, place_test, tests, first_of, ExactlyWhen}
 use Rattle.thm_refusals.proofs.Answers.{clash}
 use Rattle.thm_refusals.proofs.Gathered.{carried}

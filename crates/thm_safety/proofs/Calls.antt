@@ -4,7 +4,7 @@ use mathlib.Core.Path.{◌≡◌, refl, sym, ap, ◌∙◌}
 use mathlib.Core.Logic.{◌⊎◌, inl, inr, ◌≢◌}
 use mathlib.Core.Bool.{Bool, true, false, false≢true, cond}
 use mathlib.Core.List.{List}
-use Prim.Native.Nat.{ℕ, zero, suc, ◌-◌, ◌<◌, ◌≤◌}
+use Prim.Native.Nat.{ℕ, zero, suc, ◌<◌, ◌≤◌}
 use native.Mathlib.Omega.{arith}
 use lib.Dec.{leb}
 use lib.ListN.{length}
@@ -15,7 +15,7 @@ use Rattle.element.proofs.Others.{fresh_length, fresh_intact}
 use Rattle.conn_record.specs.Connection.{coherent_b, zero_record}
 use Rattle.conn_record.proofs.Laws.{and_left, and_right, opened_coherent}
 use Rattle.conn_record.specs.declared.Opening as Given
-use Rattle.group_rules.specs.Rules.{Group, Request, open_slot, free_slot, link_change, sample, Call, on, hear, manage, refusal, accepted, torn, reset, Turn, turn_of, request_turn, hear_turn, Done, does, refuses, put_turn, record_of_all, element_in, link_of, links_of}
+use Rattle.group_rules.specs.Rules.{Group, Request, open_slot, free_slot, sample, Call, on, hear, manage, refusal, accepted, torn, Turn, turn_of, request_turn, hear_turn, Done, does, refuses, put_turn, record_of_all, element_in, link_of, links_of}
 use Rattle.thm_order.proofs.Records.{long_by}
 use Rattle.thm_order.proofs.Near.{enough}
 use Rattle.thm_order.proofs.Slots.{slot_in, open_in, element_long, Put, put}

@@ -1,14 +1,13 @@
 -- A close drops no byte in silence. Assumes nothing.
 use Prim.Native.Nat.{ℕ}
-use mathlib.Core.Path.{◌≡◌, refl, sym, ap, ◌∙◌}
+use mathlib.Core.Path.{◌≡◌, refl, ap, ◌∙◌}
 use mathlib.Core.Bool.{Bool, true, false}
 use mathlib.Core.Logic.{◌⊎◌, inl, inr}
-use Rattle.conn_answer.specs.declared.Reply.{Reply}
 use Rattle.conn_answer.specs.declared.Reply.TheVariants.{Refused, Reset}
 use Rattle.conn_receive.specs.Receive.{unread_of}
 use Rattle.conn_finish.specs.Finish.{close_of}
 use Rattle.conn_finish.proofs.Laws.{close_answers}
-use Rattle.group_rules.specs.Rules.{Done, does, out_of, Group, close, on, Answer, refusal, reset, says_of, turn_of, request_turn, answer, refuses, on_does, sizes_ok, record_of_all, element_in, link_of}
+use Rattle.group_rules.specs.Rules.{Done, does, out_of, close, on, Answer, says_of, turn_of, request_turn, answer, refuses, on_does, sizes_ok, record_of_all, link_of}
 use Rattle.thm_safety.specs.Statement.{NothingDropped}
 use Rattle.thm_safety.proofs.OnSlot.{on_was_open, on_answer}
 

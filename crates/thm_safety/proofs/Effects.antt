@@ -19,7 +19,7 @@ use Rattle.gauge.specs.Gauge.{most_ms, sampled_of}
 use Rattle.conn_record.specs.declared.Opening as Given
 use Rattle.conn_record.specs.Connection.{opened_record}
 use Rattle.group_table.specs.Table.{link_in}
-use Rattle.group_rules.specs.Rules.{plain_turn, bad_opening, Group, Request, open_slot, free_slot, link_change, link_message, link_send, sample, Call, on, hear, manage, Says, refusal, torn, link_changed, link_heard, link_sent, Turn, request_turn, hear_turn, Done, does, answer, refuses, put_turn, record_of_all, element_in, link_of, sizes_ok, out_of, on_does, holder_of, hear_at, hear_message, hear_does, open_refusal, open_does, free_refusal, free_does, lent_ok, link_refusal, fails_over, link_does, link_message_does, link_send_does, links_of, with_links, healthy, sample_refusal, sample_does}
+use Rattle.group_rules.specs.Rules.{plain_turn, bad_opening, Group, Request, open_slot, free_slot, link_change, link_message, link_send, sample, Call, on, hear, manage, Says, refusal, torn, link_changed, link_heard, link_sent, Turn, request_turn, hear_turn, Done, does, refuses, put_turn, record_of_all, element_in, link_of, sizes_ok, out_of, on_does, holder_of, hear_at, hear_message, hear_does, open_refusal, open_does, free_refusal, free_does, lent_ok, link_refusal, fails_over, link_does, link_message_does, link_send_does, links_of, with_links, healthy, sample_refusal, sample_does}
 use Rattle.group_table.specs.Table.{slot_b, open_b, active_b, gauge_at, find_from, gauge_set}
 use Rattle.group_table.specs.declared.Links.{Links}
 use Rattle.link_message.specs.declared.Kind.{Kind}

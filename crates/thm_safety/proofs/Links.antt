@@ -9,7 +9,6 @@ use borrow.Author.Tests.{eqb-false}
 use Rattle.cdc.specs.declared.Decoded.{Decoded}
 use Rattle.cdc.specs.declared.Decoded.TheVariants.{Good, Malformed}
 use Rattle.cdc.specs.Cdc.{decode_of}
-use Rattle.gauge.specs.Gauge.{sampled_of}
 use Rattle.link_message.specs.declared.Kind.TheVariants.{ConfirmLink}
 use Rattle.link_exchange.specs.declared.Role.{Role}
 use Rattle.link_exchange.specs.declared.Exchange.{Exchange}
@@ -18,14 +17,14 @@ use Rattle.link_exchange.specs.declared.Said.{Said}
 use Rattle.link_exchange.specs.declared.Touch.{Touch}
 use Rattle.link_exchange.specs.Exchange.{no_exchange, next_stage, went_on}
 use Rattle.group_table.specs.declared.Links.{Links}
-use Rattle.group_table.specs.Table.{open_b, link_in, gauge_at}
+use Rattle.group_table.specs.Table.{open_b, link_in}
 use Rattle.link_calls.specs.Calls.{unchanged, changed_of, heard_of, sent_of}
 use Rattle.thm_links.specs.Statements as Link
 use Rattle.thm_links.specs.Statements.{Call as LinkCall}
 use Rattle.thm_links.specs.Course.{Begins, Course, stays, goes_on, ends, begins, replaced, adding, deleting, confirming, confirming_more, withdrawing}
 use Rattle.thm_links.proofs.Course.{one_exchange}
 use Rattle.thm_links.proofs.Theorems.{refused_keeps, at_most_four}
-use Rattle.group_rules.specs.Rules.{Group, open_slot, free_slot, link_change, link_message, link_send, sample, Call, on, hear, manage, Answer, Turn, Done, does, refuses, put_turn, out_of, sizes_ok, on_does, hear_at, hear_message, hear_does, open_refusal, open_does, free_refusal, free_does, lent_ok, link_refusal, fails_over, link_does, link_message_does, link_send_does, sample_refusal, sample_does, Says, links_of, with_links, group_of, next}
+use Rattle.group_rules.specs.Rules.{Group, open_slot, free_slot, link_change, link_message, link_send, sample, Call, on, hear, manage, Turn, Done, does, refuses, put_turn, out_of, sizes_ok, on_does, hear_at, hear_message, hear_does, open_refusal, open_does, free_refusal, free_does, lent_ok, link_refusal, fails_over, link_does, link_message_does, link_send_does, sample_refusal, sample_does, Says, links_of, with_links, group_of, next}
 use native.Mathlib.Omega.{arith}
 use Rattle.conn_record.specs.declared.Record.{Record}
 use Rattle.link_failover.specs.Failover.{plan_of, moved_all}

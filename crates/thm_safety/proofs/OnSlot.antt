@@ -16,7 +16,7 @@ use Rattle.group_table.specs.Table.{open_b}
 use Rattle.group_rules.specs.Rules.{Group, Request, place, on, hear, refusal, accepted, says_of, turn_of, request_turn, hear_turn, Done, does, answer, refuses, put_turn, on_does, hear_does, hear_at, out_of, record_of_all, element_in, link_of, holder_of, sizes_ok}
 use Rattle.thm_safety.specs.Statement.{OpenAt}
 use Rattle.thm_refusals.proofs.Answers.{clash}
-use Rattle.thm_safety.proofs.Invariant.{Sound, sizes, no_slot_0}
+use Rattle.thm_safety.proofs.Invariant.{Sound, no_slot_0}
 
 module _ (g : Group) (k : ℕ) (q : Request) (ok : sizes_ok g ≡ true) where
   pub on_open : OpenAt g k → does g (on k q) ≡ put_turn g k (request_turn g.N (link_of g k) (record_of_all g k) (element_in g k) q)

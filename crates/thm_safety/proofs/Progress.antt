@@ -1,7 +1,7 @@
 -- The one_byte sentence of specs/Statement, its twin for read, and where placings lie. Assumes nothing.
 use mathlib.Core.Path.{◌≡◌, refl, sym, ap, ◌∙◌, subst}
 use mathlib.Core.Bool.{Bool, true, false}
-use mathlib.Core.List.{List, []}
+use mathlib.Core.List.{List}
 use Prim.Native.Nat.{ℕ, min}
 use native.Mathlib.Nat.{zero-add}
 use native.Mathlib.Omega.{arith}
@@ -14,14 +14,13 @@ use Rattle.conn_answer.specs.declared.Placings.TheVariants.{Nowhere, One, Two}
 use Rattle.conn_record.specs.declared.Record.{Record}
 use Rattle.conn_answer.specs.declared.Reply.{Reply}
 use Rattle.conn_answer.specs.declared.Reply.TheVariants.{Refused, Accepted, Sent, Read, Torn, Reset, Heard, Sampled}
-use Rattle.conn_answer.specs.declared.Outcome.{Outcome}
 use Rattle.conn_record.specs.Connection.{coherent_b}
 use Rattle.conn_record.proofs.Laws.{refusal_0}
 use Rattle.conn_answer.proofs.Laws.{outcome_reply}
-use Rattle.conn_send.specs.Transmit.{send_of, placings_total, all_within}
+use Rattle.conn_send.specs.Transmit.{placings_total, all_within}
 use Rattle.conn_send.proofs.Laws.{writes_a_byte, send_takes, send_within, urgent_within}
 use Rattle.conn_receive.specs.Receive.{read_forbids, unread_of, take_of, read_of}
-use Rattle.group_rules.specs.Rules.{Group, Request, send, gather, read, on, sent, gathered, says_of, placing_list, turn_of, request_turn, read_into, Answer, Done, does, answer, refuses, on_does, out_of, sizes_ok, record_of_all, element_in, link_of}
+use Rattle.group_rules.specs.Rules.{Group, Request, send, read, on, sent, says_of, placing_list, turn_of, request_turn, read_into, Answer, Done, does, answer, refuses, on_does, out_of, sizes_ok, record_of_all, element_in, link_of}
 use Rattle.thm_safety.specs.Statement.{total_of, AllWithin, OneByte, plainly, urgently, PlacingsWithin, OneRead}
 use Rattle.thm_refusals.proofs.Answers.{clash}
 use Rattle.thm_safety.proofs.OnSlot.{on_was_open, on_answer}

@@ -19,7 +19,7 @@ use Rattle.conn_answer.specs.Outcome.{no_message}
 use Rattle.link_failover.specs.declared.Plan.{Plan}
 use Rattle.link_failover.specs.Failover.{target_of, plan_of, gone_b, moves_b, tells_b, failover_of, told_of, messages_of, one, count_of, buffer_left}
 use Rattle.thm_links.specs.Statements.{Call as LinkCall}
-use Rattle.group_rules.specs.Rules.{Group, Call, Says, link_changed, link_heard, link_sent, links_of, Done, does, answer, next, record_of_all, refuses}
+use Rattle.group_rules.specs.Rules.{Group, Call, Says, link_changed, link_heard, link_sent, links_of, Done, does, next, record_of_all, refuses}
 use Rattle.group_rules.specs.Rules.{fails_over, link_refusal, link_does, link_message_does, link_send_does}
 use Rattle.thm_safety.specs.Links.{call_of, KeepsLinks}
 use Rattle.thm_safety.proofs.Links.{others_keep}

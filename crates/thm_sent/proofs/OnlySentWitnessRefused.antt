@@ -5,7 +5,7 @@ use mathlib.Core.Bool.{Bool, true, false, cond}
 use mathlib.Core.List.{List, [], ◌∷◌, ◌++◌}
 use lib.ListN.{length}
 use Rattle.group_rules.proofs.Says.{says_refusal}
-use Rattle.group_rules.specs.Rules.{send, place, read, on, hear, heard}
+use Rattle.group_rules.specs.Rules.{send, place, read, on, hear}
 use Rattle.thm_order.proofs.Witness.{a_group}
 use Rattle.thm_changes.specs.Numbers.{refused_b}
 use Rattle.thm_sent.specs.Books.{near, far, Event}

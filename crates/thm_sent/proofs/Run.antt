@@ -310,34 +310,34 @@ module _ (names : Two Names) (ends : Two End) where
             x.0,
             λ t. elim t as (λ (k : Side). (end : Group)
                 × Made (pick k (after names ends (record { side = near; call = c; said = a }))).group (calls_at k es) (said_at k es) end) [
-              | near ↦ (
-                (m near).0,
-                subst (λ (g : Group). Made g (calls_at near es) (said_at near es) (m near).0)
-                    (sym (mine_group _ _ _ ends.at_far c a)) x.1,
-              )
-              | far ↦ (
-                (m far).0,
-                subst (λ (g : Group). Made g (calls_at far es) (said_at far es) (m far).0)
-                    (sym (theirs_group names.at_near ends.at_near ends.at_far c a)) (m far).1,
-              )
-            ],
+                  | near ↦ (
+                    (m near).0,
+                    subst (λ (g : Group). Made g (calls_at near es) (said_at near es) (m near).0)
+                        (sym (mine_group _ _ _ ends.at_far c a)) x.1,
+                  )
+                  | far ↦ (
+                    (m far).0,
+                    subst (λ (g : Group). Made g (calls_at far es) (said_at far es) (m far).0)
+                        (sym (theirs_group names.at_near ends.at_near ends.at_far c a)) (m far).1,
+                  )
+                ],
           )
       go far c a m =
           let x = made_first (m far).1 in (
             x.0,
             λ t. elim t as (λ (k : Side). (end : Group)
                 × Made (pick k (after names ends (record { side = far; call = c; said = a }))).group (calls_at k es) (said_at k es) end) [
-              | near ↦ (
-                (m near).0,
-                subst (λ (g : Group). Made g (calls_at near es) (said_at near es) (m near).0)
-                    (sym (theirs_group names.at_far ends.at_far ends.at_near c a)) (m near).1,
-              )
-              | far ↦ (
-                (m far).0,
-                subst (λ (g : Group). Made g (calls_at far es) (said_at far es) (m far).0)
-                    (sym (mine_group _ _ _ ends.at_near c a)) x.1,
-              )
-            ],
+                  | near ↦ (
+                    (m near).0,
+                    subst (λ (g : Group). Made g (calls_at near es) (said_at near es) (m near).0)
+                        (sym (theirs_group names.at_far ends.at_far ends.at_near c a)) (m near).1,
+                  )
+                  | far ↦ (
+                    (m far).0,
+                    subst (λ (g : Group). Made g (calls_at far es) (said_at far es) (m far).0)
+                        (sym (mine_group _ _ _ ends.at_near c a)) x.1,
+                  )
+                ],
           )
 
 -- what each event keeps (K), and what is so at each (R), where P is asked at each

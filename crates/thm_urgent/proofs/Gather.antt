@@ -1,30 +1,28 @@
 -- A send of a head and a body is a send of the joined bytes (specs/Gather). Assumes nothing.
-use mathlib.Core.Path.{◌≡◌, refl, sym, ap, ◌∙◌, subst}
-use mathlib.Core.Bool.{Bool, true, false, cond}
+use mathlib.Core.Path.{◌≡◌, refl, sym, ap, ◌∙◌}
+use mathlib.Core.Bool.{Bool, true, false}
 use mathlib.Core.List.{List, [], ◌∷◌, ◌++◌}
 use Prim.Native.Nat.{ℕ, zero, suc, ◌+◌, ◌-◌, min}
 use native.Mathlib.Omega.{arith}
 use lib.ListN.{length, take}
 use Rattle.cursor.specs.declared.Cursor.{Cursor}
 use Rattle.cursor.proofs.Laws.{step_none}
-use Rattle.flow.specs.Flow.{stretches_of}
 use Rattle.flow.proofs.Laws.{room_most}
 use Rattle.conn_answer.specs.declared.Placings.{Placings}
 use Rattle.conn_record.specs.declared.Record.{Record}
 use Rattle.conn_answer.specs.declared.Reply.{Reply}
 use Rattle.conn_answer.specs.declared.Reply.TheVariants.{Refused, Accepted, Sent, Read, Torn, Reset, Heard, Sampled}
 use Rattle.conn_record.proofs.Laws.{coherent_facts}
-use Rattle.conn_send.specs.Transmit.{send_of, rtoken_of, element_start, placing_of, placings_of}
+use Rattle.conn_send.specs.Transmit.{send_of, rtoken_of, element_start, placing_of}
 use Rattle.conn_send.proofs.Laws.{send_takes, send_was_coherent, send_places, send_steps}
-use Rattle.conn_gather.specs.Pieces.{Piece, rest_of, offset_of, allowed_of, bytes_of, stretch_of, piece_of, unless_empty, pieces_from, pieces_of}
-use Rattle.conn_gather.specs.Statement.{Takes}
+use Rattle.conn_gather.specs.Pieces.{Piece, rest_of, offset_of, bytes_of, stretch_of, piece_of, unless_empty, pieces_from, pieces_of}
 use Rattle.conn_gather.proofs.Theorem.{gather_pieces}
-use Rattle.group_table.specs.Table.{open_b, record_at}
+use Rattle.group_table.specs.Table.{record_at}
 use Rattle.thm_order.proofs.Slots.{open_in, open_there, record_same}
 use Rattle.group_rules.proofs.Joined.{joined_left, joined_says}
-use Rattle.group_rules.specs.Rules.{Group, Request, send, gather, on, refusal, sent, gathered, says_of, placing_list, in_pieces, answer_in_pieces, Answer, Turn, turn_of, request_turn, Done, does, answer, next, refuses, put_turn, on_does, sizes_ok, record_of_all, element_in, link_of}
+use Rattle.group_rules.specs.Rules.{Group, Request, send, gather, on, sent, gathered, says_of, placing_list, in_pieces, Answer, turn_of, request_turn, Done, does, next, refuses, put_turn, on_does, sizes_ok, record_of_all, element_in, link_of}
 use Rattle.thm_safety.specs.Statement.{OpenAt, plainly}
-use Rattle.thm_urgent.specs.Gather.{AsSend, GatherIsSend, InPieces, GatheredInPieces, empty_at_q, GatherWaits}
+use Rattle.thm_urgent.specs.Gather.{GatherIsSend, InPieces, GatheredInPieces, empty_at_q, GatherWaits}
 use Rattle.thm_refusals.proofs.Answers.{clash}
 use Rattle.thm_safety.proofs.OnSlot.{on_was_open, on_answer, on_open}
 use Rattle.thm_urgent.proofs.Urgent.{sends_wait}

@@ -19,7 +19,6 @@ use Rattle.closing.specs.Closing.{marks_heard}
 use Rattle.flow.specs.Flow.{room_of, taken_of}
 use Rattle.flow.proofs.Laws.{room_most}
 use Rattle.conn_record.specs.declared.Inbound.{Inbound}
-use Rattle.conn_record.specs.declared.Urgent.{Urgent}
 use Rattle.conn_record.specs.declared.Record.{Record}
 use Rattle.conn_answer.specs.declared.Placings.{Placings}
 use Rattle.conn_answer.specs.declared.Placings.TheVariants.{Nowhere}

@@ -1,7 +1,7 @@
 -- Urgent data (request 2026-04): claims about the rules that every contract cites. The first two are of any group, however it came about,
 -- the third of any list of calls from any fresh group; the fourth is of two records, the ends of one connection, as far as one direction
 -- goes. proofs/Urgent and proofs/UrgentEnds prove them. Assumes nothing.
-use Rattle.std.specs.Prelude.{ℕ, ◌+◌, ◌≤◌, ◌<◌, ◌≡◌, Bool, true, false, List, [], ◌∷◌}
+use Rattle.std.specs.Prelude.{ℕ, ◌+◌, ◌≤◌, ◌<◌, ◌≡◌, true, false, List, [], ◌∷◌}
 use Rattle.cursor.specs.Cursor.{data_of, gap_of}
 use Rattle.cdc.specs.declared.Message.{Message}
 use Rattle.cdc.specs.declared.Decoded.TheVariants.{Good}
