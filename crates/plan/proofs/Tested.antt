@@ -1,5 +1,5 @@
 -- What refuses first, and then the step: one law for every call on a slot. Assumes nothing.
-use mathlib.Core.Path.{◌≡◌, refl, sym, ap, ◌∙◌}
+use mathlib.Core.Path.{◌≡◌, refl}
 use mathlib.Core.Bool.{Bool, true, false, ◌&&◌, cond}
 use mathlib.Core.List.{List}
 use Prim.Native.Nat.{ℕ}
@@ -9,7 +9,6 @@ use Rattle.conn_record.specs.Connection.{refusal_of}
 use Rattle.conn_answer.specs.declared.Outcome.{Outcome}
 use Rattle.conn_answer.specs.Outcome.{refused_of}
 use Rattle.group_table.specs.declared.Links.{Links}
-use Rattle.group_table.specs.declared.Turned.{Turned}
 use Rattle.group_table.specs.Table.{sizes_b, slot_b, active_b, found_of_all, refused_by, kept_by_of, turned_by, settled_by}
 use Rattle.plan.specs.Direct.{held_of}
 use Rattle.plan.specs.Step.{Step, settle_by, step_by}

@@ -1,6 +1,6 @@
 -- What a call on the lent table itself promises, whole: its answer is the rules' answer in a small struct, each field that the answer does
 -- not name zero, and all that it leaves is what the rules leave. Assumes nothing.
-use Rattle.std.specs.Prelude.{ℕ, ◌≡◌, Bool, cond, List, []}
+use Rattle.std.specs.Prelude.{ℕ, ◌≡◌, Bool, cond, List}
 use Rattle.group_table.specs.declared.Links.{Links}
 use Rattle.group_rules.specs.Says.{Said, said_in}
 use Rattle.group_rules.specs.Rules.{Says, Group, Call, Answer, answer, next}
