@@ -22,23 +22,23 @@ use Rattle.plan_hear.specs.Hearing.{ruled_hearing, hearing_of, told_by, message_
 
 -- what is tested before the record
 module _ (s n len count : ℕ) (good : Bool) (k : ℕ) (y : Bool) (ey : y ≡ sizes_b s n len count) where
-  pub before_unsized : not y ≡ true → 1 ≡ refused_before s n len count good k
+  pub before_unsized : y ≡ false → 1 ≡ refused_before s n len count good k
   unfolding refused_before
-  before_unsized e = simp (← ey, not-true y e)
+  before_unsized e = simp (← ey, e)
 
-  module _ (e : not y ≡ false) where
+  module _ (e : y ≡ true) where
     pub before_bad : not good ≡ true → 4 ≡ refused_before s n len count good k
     unfolding refused_before
-    before_bad g = simp (← ey, not-false y e, not-true good g)
+    before_bad g = simp (← ey, e, not-true good g)
 
     module _ (g : not good ≡ false) where
       pub before_none : k ≡ 0 → 5 ≡ refused_before s n len count good k
       unfolding refused_before
-      before_none z = simp (← ey, not-false y e, not-false good g, eq-eqb k 0 z)
+      before_none z = simp (← ey, e, not-false good g, eq-eqb k 0 z)
 
       pub before_some : (k ≡ 0 → ⊥) → 0 ≡ refused_before s n len count good k
       unfolding refused_before
-      before_some z = simp (← ey, not-false y e, not-false good g, ne_eqb k 0 z)
+      before_some z = simp (← ey, e, not-false good g, ne_eqb k 0 z)
 
 -- an accepted message, put together
 module _ (n : ℕ) (rec : Record) (m : Message) (moved : ℕ) (marks : Marks) (state : State) (number : ℕ) (passed same : Bool) where

@@ -1,0 +1,21 @@
+-- `plan_send::placing` meets its contract. Assumes nothing.
+use Rattle.std.proofs.Common.{arith}
+use Rattle.plan_send.specs.Transmitting.{placing_in}
+use Rattle.plan_send.proofs.Steps.{place_fits}
+use Rattle.plan_send.proofs.placing.Goals as goal
+
+pub overflow_mul-before : goal.overflow_mul-before
+overflow_mul-before c =
+    let k = c.elements_before-k in
+    let a = c.args in
+    omega (arith, place_fits k.result a.size 0 k.ensures.1 (omega arith) (omega arith))
+
+pub overflow_add-at : goal.overflow_add-at
+overflow_add-at c =
+    let k = c.elements_before-k in
+    let a = c.args in
+    omega (arith, place_fits k.result a.size a.s.offset k.ensures.1 (omega arith) (omega arith))
+
+pub returns : goal.returns
+unfolding placing_in
+returns c = simp (c.wrapping_add_u64-address.ensures.value, c.elements_before-k.ensures.0)
