@@ -1,5 +1,5 @@
 -- A piece from its parts. Assumes nothing.
-use Rattle.std.proofs.Common.{◌≡◌, ℕ, ◌+◌, ◌-◌, ◌%◌, ◌^◌, ◌<◌, ◌≤◌, min, Bool, true, false, cond, ltb, sym, refl, ap, ◌∙◌, arith, le-ltb, lt-ltb}
+use Rattle.std.proofs.Common.{◌≡◌, ℕ, ◌+◌, ◌-◌, ◌%◌, ◌^◌, ◌<◌, ◌≤◌, min, Bool, cond, ltb, sym, ap, ◌∙◌, arith, le-ltb, lt-ltb}
 use Rattle.conn_answer.specs.declared.Placing.{Placing}
 use Rattle.plan_gather.specs.declared.GatherAnswer.{GatherAnswer}
 use Rattle.plan_gather.specs.declared.Joined.{Joined}
