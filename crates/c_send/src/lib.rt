@@ -133,6 +133,7 @@ fn not_urgent() -> bool
     false
 }
 
+// A library exports nothing: crate `c_send_c` has this one for C, under the same name.
 #[unsafe(no_mangle)]
 pub extern "C" fn fordlinnet_make_send(
     s: u32,
