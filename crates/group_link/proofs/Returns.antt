@@ -1,8 +1,8 @@
 -- What the parts of a call on the links give is what the rules say. Assumes nothing.
-use Prim.Native.Nat.{ℕ, ◌+◌, ◌*◌, ◌/◌, ◌≤◌}
+use Prim.Native.Nat.{ℕ, ◌*◌, ◌/◌, ◌≤◌}
 use mathlib.Core.Path.{◌≡◌, refl, sym, ap, ◌∙◌}
 use mathlib.Core.Bool.{Bool, true, false, ◌&&◌, not, cond}
-use mathlib.Core.List.{List, []}
+use mathlib.Core.List.{List}
 use native.Mathlib.Omega.{arith}
 use lib.Dec.{eqb, leb}
 use lib.ListN.{length}
@@ -12,11 +12,10 @@ use Rattle.link_message.specs.Layouts.{encode_of}
 use Rattle.link_exchange.specs.Exchange.{due_b}
 use Rattle.conn_record.specs.declared.Record.{Record}
 use Rattle.conn_record.proofs.Laws.{and_left, and_right}
-use Rattle.conn_answer.specs.declared.Reply.{Reply}
 use Rattle.conn_answer.specs.declared.Reply.TheVariants.{Refused, Accepted}
 use Rattle.conn_answer.specs.Outcome.{no_message}
 use Rattle.group_table.specs.declared.Links.{Links}
-use Rattle.group_table.specs.Table.{sizes_b, link_in}
+use Rattle.group_table.specs.Table.{link_in}
 use Rattle.group_table.proofs.Laws.{sizes_facts}
 use Rattle.link_failover.specs.declared.Plan.{Plan}
 use Rattle.link_failover.specs.Failover.{plan_of, moved_all, messages_of, count_of, buffer_left, Told, standing, told_all}
@@ -25,7 +24,7 @@ use Rattle.link_failover.proofs.Buffer.{all_told, messages_long}
 use Rattle.link_calls.specs.declared.Heard.{Heard}
 use Rattle.link_calls.specs.declared.Sent.{Sent}
 use Rattle.link_calls.specs.Calls.{unchanged, changed_of, optional_b, message_refusal, heard_in, fate_no, no_reply, heard_work, nothing_heard, heard_of, send_refusal, sent_work, sent_in, sent_of}
-use Rattle.group_rules.specs.Rules.{Group, Says, refusal, link_changed, link_heard, link_sent, Answer, Done, does, refuses, Did, links_of, group_of, sizes_ok, lent_ok, link_refusal, fails_over, link_does, link_message_does, link_send_does}
+use Rattle.group_rules.specs.Rules.{Group, Says, link_changed, link_heard, link_sent, Done, does, refuses, Did, links_of, group_of, sizes_ok, lent_ok, link_refusal, fails_over, link_does, link_message_does, link_send_does}
 use Rattle.group_link.specs.declared.LinkCommand.{LinkCommand}
 use Rattle.group_link.specs.declared.LinkCommand.TheVariants.{Change, Message, Send}
 use Rattle.group_link.specs.declared.Work.{Work}

@@ -1,6 +1,6 @@
 -- Requests 2026-01 and 2026-13: what the code does in a link change, a link message and a link send, and as a call of the rules.
 -- Assumes nothing.
-use Rattle.std.specs.Prelude.{ℕ, ◌*◌, ◌/◌, Bool, true, false, ◌&&◌, cond, List, eqb, leb}
+use Rattle.std.specs.Prelude.{ℕ, ◌*◌, ◌/◌, Bool, false, ◌&&◌, cond, List, eqb, leb}
 use Rattle.link_exchange.specs.declared.Fate.TheVariants.{Dropped}
 use Rattle.conn_answer.specs.declared.Reply.{Reply}
 use Rattle.conn_answer.specs.declared.Reply.TheVariants.{Refused, Accepted, Sent, Read, Torn, Reset, Heard, Sampled}
