@@ -190,7 +190,7 @@ out_after (Manage d) told out = out
 pub record CallMade (g : Group) (q : FlatCommand) (b out : List ℕ) (r : FlatAnswer) (h : Group) (left : List ℕ) : Type 0 where
   pub answered : known_b q ≡ true → r ≡ flat_of (answer g (asked q b out)) (links_of (next g (asked q b out)))
   pub next_left : known_b q ≡ true → h ≡ next g (asked q b out)
-  pub out_left_lem : known_b q ≡ true → left ≡ out_after (named_of q) (answer g (asked q b out)).out out
+  pub out_is_left : known_b q ≡ true → left ≡ out_after (named_of q) (answer g (asked q b out)).out out
   pub unknown : known_b q ≡ false → (r ≡ unknown_of (links_of g)) × (h ≡ g) × (left ≡ out)
 
 -- WHAT THE CODE DOES. For an unknown number it makes a call that changes nothing

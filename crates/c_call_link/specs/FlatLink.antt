@@ -122,7 +122,7 @@ link_unknown_of links = link_unknown_by (flat_links links)
 pub record LinkMade (g : Group) (q : FlatLinkCommand) (b out : List ℕ) (r : FlatLinkAnswer) (h : Group) (left : List ℕ) : Type 0 where
   pub answered : link_known_b q ≡ true → r ≡ link_of (answer g (link_asked q b out)) (links_of (next g (link_asked q b out)))
   pub next_left : link_known_b q ≡ true → h ≡ next g (link_asked q b out)
-  pub out_left_lem : link_known_b q ≡ true → left ≡ (answer g (link_asked q b out)).out
+  pub out_is_left : link_known_b q ≡ true → left ≡ (answer g (link_asked q b out)).out
   pub unknown : link_known_b q ≡ false → (r ≡ link_unknown_of (links_of g)) × (h ≡ g) × (left ≡ out)
 
 -- WHAT THE CODE DOES. For an unknown number it makes a call that changes nothing

@@ -129,7 +129,7 @@ fordlinnet_make_returns s n m t links q b out own ho c hc a l z left e r hr =
           λ h. ap (λ (w : FlatAnswer). group_of s n z (links_in w.links) l) (hr ∙ known_told q links a h)
           ∙ ap (λ (w : Links). group_of s n z w l) (left_in (Rules.says_of a.reply) a.made a.message a.links)
           ∙ (known h).0.left;
-      out_left_lem =
+      out_is_left =
           λ h. let p = known h in
           out_law (named_of q) out left _ (ap (λ (w : Answer). w.out) p.0.answered) p.1;
       unknown =

@@ -208,18 +208,18 @@ module _
           ∙ no _
           ∙ sym (no _)
 
-    last_is_lem : (z : Bool) → eqb first 0 ≡ z → a.last ≡ named a.sent.refusal a.sent.taken
-    last_is_lem true z =
+    last_number_is : (z : Bool) → eqb first 0 ≡ z → a.last ≡ named a.sent.refusal a.sent.taken
+    last_number_is true z =
         let l = h.0 (eqb-true first 0 z) in
         last_by_lem (sending_at false t k (length head + length body)) refl l.0 l.1 (eqb a.sent.refusal 0) refl
-    last_is_lem false z =
+    last_number_is false z =
         let l = h.1 (positive first (eqb-false first 0 z)) in
         let e : a ≡ refused_answer first = l.0 in
         subst (λ (x : Joined). x.last ≡ named x.sent.refusal x.sent.taken) (sym e)
         (ap (λ (x : Bool). cond x (placing_of rec (stretch_of rec 0 0)) no_placing) (sym z))
 
     whole : a ≡ joined_of rec said
-    whole = λ i. record { sent = answers i; last = by_sent (last_is_lem (eqb first 0) refl) i }
+    whole = λ i. record { sent = answers i; last = by_sent (last_number_is (eqb first 0) refl) i }
 
     pub gathers : (r : GatherAnswer) → r ≡ in_pieces a (length head) → GatherMade g k head body b r (group_of s n u ls m) c
     unfolding in_pieces
@@ -227,13 +227,13 @@ module _
         let j = joined_says g k head body in
         record {
           sent = a;
-          in_pieces_lem = er;
+          as_pieces = er;
           as_sent =
               record {
                 answered = whole;
                 next_left = sends.next_left;
-                out_left_lem = sends.out_left_lem;
-                message_left_lem = sends.message_left_lem;
+                out_is_left = sends.out_is_left;
+                message_is_left = sends.message_is_left;
               };
           did =
               record {
@@ -243,8 +243,8 @@ module _
                       (ap (λ (x : GatherAnswer). x.made) er ∙ ap (λ (x : SendAnswer). x.made) answers ∙ sym (ap (λ (x : Answer). x.made) j)) i,
                     );
                 next_left = sends.next_left ∙ sym (joined_left g k head body);
-                out_left_lem = sends.out_left_lem ∙ sym (ap (λ (x : Answer). x.out) j);
-                message_left_lem = sends.message_left_lem ∙ sym (ap (λ (x : Answer). cond x.made x.message b) j);
+                out_is_left = sends.out_is_left ∙ sym (ap (λ (x : Answer). x.out) j);
+                message_is_left = sends.message_is_left ∙ sym (ap (λ (x : Answer). cond x.made x.message b) j);
               };
         }
 

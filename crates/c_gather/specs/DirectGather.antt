@@ -33,5 +33,5 @@ shown_of a = (a.says, a.made)
 pub record GatherMade (g : Group) (k : ℕ) (head body b : List ℕ) (r : GatherAnswer) (h : Group) (c : List ℕ) : Type 0 where
   pub sent : Joined
   pub as_sent : Made (joined_of (record_of_all g k)) g (on k (send (head ++ body))) b sent h [] c
-  pub in_pieces_lem : r ≡ in_pieces sent (length head)
+  pub as_pieces : r ≡ in_pieces sent (length head)
   pub did : Made shown_of g (on k (gather head body)) b (says_in sent head body, r.made) h [] c

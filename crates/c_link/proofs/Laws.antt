@@ -54,7 +54,7 @@ fordlinnet_make_link_returns s n m t links q b out own ho c hc v hv d z left e r
           λ h. ap (λ (w : FlatLinkAnswer). group_of s n z (links_in w.links) m) (told h)
           ∙ ap (λ (w : FlatLinks). group_of s n z (links_in w) m) (said_links says _ _ _)
           ∙ ap (λ (w : Links). group_of s n z w m) (links_back d.answer.links) ∙ (known h).left;
-      out_left_lem = λ h. ap (λ (w : Answer). w.out) (known h).answered;
+      out_is_left = λ h. ap (λ (w : Answer). w.out) (known h).answered;
       unknown =
           λ h. let p = unknown' h in
           let x = idle group out in

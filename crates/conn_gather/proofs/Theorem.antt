@@ -230,7 +230,7 @@ module _ (rec : Record) (h b : List ℕ) (n : ℕ) (t : Takes rec h b n) where
 
   long : (k : ℕ) → k ≤ n → Long n (length h) w N' (to k) k (length (bytes k))
   long k i =
-      let o = range_is N' q t.in_range_lem in
+      let o = range_is N' q t.is_in_range in
       let f = t.fits in
       let fits : n + 4 ≤ N' = omega arith in
       let taken : n ≤ length h + length b = rw (← length-append h b) t.offered in
@@ -240,24 +240,24 @@ module _ (rec : Record) (h b : List ℕ) (n : ℕ) (t : Takes rec h b n) where
             rw (rest_head h b k x, length-drop k h)
             (elim (dec_lt (q.offset + k) N') [
               | yes y ↦
-                  rw (off_short N' q t.in_range_lem k y) (long_1 (length h) (length b) N' q.offset n k taken fits o.0 o.1 i x y)
+                  rw (off_short N' q t.is_in_range k y) (long_1 (length h) (length b) N' q.offset n k taken fits o.0 o.1 i x y)
               | no y ↦
-                  rw (off-over N' q t.in_range_lem k (omega arith) (omega arith))
+                  rw (off-over N' q t.is_in_range k (omega arith) (omega arith))
                   (long_2 (length h) (length b) N' q.offset n k taken fits o.0 o.1 i x (omega arith))
             ])
         | no x ↦
             rw (rest_body h b k (omega arith), length-drop (k - length h) b)
             (elim (dec_lt (q.offset + k) N') [
               | yes y ↦
-                  rw (off_short N' q t.in_range_lem k y)
+                  rw (off_short N' q t.is_in_range k y)
                   (long_3 (length h) (length b) N' q.offset n k taken fits o.0 o.1 i (omega arith) y)
               | no y ↦
-                  rw (off-over N' q t.in_range_lem k (omega arith) (omega arith))
+                  rw (off-over N' q t.is_in_range k (omega arith) (omega arith))
                   (long_4 (length h) (length b) N' q.offset n k taken fits o.0 o.1 i (omega arith) (omega arith))
             ])
       ])
 
-  lands_none : (k : ℕ) → [] ≡ lands rec t.in_range_lem k []
+  lands_none : (k : ℕ) → [] ≡ lands rec t.is_in_range k []
   unfolding lands
   lands_none k = refl
 
@@ -271,7 +271,7 @@ module _ (rec : Record) (h b : List ℕ) (n : ℕ) (t : Takes rec h b n) where
     is_last : last ≡ piece_of rec h b n n
     empty : last.bytes ≡ []
     whole : joined pieces ≡ take (n - k) (drop k (h ++ b))
-    placed : writes_of pieces ≡ lands rec t.in_range_lem k (take (n - k) (drop k (h ++ b)))
+    placed : writes_of pieces ≡ lands rec t.is_in_range k (take (n - k) (drop k (h ++ b)))
 
   piece_bytes : (k : ℕ) → (piece_of rec h b n k).bytes ≡ bytes k
   unfolding piece_of
@@ -279,14 +279,14 @@ module _ (rec : Record) (h b : List ℕ) (n : ℕ) (t : Takes rec h b n) where
 
   piece_writes : (k : ℕ) → k ≤ n
       → writes_at (piece_of rec h b n k).key (piece_of rec h b n k).address (piece_of rec h b n k).bytes
-      ≡ lands rec t.in_range_lem k (bytes k)
+      ≡ lands rec t.is_in_range k (bytes k)
   unfolding piece_of placing_of
   piece_writes k i =
       let l = long k i in
       let f = t.fits in
-      let o = range_is N' q t.in_range_lem in
+      let o = range_is N' q t.is_in_range in
       let up = l.up in
-      lands_run rec t.in_range_lem k (bytes k) (omega arith) l.within
+      lands_run rec t.is_in_range k (bytes k) (omega arith) l.within
 
   -- the rest of the bytes, after a piece
   rest-is : (k : ℕ) → k ≤ n
@@ -325,7 +325,7 @@ module _ (rec : Record) (h b : List ℕ) (n : ℕ) (t : Takes rec h b n) where
               whole = rw (piece_bytes k, next.whole) (sym (rest-is k i));
               placed =
                   rw (piece_writes k i, next.placed, rest-is k i)
-                  (sym (lands_append rec t.in_range_lem k (bytes k) (take (n - (k + m)) (drop (k + m) (h ++ b)))));
+                  (sym (lands_append rec t.is_in_range k (bytes k) (take (n - (k + m)) (drop (k + m) (h ++ b)))));
             }
         | no x ↦
             let e : k ≡ n = omega arith in
@@ -347,20 +347,20 @@ module _ (rec : Record) (h b : List ℕ) (n : ℕ) (t : Takes rec h b n) where
 
   -- the same as `lands-run`, at the offset as a placing has it
   from_to : (k o : ℕ) (b : List ℕ) → to k ≡ o → k + length b + 4 ≤ N' → o + length b ≤ N'
-      → writes_at (rtoken_of rec).key (element_start rec + o) b ≡ lands rec t.in_range_lem k b
+      → writes_at (rtoken_of rec).key (element_start rec + o) b ≡ lands rec t.is_in_range k b
   from_to k o b e i j =
-      ap (λ (x : ℕ). writes_at (rtoken_of rec).key (element_start rec + x) b) (sym e) ∙ lands_run rec t.in_range_lem k b i (rw e j)
+      ap (λ (x : ℕ). writes_at (rtoken_of rec).key (element_start rec + x) b) (sym e) ∙ lands_run rec t.is_in_range k b i (rw e j)
 
   -- a send's placings land there too
-  send_lands : send_writes (h ++ b) (placings_of rec (stretches_of N' q n)) ≡ lands rec t.in_range_lem 0 (take n (h ++ b))
+  send_lands : send_writes (h ++ b) (placings_of rec (stretches_of N' q n)) ≡ lands rec t.is_in_range 0 (take n (h ++ b))
   unfolding placing_of
   send_lands =
-      let o = range_is N' q t.in_range_lem in
+      let o = range_is N' q t.is_in_range in
       let f = t.fits in
       let off = t.offered in
       let xs = h ++ b in
-      let zero_off : to 0 ≡ q.offset = off_short N' q t.in_range_lem 0 (omega arith) ∙ omega arith in
-      stretches_by N' q n (λ (s : Stretches). send_writes xs (placings_of rec s) ≡ lands rec t.in_range_lem 0 (take n xs))
+      let zero_off : to 0 ≡ q.offset = off_short N' q t.is_in_range 0 (omega arith) ∙ omega arith in
+      stretches_by N' q n (λ (s : Stretches). send_writes xs (placings_of rec s) ≡ lands rec t.is_in_range 0 (take n xs))
       (λ e. rw e (lands_none 0))
       (λ l i.
       let long : length (take n xs) ≡ n = length-take n xs ∙ omega arith in
@@ -371,19 +371,19 @@ module _ (rec : Record) (h b : List ℕ) (n : ℕ) (t : Takes rec h b n) where
       length-take (n - w) (drop w xs) ∙ ap (min (n - w)) (length-drop w xs) ∙ omega arith
       in
       let ends_at : 0 + length (take w xs) ≡ w = omega (arith, first) in
-      let turn_off : to w ≡ 4 = off-over N' q t.in_range_lem w (omega arith) (omega arith) ∙ omega arith in
+      let turn_off : to w ≡ 4 = off-over N' q t.is_in_range w (omega arith) (omega arith) ∙ omega arith in
       let e : n ≡ w + (n - w) = omega arith in
-      let cut : lands rec t.in_range_lem 0 (take n xs)
-      ≡ lands rec t.in_range_lem 0 (take w xs) ++ lands rec t.in_range_lem w (take (n - w) (drop w xs)) =
-      ap (λ (x : ℕ). lands rec t.in_range_lem 0 (take x xs)) e
-      ∙ ap (lands rec t.in_range_lem 0) (take-add w (n - w) xs)
-      ∙ lands_append rec t.in_range_lem 0 (take w xs) (take (n - w) (drop w xs))
-      ∙ ap (λ (x : ℕ). lands rec t.in_range_lem 0 (take w xs) ++ lands rec t.in_range_lem x (take (n - w) (drop w xs))) ends_at
+      let cut : lands rec t.is_in_range 0 (take n xs)
+      ≡ lands rec t.is_in_range 0 (take w xs) ++ lands rec t.is_in_range w (take (n - w) (drop w xs)) =
+      ap (λ (x : ℕ). lands rec t.is_in_range 0 (take x xs)) e
+      ∙ ap (lands rec t.is_in_range 0) (take-add w (n - w) xs)
+      ∙ lands_append rec t.is_in_range 0 (take w xs) (take (n - w) (drop w xs))
+      ∙ ap (λ (x : ℕ). lands rec t.is_in_range 0 (take w xs) ++ lands rec t.is_in_range x (take (n - w) (drop w xs))) ends_at
       in
       let one = from_to 0 q.offset (take w xs) zero_off (rw first (omega arith)) (rw first (omega arith)) in
       let two = from_to w 4 (take (n - w) (drop w xs)) turn_off (rw second (omega arith)) (rw second (omega arith)) in
       ap (λ (l : List Write). l ++ writes_at (rtoken_of rec).key (element_start rec + 4) (take (n - w) (drop w xs))) one
-      ∙ ap (λ (l : List Write). lands rec t.in_range_lem 0 (take w xs) ++ l) two
+      ∙ ap (λ (l : List Write). lands rec t.is_in_range 0 (take w xs) ++ l) two
       ∙ sym cut)
 
 -- WHAT HOLDS OF ALL OF THEM
@@ -403,7 +403,7 @@ gather_pieces rec h b n t =
       at_new_q = ap (λ (p : Piece). p.address) o.is_last;
       whole = o.whole ∙ ap (λ (x : ℕ). take x (h ++ b)) (sub-zero n);
       same-places =
-          o.placed ∙ ap (λ (x : ℕ). lands rec t.in_range_lem 0 (take x (h ++ b))) (sub-zero n) ∙ sym (send_lands rec h b n t);
+          o.placed ∙ ap (λ (x : ℕ). lands rec t.is_in_range 0 (take x (h ++ b))) (sub-zero n) ∙ sym (send_lands rec h b n t);
     }
 
 pub places_exactly : PlacesExactly

@@ -14,7 +14,7 @@ use Rattle.conn_gather.specs.Pieces.{Piece, stretch_of, pieces_of}
 -- n of the joined bytes are taken by a record with Q in range, and are no more than the peer's element has data bytes: so it is in every
 -- send that is accepted
 pub record Takes (rec : Record) (head body : List ℕ) (n : ℕ) : Type 0 where
-  pub in_range_lem : in_range rec.remote.size rec.outbound.producer ≡ true
+  pub is_in_range : in_range rec.remote.size rec.outbound.producer ≡ true
   pub fits : n ≤ data_of rec.remote.size
   pub offered : n ≤ length (head ++ body)
 

@@ -89,7 +89,7 @@ new_place n rec m f k = go m.flags.urgent (ltb 0 (moved_by n rec.inbound m)) ref
     old : place_ok n rec.inbound.consumer m.producer rec.inbound.urgent ≡ true
     old =
         let i = rec.inbound in
-        place_further n i.consumer i.producer m.producer i.urgent f.their_place_lem
+        place_further n i.consumer i.producer m.producer i.urgent f.at_their_place
         (omega (arith, cp_grown n rec m.producer f k))
 
     go : (u moves : Bool) → ltb 0 (moved_by n rec.inbound m) ≡ moves
@@ -114,7 +114,7 @@ heard_facts n rec m f k r e =
     let o = rec.outbound in
     let own =
     place_passed rec.remote.size o.consumer m.consumer o.producer o.urgent f.r_range r.range f.q_range f.rq_good
-    r.rq_good f.own_place_lem
+    r.rq_good f.at_own_place
     in
     search rules
 

@@ -155,7 +155,7 @@ module _ (n : ℕ) (rec : Record) (k : ℕ) (f : Coherent n rec) (h : k ≤ gap_
       let r = step_range n i.consumer k f.c_range in
       let stands =
       place_passed n i.consumer (step_of n i.consumer k) i.producer i.urgent f.c_range r f.p_range f.cp_good cp.0
-      f.their_place_lem
+      f.at_their_place
       in
       search rules
 

@@ -121,8 +121,8 @@ pub record Coherent (n : ℕ) (rec : Record) : Type 0 where
   pub sum :
       gap_of (n - 4) rec.inbound.told rec.inbound.consumer + gap_of (n - 4) rec.inbound.consumer rec.inbound.producer ≤ n - 4
   pub rq_good : good_b (rec.remote.size - 4) rec.outbound.consumer rec.outbound.producer ≡ true
-  pub their_place_lem : place_ok n rec.inbound.consumer rec.inbound.producer rec.inbound.urgent ≡ true
-  pub own_place_lem : place_ok rec.remote.size rec.outbound.consumer rec.outbound.producer rec.outbound.urgent ≡ true
+  pub at_their_place : place_ok n rec.inbound.consumer rec.inbound.producer rec.inbound.urgent ≡ true
+  pub at_own_place : place_ok rec.remote.size rec.outbound.consumer rec.outbound.producer rec.outbound.urgent ≡ true
 
 -- URGENT PLACES. Where one stands
 pub record Stands (n : ℕ) (from to at : Cursor) : Type 0 where
@@ -246,8 +246,8 @@ module _ (n : ℕ) (rec : Record) where
         cp_good = distance 1;
         sum = leb-true _ (n - 4) (distance 2);
         rq_good = distance 3;
-        their_place_lem = and_left (their_place n rec) (own_place rec) (part 3);
-        own_place_lem = and_right (their_place n rec) (own_place rec) (part 3);
+        at_their_place = and_left (their_place n rec) (own_place rec) (part 3);
+        at_own_place = and_right (their_place n rec) (own_place rec) (part 3);
       }
 
   numbers_from : Coherent n rec → numbers_ok rec ≡ true
@@ -272,7 +272,7 @@ module _ (n : ℕ) (rec : Record) where
 
   places_from : Coherent n rec → places_ok n rec ≡ true
   unfolding places_ok
-  places_from f = simp (f.their_place_lem, f.own_place_lem)
+  places_from f = simp (f.at_their_place, f.at_own_place)
 
   pub coherent_from : Coherent n rec → coherent_b n rec ≡ true
   unfolding coherent_b
@@ -367,6 +367,6 @@ opened_coherent n given n_least own_some peer_some link_least link_most remote_o
       cp_good = own_gap.0;
       sum = omega (arith, own_gap.1);
       rq_good = remote_gap.0;
-      their_place_lem = place_none n start_cursor start_cursor;
-      own_place_lem = place_none given.remote.size start_cursor start_cursor;
+      at_their_place = place_none n start_cursor start_cursor;
+      at_own_place = place_none given.remote.size start_cursor start_cursor;
     })

@@ -227,7 +227,7 @@ module _ (n : ℕ) (rec : Record) (k len : ℕ) (f : Coherent n rec) (h : k ≤ 
       let g = produced-gap in
       let q = step_range rec.remote.size rec.outbound.producer k f.q_range in
       let o = rec.outbound in
-      let stands = place_further rec.remote.size o.consumer o.producer (step_of rec.remote.size o.producer k) o.urgent f.own_place_lem (omega (arith, g.1)) in
+      let stands = place_further rec.remote.size o.consumer o.producer (step_of rec.remote.size o.producer k) o.urgent f.at_own_place (omega (arith, g.1)) in
       search rules
 
   -- and that is the urgent place, where k is above 0

@@ -80,6 +80,6 @@ make_four_returns s n m t ls k bytes message j head body link told b c lent out 
       first = answer g q;
       made = one_made (direct_did _ _ g q message sent _ [] message₁ first) (one_made d₂.did (one_made third (one_made fourth none_made)));
       sent = first.answered;
-      message_left_lem = first.message_left_lem;
+      message_is_left = first.message_is_left;
       out_kept = d₄.1;
     })

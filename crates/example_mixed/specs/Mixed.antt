@@ -51,5 +51,5 @@ pub record MadeFour
       ∷ [])
       h
   pub sent : r.sent ≡ send_answer_of first
-  pub message_left_lem : message' ≡ cond first.made first.message message
+  pub message_is_left : message' ≡ cond first.made first.message message
   pub out_kept : OutKept c out out'

@@ -51,9 +51,9 @@ module _ (ls : Links) (g : Group) (e : links_of g ≡ ls) where
       sample_refused h p = links_refused sampling j r (simp (number_is, ne_eqb j 0 h)) p
 
       -- a number that is refused nowhere is a sample
-      in_range_lem : j ≡ 0 → leb ms most_ms ≡ true
+      is_in_range : j ≡ 0 → leb ms most_ms ≡ true
       unfolding sample_refusal
-      in_range_lem z = go (link_in l) (active_b ls.active l) (leb ms most_ms) (sym f ∙ z)
+      is_in_range z = go (link_in l) (active_b ls.active l) (leb ms most_ms) (sym f ∙ z)
         where
           go : (a b d : Bool) → ◌≡◌ {A = ℕ} (cond (not a) 13 (cond (not b) 6 (cond (not d) 17 0))) 0 → d ≡ true
           go true true true h = refl
@@ -65,7 +65,7 @@ module _ (ls : Links) (g : Group) (e : links_of g ≡ ls) where
         pub sampled_is : (q after : Gauge) → q ≡ gauge_at ls.gauges l → after ≡ cond (leb ms most_ms) (sampled_of q ms) q
             → after ≡ sampled_of (gauge_at ls.gauges l) ms
         sampled_is q after hq ha =
-            ha ∙ (simp (in_range_lem z)) ∙ ap (λ (x : Gauge). sampled_of x ms) hq
+            ha ∙ (simp (is_in_range z)) ∙ ap (λ (x : Gauge). sampled_of x ms) hq
 
         pub sample_did : (after : Gauge) → after ≡ sampled_of (gauge_at ls.gauges l) ms → r ≡ health_by (health_of after) (gauge_set ls l after)
             → DidIt sampling r

@@ -117,8 +117,8 @@ link_coherent n c l h k e =
       cp_good = f.cp_good;
       sum = f.sum;
       rq_good = f.rq_good;
-      their_place_lem = f.their_place_lem;
-      own_place_lem = f.own_place_lem;
+      at_their_place = f.at_their_place;
+      at_own_place = f.at_own_place;
     })
 
 pub moved_coherent : (n : ℕ) (p : Plan) (c : Record) → p.target ≤ most_link → coherent_b n c ≡ true → coherent_b n (moved_of n p c) ≡ true

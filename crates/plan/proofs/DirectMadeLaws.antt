@@ -12,8 +12,8 @@ made_by of b did er el ec =
     record {
       answered = er ∙ ap of did.answered;
       next_left = did.left;
-      out_left_lem = el ∙ ap (λ (x : Answer). x.out) did.answered;
-      message_left_lem = ec ∙ ap (λ (x : Answer). cond x.made x.message b) did.answered;
+      out_is_left = el ∙ ap (λ (x : Answer). x.out) did.answered;
+      message_is_left = ec ∙ ap (λ (x : Answer). cond x.made x.message b) did.answered;
     }
 
 -- the 44 bytes, where the answer's message is zeros unless one is made

@@ -19,8 +19,8 @@ named_in = said_in
 pub record Made {R : Type 0} (of : Answer → R) (g : Group) (q : Call) (b : List ℕ) (r : R) (h : Group) (left c : List ℕ) : Type 0 where
   pub answered : r ≡ of (answer g q)
   pub next_left : h ≡ next g q
-  pub out_left_lem : left ≡ (answer g q).out
-  pub message_left_lem : c ≡ cond (answer g q).made (answer g q).message b
+  pub out_is_left : left ≡ (answer g q).out
+  pub message_is_left : c ≡ cond (answer g q).made (answer g q).message b
 
 -- Such a call is given the links' states alone: it holds in every group that has them, whatever gauges, role, exchange and queue stand
 -- beside

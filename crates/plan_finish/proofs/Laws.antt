@@ -172,6 +172,6 @@ finish_made what s n m t states k b f u h a c e ls ea =
     record {
       answered = e.0 ∙ ap (λ (x : Finished). x.said) w.answered;
       next_left = w.next_left;
-      out_left_lem = sym (no_out what s n t ls m k);
-      message_left_lem = e.1 ∙ ap (λ (x : Finished). cond x.said.made x.message b) w.answered;
+      out_is_left = sym (no_out what s n t ls m k);
+      message_is_left = e.1 ∙ ap (λ (x : Finished). cond x.said.made x.message b) w.answered;
     }

@@ -9,7 +9,7 @@ use Rattle.conn_record.specs.declared.Urgent.{Urgent}
 use Rattle.cursor.specs.declared.Cursor.{Cursor}
 use Rattle.group_rules.specs.Rules.{place, on, accepted}
 use Rattle.rows_conn.specs.Rows.{cur, rtoken, no_urgent, urgent_at, marked, who, far, inw, outw, rec, me, key1, key2, key3, key4, T}
-use Rattle.rows_conn.specs.Rows.{ins, none, conn, with_me, with_peer, with_in, with_out, with_marks_lem, holds, element2, Row, silent}
+use Rattle.rows_conn.specs.Rows.{ins, none, conn, with_me, with_peer, with_in, with_out, marked_with, holds, element2, Row, silent}
 use Rattle.rows_conn.specs.Rows.{refused, Right}
 
 -- P, C and T; Q and R; nothing else another
@@ -37,7 +37,7 @@ based a b c d = with_peer (far 20 5 (rtoken 0xA1B1C1D1 a) (rtoken 0xA2B2C2D2 b) 
 
 -- C SENT or heard, and D
 abbrev closing : Bool → Bool → Bool → Bool → Record
-closing ds cs dh ch = with_marks_lem (marked ds cs dh ch false false)
+closing ds cs dh ch = marked_with (marked ds cs dh ch false false)
 
 -- THE RECORDS
 abbrev broken : List Record

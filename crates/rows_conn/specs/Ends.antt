@@ -4,11 +4,11 @@ use Rattle.closing.specs.declared.Marks.{Marks}
 use Rattle.conn_record.specs.declared.Record.{Record}
 use Rattle.group_rules.specs.Rules.{Request, shutdown, close, abort, Says, accepted, reset, manage, free_slot}
 use Rattle.rows_conn.specs.Rows.{cur, no_urgent, urgent_at, marked, who, inw, outw, rec, me, peer, P, C, T, Q, R, ins, outs}
-use Rattle.rows_conn.specs.Rows.{with_marks_lem, closed_slot, element2, holds, group, Row, silent, refused, says, Right}
+use Rattle.rows_conn.specs.Rows.{marked_with, closed_slot, element2, holds, group, Row, silent, refused, says, Right}
 
 -- 3 bytes are unread; and none, C at P
 abbrev unread : Marks → Record
-unread = with_marks_lem
+unread = marked_with
 
 abbrev all_read : Marks → Record
 all_read m = rec me peer (inw P P T 0x7788 false false no_urgent) outs m

@@ -11,7 +11,7 @@ use Rattle.conn_record.specs.declared.Record.{Record}
 use Rattle.conn_record.specs.declared.Urgent.{Urgent}
 use Rattle.group_rules.specs.Rules.{Group, Says, heard}
 use Rattle.rows_conn.specs.Rows.{cur, no_urgent, urgent_at, marked, none, who, inw, outw, rec, me, peer, P, C, T, Q, R, ins, outs}
-use Rattle.rows_conn.specs.Rows.{conn, with_in, with_out, with_marks_lem, closed_slot, other, shut, grouped, element2, memory, links13}
+use Rattle.rows_conn.specs.Rows.{conn, with_in, with_out, marked_with, closed_slot, other, shut, grouped, element2, memory, links13}
 use Rattle.rows_conn.specs.Rows.{group, Row, silent, tells, refused, heard_bytes, Right}
 
 -- heard by slot 2: nothing is answered, or a message, or it is refused
@@ -89,14 +89,14 @@ cursors =
     -- a full turn
     ∷ hears (resting (cur 8 0)) (to_p 8 1) (heard 10 Active) (with_in (inw (cur 8 1) (cur 8 0) (cur 8 0) 0x7789 false false no_urgent))
     -- it may not move once D or C was heard, not by an offset, not by a turn; it may with the message that has D
-    ∷ no 8 (with_marks_lem heard_d) (to_p 9 0)
-    ∷ no 8 (with_marks_lem heard_c) (to_p 9 0)
+    ∷ no 8 (marked_with heard_d) (to_p 9 0)
+    ∷ no 8 (marked_with heard_c) (to_p 9 0)
     ∷ no 8 (rec me peer (inw (cur 8 0) (cur 8 0) (cur 8 0) 0x7788 false false no_urgent) outs heard_d) (to_p 8 1)
-    ∷ hears (with_marks_lem heard_d) still (heard 0 AppCloseWait1) (rec me peer plain outs heard_d)
+    ∷ hears (marked_with heard_d) still (heard 0 AppCloseWait1) (rec me peer plain outs heard_d)
     ∷ hears conn (to_p 9 0 + 0x80) (heard 1 AppCloseWait1) (rec me peer (now (cur 9 0) false false no_urgent) outs heard_d)
     ∷ hears conn (to_p 9 0 + 0x40) (heard 1 AppCloseWait1) (rec me peer (now (cur 9 0) false false no_urgent) outs heard_c)
     -- D or C sent does not hold P
-    ∷ hears (with_marks_lem (marked true false false false true false)) (to_p 9 0) (heard 1 PeerCloseWait1)
+    ∷ hears (marked_with (marked true false false false true false)) (to_p 9 0) (heard 1 PeerCloseWait1)
     (rec me peer (now (cur 9 0) false false no_urgent) outs (marked true false false false true false))
     -- THE NEW R: up to Q, not past it; not one less than before, not a turn less
     ∷ hears conn (to_r 18 0x89EF) (heard 0 Active) (rec me peer plain (outw Q (cur 18 0x89EF) 0x5566 false no_urgent) none)
@@ -145,24 +145,24 @@ flags =
     (rec me peer (now_told P false true no_urgent) (outw Q R 0x5567 true no_urgent) none)
     ∷ answers (with_out (outw Q R 0x5566 false (urgent_at 6 0x89F0))) (still + 0x1000) (heard 0 Active) (reply + 0x6000)
     (rec me peer (now_told P false true no_urgent) (outw Q R 0x5567 false (urgent_at 6 0x89F0)) none)
-    ∷ answers (with_marks_lem (marked true false false false true false)) (still + 0x1000) (heard 0 PeerCloseWait1) (reply + 0x80)
+    ∷ answers (marked_with (marked true false false false true false)) (still + 0x1000) (heard 0 PeerCloseWait1) (reply + 0x80)
     (rec me peer (now_told P false true no_urgent) used (marked true false false false true false))
-    ∷ answers (with_marks_lem (marked false true false false true false)) (still + 0x1000) (heard 0 PeerCloseWait1) (reply + 0x40)
+    ∷ answers (marked_with (marked false true false false true false)) (still + 0x1000) (heard 0 PeerCloseWait1) (reply + 0x40)
     (rec me peer (now_told P false true no_urgent) used (marked false true false false true false))
     ∷ answers (rec me peer (inw P C T 0x7788 true true (urgent_at 7 0)) outs (marked false false true true true false)) (still + 0x1000)
     (heard 0 AppCloseWait1) reply (rec me peer (now_told P false true (urgent_at 7 0)) used (marked false false true true true false))
     -- D and C: a mark once heard stays
     ∷ hears conn (still + 0x80) (heard 0 AppCloseWait1) (rec me peer plain outs heard_d)
     ∷ hears conn (still + 0x40) (heard 0 AppCloseWait1) (rec me peer plain outs heard_c)
-    ∷ hears (with_marks_lem heard_d) (still + 0x40) (heard 0 AppCloseWait1) (rec me peer plain outs (marked false false true true false false))
-    ∷ hears (with_marks_lem heard_c) (still + 0x80) (heard 0 AppCloseWait1) (rec me peer plain outs (marked false false true true false false))
-    ∷ hears (with_marks_lem (marked true false false false true false)) (still + 0x40) (heard 0 AppCloseWait2)
+    ∷ hears (marked_with heard_d) (still + 0x40) (heard 0 AppCloseWait1) (rec me peer plain outs (marked false false true true false false))
+    ∷ hears (marked_with heard_c) (still + 0x80) (heard 0 AppCloseWait1) (rec me peer plain outs (marked false false true true false false))
+    ∷ hears (marked_with (marked true false false false true false)) (still + 0x40) (heard 0 AppCloseWait2)
     (rec me peer plain outs (marked true false false true true false))
-    ∷ hears (with_marks_lem (marked false true false false true false)) (still + 0x80) (heard 0 PeerCloseWait2)
+    ∷ hears (marked_with (marked false true false false true false)) (still + 0x80) (heard 0 PeerCloseWait2)
     (rec me peer plain outs (marked false true true false true false))
     -- C heard where C was sent: closed, and what R asks is answered before; P moved by 1
-    ∷ hears (with_marks_lem (marked false true false false true false)) (to_p 9 0 + 0x40) (heard 1 Closed) closed_slot
-    ∷ answers (with_marks_lem (marked true true false false true false)) (still + 0x1040) (heard 0 Closed) (reply + 0xC0) closed_slot
+    ∷ hears (marked_with (marked false true false false true false)) (to_p 9 0 + 0x40) (heard 1 Closed) closed_slot
+    ∷ answers (marked_with (marked true true false false true false)) (still + 0x1040) (heard 0 Closed) (reply + 0xC0) closed_slot
     ∷ []
 
 -- URGENT (request 2026-04). U that moves P makes the new P urgent, and one message is made; one that moves none, or P without U, leaves
@@ -203,15 +203,15 @@ abbrev aborts : List Row
 aborts =
     answers conn garbled (heard 0 Closed) (reply + 0x20) closed_slot
     ∷ answers conn (garbled + 0xB8C0) (heard 0 Closed) (reply + 0x20) closed_slot
-    ∷ answers (with_marks_lem (marked true true false false true false)) garbled (heard 0 Closed) (reply + 0xE0) closed_slot
-    ∷ answers (with_marks_lem (marked false false true true false false)) garbled (heard 0 Closed) (reply + 0x20) closed_slot
-    ∷ hears (with_marks_lem (marked true false false false true true)) garbled (heard 0 Closed) closed_slot
-    ∷ hears (with_marks_lem (marked true false false true true true)) (garbled + 0xB8C0) (heard 0 Closed) closed_slot
+    ∷ answers (marked_with (marked true true false false true false)) garbled (heard 0 Closed) (reply + 0xE0) closed_slot
+    ∷ answers (marked_with (marked false false true true false false)) garbled (heard 0 Closed) (reply + 0x20) closed_slot
+    ∷ hears (marked_with (marked true false false false true true)) garbled (heard 0 Closed) closed_slot
+    ∷ hears (marked_with (marked true false false true true true)) (garbled + 0xB8C0) (heard 0 Closed) closed_slot
     -- we had, and this has none: accepted, no change, whatever it says, F too
-    ∷ hears (with_marks_lem (marked false false false false false true)) (to_p 9 0 + 0xB0C0) (heard 0 PeerAbortWait)
-    (with_marks_lem (marked false false false false false true))
-    ∷ hears (with_marks_lem (marked false true true false true true)) 0xFE2C_0001_0A0B0C0D_0000_1234_00000003_0000_1234_FFFFFFFF_F8C0
-    (heard 0 PeerAbortWait) (with_marks_lem (marked false true true false true true))
+    ∷ hears (marked_with (marked false false false false false true)) (to_p 9 0 + 0xB0C0) (heard 0 PeerAbortWait)
+    (marked_with (marked false false false false false true))
+    ∷ hears (marked_with (marked false true true false true true)) 0xFE2C_0001_0A0B0C0D_0000_1234_00000003_0000_1234_FFFFFFFF_F8C0
+    (heard 0 PeerAbortWait) (marked_with (marked false true true false true true))
     ∷ []
 
 -- F (request 2026-13): the last number heard is accepted with no change, whatever else it says; any other makes an abort message
@@ -221,11 +221,11 @@ failed m = rec me peer (inw P C C 0x7788 false false no_urgent) used m
 abbrev failovers : List Row
 failovers =
     hears conn 0xFE2C_7788_0A0B0C0D_0000_1234_00000003_0000_1234_FFFFFFFF_F8C0 (heard 0 Active) conn
-    ∷ hears (with_marks_lem (marked true false true false true false)) (numbered 0x7788 + 0x0800) (heard 0 PeerCloseWait2)
-    (with_marks_lem (marked true false true false true false))
+    ∷ hears (marked_with (marked true false true false true false)) (numbered 0x7788 + 0x0800) (heard 0 PeerCloseWait2)
+    (marked_with (marked true false true false true false))
     ∷ answers conn (still + 0x0800) (heard 0 PeerAbortWait) (reply + 0x20) (failed (marked false false false false false true))
     ∷ answers conn (numbered 0x7787 + 0x0800) (heard 0 PeerAbortWait) (reply + 0x20) (failed (marked false false false false false true))
-    ∷ answers (with_marks_lem (marked true false false true false false)) 0xFE2C_5566_0A0B0C0D_0000_1234_00000003_0000_1234_FFFFFFFF_08C0
+    ∷ answers (marked_with (marked true false false true false false)) 0xFE2C_5566_0A0B0C0D_0000_1234_00000003_0000_1234_FFFFFFFF_08C0
     (heard 0 PeerAbortWait) (reply + 0xA0) (failed (marked true false false true false true))
     ∷ []
 

@@ -8,7 +8,7 @@ use Rattle.conn_record.specs.declared.Record.{Record}
 use Rattle.conn_record.specs.declared.Urgent.{Urgent}
 use Rattle.group_rules.specs.Rules.{Group, place, read, on, Says, refusal, accepted, was_read_of, torn}
 use Rattle.rows_conn.specs.Rows.{from, zeros, wire, cur, no_urgent, urgent_at, marked, none, inw, outw, rec, me, peer, P, C, T, Q, R}
-use Rattle.rows_conn.specs.Rows.{outs, conn, with_in, with_marks_lem, other, shut, grouped, element2, links13, holds, group, done, Row}
+use Rattle.rows_conn.specs.Rows.{outs, conn, with_in, marked_with, other, shut, grouped, element2, links13, holds, group, done, Row}
 use Rattle.rows_conn.specs.Rows.{silent, refused, Right}
 
 -- PLACE. The element once the bytes are stored, or 9
@@ -63,8 +63,8 @@ placed =
     ∷ places conn 0 [] element2
     ∷ places full 99 [] element2
     -- D or C sent does not forbid
-    ∷ places (with_marks_lem (marked true false false false true false)) 11 (1 ∷ []) (eye (from 0xA4 7 ++ (1 ∷ 0xAC ∷ 0xAD ∷ [])))
-    ∷ places (with_marks_lem (marked false true false false true false)) 11 (1 ∷ []) (eye (from 0xA4 7 ++ (1 ∷ 0xAC ∷ 0xAD ∷ [])))
+    ∷ places (marked_with (marked true false false false true false)) 11 (1 ∷ []) (eye (from 0xA4 7 ++ (1 ∷ 0xAC ∷ 0xAD ∷ [])))
+    ∷ places (marked_with (marked false true false false true false)) 11 (1 ∷ []) (eye (from 0xA4 7 ++ (1 ∷ 0xAC ∷ 0xAD ∷ [])))
     ∷ []
 
 -- READ into an out buffer: what it says, out afterwards, the record; and with a message
@@ -180,9 +180,9 @@ have_read =
     (holds links13 (pct P (cur 3 0) T) (damaged 0xE2 0xD4 0xC3 0xD8))
     ∷ reads (holds (true ∷ true ∷ false ∷ true ∷ []) conn (damaged 0xE2 0xD4 0xC3 0xD8)) (1 ∷ []) (refusal 6) (1 ∷ [])
     (holds (true ∷ true ∷ false ∷ true ∷ []) conn (damaged 0xE2 0xD4 0xC3 0xD8))
-    ∷ reads (holds links13 (with_marks_lem (marked false true false false true false)) (damaged 0xE2 0xD4 0xC3 0xD8)) (1 ∷ []) (refusal 7) (1
+    ∷ reads (holds links13 (marked_with (marked false true false false true false)) (damaged 0xE2 0xD4 0xC3 0xD8)) (1 ∷ []) (refusal 7) (1
     ∷ [])
-    (holds links13 (with_marks_lem (marked false true false false true false)) (damaged 0xE2 0xD4 0xC3 0xD8))
+    (holds links13 (marked_with (marked false true false false true false)) (damaged 0xE2 0xD4 0xC3 0xD8))
     -- marks that do not forbid
     ∷ last (marked true false false false true false) 0xFE2C_5566_11223344_0000_89F0_00000006_0000_0003_00000005_0080
     ∷ last (marked false false true false false false) 0xFE2C_5566_11223344_0000_89F0_00000006_0000_0003_00000005_0000

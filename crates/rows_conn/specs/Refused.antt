@@ -8,7 +8,7 @@ use Rattle.conn_record.specs.declared.Record.{Record}
 use Rattle.group_rules.specs.Rules.{Group, Request, send, urgent, gather, place, read, shutdown, close, abort, on, hear, manage, free_slot}
 use Rattle.group_rules.specs.Rules.{refusal, accepted, heard}
 use Rattle.rows_conn.specs.Rows.{from, zeros, octets, cur, no_urgent, marked, none, who, inw, rec, me, peer, ins, outs, conn}
-use Rattle.rows_conn.specs.Rows.{with_me, with_marks_lem, other, shut, grouped, element2, links13, holds, group, done, Row, silent}
+use Rattle.rows_conn.specs.Rows.{with_me, marked_with, other, shut, grouped, element2, links13, holds, group, done, Row, silent}
 use Rattle.rows_conn.specs.Rows.{refused, Right}
 
 -- THE CALLS of a connection, each with what is lent as an out buffer
@@ -47,10 +47,10 @@ abbrev three : Group
 three = holds down (rec (who 0 0x11223344 3) peer ins outs aborted) element2
 
 abbrev six : Group
-six = holds down (with_marks_lem aborted) element2
+six = holds down (marked_with aborted) element2
 
 abbrev seven : Group
-seven = group (with_marks_lem aborted)
+seven = group (marked_with aborted)
 
 -- a memory of 41 bytes for 3 x 14, and nothing right behind it
 abbrev short : Group
@@ -71,16 +71,16 @@ ordered =
 -- close after C or A sent; abort after A sent; free outside PeerAbortWait". Where one mark alone forbids; the calls that it does not
 -- forbid are in the other tables
 abbrev d_sent : Group
-d_sent = group (with_marks_lem (marked true false false false true false))
+d_sent = group (marked_with (marked true false false false true false))
 
 abbrev c_sent : Group
-c_sent = group (with_marks_lem (marked false true false false true false))
+c_sent = group (marked_with (marked false true false false true false))
 
 abbrev d_heard : Group
-d_heard = group (with_marks_lem (marked false false true false false false))
+d_heard = group (marked_with (marked false false true false false false))
 
 abbrev c_heard : Group
-c_heard = group (with_marks_lem (marked false false false true false false))
+c_heard = group (marked_with (marked false false false true false false))
 
 abbrev free : Group → Row
 free g = refused g (manage (free_slot 2)) 7

@@ -137,8 +137,8 @@ with_in i = rec me peer i outs none
 abbrev pub with_out : Outbound → Record
 with_out o = rec me peer ins o none
 
-abbrev pub with_marks_lem : Marks → Record
-with_marks_lem m = rec me peer ins outs m
+abbrev pub marked_with : Marks → Record
+marked_with m = rec me peer ins outs m
 
 -- a closed record is all zeros
 abbrev pub closed_slot : Record

@@ -10,7 +10,7 @@ use Rattle.conn_record.specs.declared.Record.{Record}
 use Rattle.conn_gather.specs.Pieces.{Piece}
 use Rattle.group_rules.specs.Rules.{send, urgent, gather, on, sent, gathered}
 use Rattle.rows_conn.specs.Rows.{from, cur, no_urgent, urgent_at, marked, none, who, inw, outw, rec, me, peer, P, C, Q, R, ins, conn}
-use Rattle.rows_conn.specs.Rows.{with_out, with_me, with_marks_lem, element2, holds, Row, tells, quiet, says, Right}
+use Rattle.rows_conn.specs.Rows.{with_out, with_me, marked_with, element2, holds, Row, tells, quiet, says, Right}
 
 -- key, address, start, length
 abbrev to : ℕ → ℕ → ℕ → ℕ → Placing
@@ -91,7 +91,7 @@ rows =
     (sent 1 (to 0xA3B3C3D3 0x212223242526277E 0 1 ∷ [])) 0xFE2C_5566_11223344_0000_89F0_00000007_0000_0000_00000005_0000
     (told (outw (cur 7 0x89F0) R 0x5567 false (record { standing = false; place = cur 9 8 })))
     -- D heard does not forbid
-    ∷ says (send (bytes 1)) (with_marks_lem (marked false false true false false false)) (sent 1 (to 0xA3B3C3D3 0x212223242526277E 0 1 ∷ []))
+    ∷ says (send (bytes 1)) (marked_with (marked false false true false false false)) (sent 1 (to 0xA3B3C3D3 0x212223242526277E 0 1 ∷ []))
     0xFE2C_5566_11223344_0000_89F0_00000007_0000_0000_00000005_0000
     (rec me peer (inw P C C 0x7788 false false no_urgent) (outw (cur 7 0x89F0) R 0x5567 false no_urgent)
     (marked false false true false false false))

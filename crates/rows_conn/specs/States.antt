@@ -7,7 +7,7 @@ use Rattle.closing.specs.declared.State.TheVariants.{Active, PeerCloseWait1, Pee
 use Rattle.closing.specs.declared.State.TheVariants.{Closed}
 use Rattle.closing.specs.Closing.{state_of, done_sent, closed_sent, abort_sent, marks_heard}
 use Rattle.group_rules.specs.Rules.{heard}
-use Rattle.rows_conn.specs.Rows.{no_urgent, marked, inw, rec, me, peer, P, C, T, outs, with_marks_lem, closed_slot, group, Row, silent}
+use Rattle.rows_conn.specs.Rows.{no_urgent, marked, inw, rec, me, peer, P, C, T, outs, marked_with, closed_slot, group, Row, silent}
 use Rattle.rows_conn.specs.Rows.{heard_bytes, Right}
 
 -- A message that moves no cursor, with byte 25 as given; the record after it, the number stored
@@ -18,18 +18,18 @@ plain = 0xFE2C_7789_0A0B0C0D_0000_0000_00000008_0000_89EF_00000011_0000
 abbrev state : Bool → Bool → Bool → Bool → Bool → State → Row
 state ds cs dh ch first s =
     let m = marked ds cs dh ch first false in
-    silent (group (with_marks_lem m)) (heard_bytes plain) (heard 0 s)
+    silent (group (marked_with m)) (heard_bytes plain) (heard 0 s)
     (group (rec me peer (inw P C T 0x7789 false false no_urgent) outs m))
 
 -- both C: once the second is heard, and the slot is closed
 abbrev both : Bool → Bool → Bool → Row
 both ds dh first =
-    silent (group (with_marks_lem (marked ds true dh false first false))) (heard_bytes (plain + 0x40)) (heard 0 Closed) (group closed_slot)
+    silent (group (marked_with (marked ds true dh false first false))) (heard_bytes (plain + 0x40)) (heard 0 Closed) (group closed_slot)
 
 -- A sent, and the same marks: accepted, no change
 abbrev waits : Bool → Bool → Bool → Bool → Bool → Row
 waits ds cs dh ch first =
-    let c = with_marks_lem (marked ds cs dh ch first true) in
+    let c = marked_with (marked ds cs dh ch first true) in
     silent (group c) (heard_bytes (plain + 0xC0)) (heard 0 PeerAbortWait) (group c)
 
 unfoldable pub rows : List Row

@@ -271,7 +271,7 @@ module _ (g : Group) (c : Call) (k : ℕ) (j : Taken) (w : InOrder g k j) where
       settled j e
       (record {
         counted = w.counted;
-        last_heard_lem = λ o. ap (λ (x : Record). x.inbound.last) r ∙ w.last_heard_lem (was_open r o);
+        last_number_heard = λ o. ap (λ (x : Record). x.inbound.last) r ∙ w.last_number_heard (was_open r o);
         mark_is = λ o. ap (λ (x : Record). x.marks.abort) r ∙ w.mark_is (was_open r o);
       })
 
@@ -281,7 +281,7 @@ module _ (g : Group) (c : Call) (k : ℕ) (j : Taken) (w : InOrder g k j) where
       settled j e
       (record {
         counted = w.counted;
-        last_heard_lem = λ o. ap (λ (x : Record). x.inbound.last) r ∙ ap (λ x. x.last) keeps.inbound ∙ w.last_heard_lem (was o);
+        last_number_heard = λ o. ap (λ (x : Record). x.inbound.last) r ∙ ap (λ x. x.last) keeps.inbound ∙ w.last_number_heard (was o);
         mark_is = λ o. ap (λ (x : Record). x.marks.abort) r ∙ ap (λ x. x.abort) keeps.marks ∙ w.mark_is (was o);
       })
     where
@@ -315,7 +315,7 @@ module _ (g : Group) (c : Call) (k : ℕ) (j : Taken) (w : InOrder g k j) where
     leaves_it : (l : Taken) (s : ℕ) (a : Bool) → l.numbers ≡ counted_from first_number (length l.numbers) → s ≡ length l.numbers % 65536
         → a ≡ l.aborted → Last s a t.after → After l
     leaves_it l s a e f h v =
-        record { counted = e; last_heard_lem = λ o. (left s a v o).0 ∙ f; mark_is = λ o. (left s a v o).1 ∙ h }
+        record { counted = e; last_number_heard = λ o. (left s a v o).0 ∙ f; mark_is = λ o. (left s a v o).1 ∙ h }
 
     by : (m : Message) → holder_of g m.token ≡ k → OpenAt g k → (z : Bool) → counts (record_of_all g k).marks.abort m t.answer.says ≡ z
         → with_message g k j (Good m) says ≡ cond z (with_number j m.sequence) (record { numbers = j.numbers; aborted = breaks_b m t.answer.says || j.aborted })
@@ -329,7 +329,7 @@ module _ (g : Group) (c : Call) (k : ℕ) (j : Taken) (w : InOrder g k j) where
         → After (with_message g k j (Good m) says)
     heard_it m o h (passes x l) =
         subst After (sym (by m h o false x))
-        (leaves_it (record { numbers = j.numbers; aborted = breaks_b m t.answer.says || j.aborted }) _ _ w.counted (w.last_heard_lem o)
+        (leaves_it (record { numbers = j.numbers; aborted = breaks_b m t.answer.says || j.aborted }) _ _ w.counted (w.last_number_heard o)
         (ap (λ z. breaks_b m t.answer.says || z) (w.mark_is o)) l)
     heard_it m o h (takes x q l) =
         subst After (sym (by m h o true x))
@@ -337,7 +337,7 @@ module _ (g : Group) (c : Call) (k : ℕ) (j : Taken) (w : InOrder g k j) where
         (w.mark_is o) l)
       where
         number : m.sequence ≡ (first_number + length j.numbers) % 65536
-        number = let v = w.last_heard_lem o in omega (arith, q, v)
+        number = let v = w.last_number_heard o in omega (arith, q, v)
 
         many : (first_number + length j.numbers) % 65536 ≡ length (j.numbers ++ (m.sequence ∷ [])) % 65536
         many = ap (λ x. x % 65536) (one_more j.numbers m.sequence)
@@ -347,7 +347,7 @@ module _ (g : Group) (c : Call) (k : ℕ) (j : Taken) (w : InOrder g k j) where
     this (asks q p o r) =
         settled (asked j q t.answer.says)
         (after (on k q) p ∙ (λ i. cond (eq-eqb k k refl i) (asked j q (said i)) j))
-        (leaves_it (asked j q t.answer.says) _ _ w.counted (w.last_heard_lem o)
+        (leaves_it (asked j q t.answer.says) _ _ w.counted (w.last_number_heard o)
         (ap (λ z. sends_a q t.answer.says || z) (w.mark_is o))
         (rw r (request_last g.N (link_of g k) (record_of_all g k) (element_in g k) q)))
     this (hears b m p d h o v r) =
@@ -441,4 +441,4 @@ pub numbers_in_order : NumbersInOrder
 numbers_in_order g f cs k =
     let closed : OpenAt g k → ⊥ = λ o. false≢true (sym (f.closed k) ∙ o) in
     list_in_order cs g (sound_fresh g f) k nothing_yet
-    (record { counted = refl; last_heard_lem = λ o. absurd (closed o); mark_is = λ o. absurd (closed o) })
+    (record { counted = refl; last_number_heard = λ o. absurd (closed o); mark_is = λ o. absurd (closed o) })

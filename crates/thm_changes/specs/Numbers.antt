@@ -105,7 +105,7 @@ counted_from a (suc n) = a % 65536 ∷ counted_from (a + 1) n
 -- last number heard, and its abort mark says whether we sent A
 pub record InOrder (h : Group) (k : ℕ) (j : Taken) : Type 0 where
   pub counted : j.numbers ≡ counted_from first_number (length j.numbers)
-  pub last_heard_lem : OpenAt h k → (record_of_all h k).inbound.last ≡ length j.numbers % 65536
+  pub last_number_heard : OpenAt h k → (record_of_all h k).inbound.last ≡ length j.numbers % 65536
   pub mark_is : OpenAt h k → (record_of_all h k).marks.abort ≡ j.aborted
 
 abbrev pub NumbersInOrder : Type 0

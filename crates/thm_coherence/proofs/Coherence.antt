@@ -65,7 +65,7 @@ module _ (n : ℕ) (from to at : Cursor) where
   stands_out : Laws.Stands n from to at → Stands n from to at
   stands_out s =
       record {
-        in_range_lem = range_out n at s.range;
+        is_in_range = range_out n at s.range;
         good = good_out (n - 4) from at s.good;
         after = after_out _ _ _ (gap_reach (n - 4) from at) s.least;
         up_to = up_out _ _ _ _ _ (gap_reach (n - 4) from at) (gap_reach (n - 4) from to) s.least s.most;
@@ -74,7 +74,7 @@ module _ (n : ℕ) (from to at : Cursor) where
   stands_in : Stands n from to at → Laws.Stands n from to at
   stands_in s =
       record {
-        range = range_in n at s.in_range_lem;
+        range = range_in n at s.is_in_range;
         good = good_in (n - 4) from at s.good;
         least = after_in _ _ _ (gap_reach (n - 4) from at) s.after;
         most = up_in _ _ _ _ _ (gap_reach (n - 4) from at) (gap_reach (n - 4) from to) s.up_to;
@@ -144,12 +144,12 @@ module _ (n : ℕ) (c : Record) where
             (gap_reach (n - 4) c.inbound.consumer c.inbound.producer) f.sum;
         R_to_Q = good_out (c.remote.size - 4) c.outbound.consumer c.outbound.producer f.rq_good;
         not_both = both_out c.marks.sent.closed c.marks.heard.closed f.not_both;
-        urgent_in_lem =
+        urgent_inbound =
             λ s. stands_out n c.inbound.consumer c.inbound.producer c.inbound.urgent.place
-            (place_facts n c.inbound.consumer c.inbound.producer c.inbound.urgent f.their_place_lem s);
+            (place_facts n c.inbound.consumer c.inbound.producer c.inbound.urgent f.at_their_place s);
         urgent-out =
             λ s. stands_out c.remote.size c.outbound.consumer c.outbound.producer c.outbound.urgent.place
-            (place_facts c.remote.size c.outbound.consumer c.outbound.producer c.outbound.urgent f.own_place_lem s);
+            (place_facts c.remote.size c.outbound.consumer c.outbound.producer c.outbound.urgent f.at_own_place s);
       }
 
   facts_in : Coherent n c → Laws.Coherent n c
@@ -172,10 +172,10 @@ module _ (n : ℕ) (c : Record) where
             sum_in _ _ _ _ _ _ _ (gap_reach (n - 4) c.inbound.told c.inbound.consumer)
             (gap_reach (n - 4) c.inbound.consumer c.inbound.producer) f.T_to_C.from_0 f.C_to_P.from_0 f.sum;
         rq_good = good_in (c.remote.size - 4) c.outbound.consumer c.outbound.producer f.R_to_Q;
-        their_place_lem =
+        at_their_place =
             place_by n c.inbound.consumer c.inbound.producer c.inbound.urgent
-            (λ s. stands_in n c.inbound.consumer c.inbound.producer c.inbound.urgent.place (f.urgent_in_lem s));
-        own_place_lem =
+            (λ s. stands_in n c.inbound.consumer c.inbound.producer c.inbound.urgent.place (f.urgent_inbound s));
+        at_own_place =
             place_by c.remote.size c.outbound.consumer c.outbound.producer c.outbound.urgent
             (λ s.
             stands_in c.remote.size c.outbound.consumer c.outbound.producer c.outbound.urgent.place (f.urgent-out s));

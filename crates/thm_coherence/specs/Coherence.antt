@@ -22,7 +22,7 @@ pub record Good (D : ℕ) (a b : Cursor) : Type 0 where
 
 -- "an urgent place lies after R up to Q, or after C up to P"
 pub record Stands (N : ℕ) (from to at : Cursor) : Type 0 where
-  pub in_range_lem : InRange N at
+  pub is_in_range : InRange N at
   pub good : Good (N - 4) from at
   pub after : from.offset < reach (N - 4) from at
   pub up_to : reach (N - 4) from at ≤ reach (N - 4) from to
@@ -61,7 +61,7 @@ pub record Coherent (N : ℕ) (c : Record) : Type 0 where
   pub R_to_Q : Good (c.remote.size - 4) c.outbound.consumer c.outbound.producer
   -- "the close marks sent and heard are not both C"
   pub not_both : c.marks.sent.closed ≡ true → c.marks.heard.closed ≡ true → ⊥
-  pub urgent_in_lem : c.inbound.urgent.standing ≡ true → Stands N c.inbound.consumer c.inbound.producer c.inbound.urgent.place
+  pub urgent_inbound : c.inbound.urgent.standing ≡ true → Stands N c.inbound.consumer c.inbound.producer c.inbound.urgent.place
   pub urgent-out :
       c.outbound.urgent.standing ≡ true
       → Stands c.remote.size c.outbound.consumer c.outbound.producer c.outbound.urgent.place

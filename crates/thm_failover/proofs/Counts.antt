@@ -317,9 +317,9 @@ counting g f cs k o =
     let n = list_next cs g (sound_fresh g f) k [] (λ z. absurd (false≢true (sym (f.closed k) ∙ z))) o in
     let i = numbers_in_order g f cs k in
     record {
-      next_is_lem = n;
+      next_number_is = n;
       F_carries = omega (arith, n);
-      last_is_lem =
+      last_number_is =
           λ a.
-          i.last_heard_lem o ∙ ap (λ x. x % 65536) (sym (list_took cs g k [] nothing_yet (λ e. refl) (sym (i.mark_is o) ∙ a)));
+          i.last_number_heard o ∙ ap (λ x. x % 65536) (sym (list_took cs g k [] nothing_yet (λ e. refl) (sym (i.mark_is o) ∙ a)));
     }

@@ -129,7 +129,7 @@ module _ (h : Group) (s : Sound h) (i : ℕ) (o : OpenAt h (suc i)) (a : (record
         says = ap (λ (z : Done). z.answer.says) is;
         one_made = ap (λ (z : Done). z.answer.made) is;
         abort_made = ap (λ (z : Done). z.answer.message) is ∙ sym (ap (λ (z : Done). z.answer.message) ab);
-        abort_left_lem = ap (λ (z : Done). z.group) is ∙ sym (ap (λ (z : Done). z.group) ab);
+        same_as_abort = ap (λ (z : Done). z.group) is ∙ sym (ap (λ (z : Done). z.group) ab);
         abort_says = ap (λ (z : Done). z.answer.says) ab;
       }
 
@@ -178,4 +178,4 @@ validation g₁ g₂ f₁ f₂ cs₁ cs₂ j (suc i) w b d =
     ((tokens_apart g₂ f₂ cs₂).the_only (suc i) m.token w.hearer_open (sym w.tokens)) refl refl
     (made g₁ cs₁ j) (took g₂ cs₂ (suc i))
     (counting g₁ f₁ cs₁ j w.sender_open).F_carries
-    ((counting g₂ f₂ cs₂ (suc i) w.hearer_open).last_is_lem w.hearer_not_A)
+    ((counting g₂ f₂ cs₂ (suc i) w.hearer_open).last_number_is w.hearer_not_A)

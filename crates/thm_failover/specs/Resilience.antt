@@ -211,9 +211,9 @@ took g cs k = took_from g k [] cs
 -- an open slot's next is 1 and those made, so F carries their count; the last heard of a slot that did not send A is the count of those
 -- taken; each mod 65,536
 pub record Counted (c : Record) (made took : List (List ℕ)) : Type 0 where
-  pub next_is_lem : c.outbound.next ≡ (1 + length made) % 65536
+  pub next_number_is : c.outbound.next ≡ (1 + length made) % 65536
   pub F_carries : (message_f c).sequence ≡ length made % 65536
-  pub last_is_lem : c.marks.abort ≡ false → c.inbound.last ≡ length took % 65536
+  pub last_number_is : c.marks.abort ≡ false → c.inbound.last ≡ length took % 65536
 
 abbrev pub Counting : Type 0
 Counting =
@@ -241,7 +241,7 @@ pub record Aborted (h : Group) (c : Call) (k : ℕ) : Type 0 where
   pub says : (answer h c).says ≡ heard 0 PeerAbortWait
   pub one_made : (answer h c).made ≡ true
   pub abort_made : (answer h c).message ≡ (answer h (on k abort)).message
-  pub abort_left_lem : next h c ≡ next h (on k abort)
+  pub same_as_abort : next h c ≡ next h (on k abort)
   pub abort_says : (answer h (on k abort)).says ≡ accepted
 
 abbrev pub Agree : List (List ℕ) → List (List ℕ) → Type 0

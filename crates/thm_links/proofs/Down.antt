@@ -139,7 +139,7 @@ unfolding fate_of bad_mtu fate_at fates
 fate_4 g l m d =
     let k = d.is_04 in
     let r = d.request in
-    let e = line_4 m k r d.not-all d.from_server_lem in
+    let e = line_4 m k r d.not-all d.from_the_server in
     (λ i. fate_number (cond (not_due g.exchange l m k r i) Taken (cond ((eqb (e i) 2 && not (leb 1 m.mtu && leb m.mtu 5)) && is_fate (fate_at (e i) (sort_of g.exchange)) Taken) Denied (fate_at (e i) (sort_of g.exchange)))))
     ∙ sort_is (λ s. fate_number (fate_at 4 s) ≡ 0) g.exchange refl (λ z. absurd (d.not_adding z)) (λ z. absurd (d.not_deleting z)) refl
 
@@ -254,7 +254,7 @@ down_by_server g l b r d =
     one_down g (message l b) m.link
     (ap (λ (s : Settled). s.touch) (heard_is g l b r (not_optional b (heard_04 g b d.is_04)))
     ∙ not_due_touch g l b m _ _ (not_due g.exchange l m d.is_04 d.request)
-    ∙ touch_4 m _ (line_4 m d.is_04 d.request d.not-all d.from_server_lem) (fate_4 g l m d))
+    ∙ touch_4 m _ (line_4 m d.is_04 d.request d.not-all d.from_the_server) (fate_4 g l m d))
 
 touch_due : (x : Exchange) → x.stage ≡ 5 → due_touch x ≡ Down x.w
 unfolding due_touch

@@ -173,13 +173,13 @@ settled_step a b s x t p q due =
     }
 
 -- A SEND THAT IS NOT REFUSED
-record Free (in_range_lem down outside : Bool) : Type 0 where
-  known : in_range_lem ≡ true
+record Free (is_in_range down outside : Bool) : Type 0 where
+  known : is_in_range ≡ true
   up : down ≡ false
   inside : outside ≡ false
 
-free : (in_range_lem down outside ok : Bool) → ◌≡◌ {A = ℕ} (cond (not in_range_lem) 13 (cond down 6 (cond outside 14 (cond (not ok) 15 0)))) 0
-    → Free in_range_lem down outside
+free : (is_in_range down outside ok : Bool) → ◌≡◌ {A = ℕ} (cond (not is_in_range) 13 (cond down 6 (cond outside 14 (cond (not ok) 15 0)))) 0
+    → Free is_in_range down outside
 free true false false ok e = record { known = refl; up = refl; inside = refl }
 free true false true ok e = clash (omega (arith, e))
 free true true outside ok e = clash (omega (arith, e))

@@ -114,7 +114,7 @@ pub record ServersDelete (g : Links) (m : Said) : Type 0 where
   pub is_04 : m.kind ≡ 0x04
   pub request : m.reply ≡ false
   pub not-all : m.a ≡ false
-  pub from_server_lem : m.client ≡ false
+  pub from_the_server : m.client ≡ false
   pub not_adding : (sort_of g.exchange ≡ add → ⊥)
   pub not_deleting : (sort_of g.exchange ≡ delete → ⊥)
 

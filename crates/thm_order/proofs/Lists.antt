@@ -138,10 +138,10 @@ module _ {A : Type 0} where
   at_get_or (x ∷ xs) zero d h = refl
   at_get_or (x ∷ xs) (suc i) d h = at_get_or xs i d (le_of_suc-le-suc h)
 
-  pub in_range_lem : (l : List A) (i : ℕ) (a : A) → get_elem? l i ≡ some a → i < length l
-  in_range_lem [] i a e = let z : ◌≡◌ {A = ℕ} 0 1 = cc in absurd (omega arith)
-  in_range_lem (x ∷ xs) zero a e = suc-le-suc zero-le
-  in_range_lem (x ∷ xs) (suc i) a e = suc-le-suc (in_range_lem xs i a e)
+  pub is_in_range : (l : List A) (i : ℕ) (a : A) → get_elem? l i ≡ some a → i < length l
+  is_in_range [] i a e = let z : ◌≡◌ {A = ℕ} 0 1 = cc in absurd (omega arith)
+  is_in_range (x ∷ xs) zero a e = suc-le-suc zero-le
+  is_in_range (x ∷ xs) (suc i) a e = suc-le-suc (is_in_range xs i a e)
 
   -- two lists as long as each other with the same elements by number
   pub same_list : (l m : List A) → length l ≡ length m → ((i : ℕ) → i < length l → get_elem? l i ≡ get_elem? m i) → l ≡ m

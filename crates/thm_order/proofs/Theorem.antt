@@ -13,7 +13,7 @@ use lib.ListN.{length, get_or, get_elem?}
 use borrow.Author.Tests.{eqb-true}
 use Rattle.group_rules.specs.Rules.{Group, Call, Answer, next, Fresh}
 use Rattle.thm_order.specs.Statement.{answers, leaves, At, Whose, the_manager, connection, nobody, owner_of, began_by, whose_from, whose, AnotherOrder, Made, none_made, one_made, Sentence3, NobodysCall, WhoSeesWhat}
-use Rattle.thm_order.proofs.Lists.{In, sift, in_sift, to_sift, Sorted, sorted_sift, sorted_by, sorted_map, sorted_unique, in_map, to_map, upto, in_upto, to_upto, sorted_upto, at_map, at_upto, at_get_or, in_range_lem, same_list, length_map', by_number, length_upto}
+use Rattle.thm_order.proofs.Lists.{In, sift, in_sift, to_sift, Sorted, sorted_sift, sorted_by, sorted_map, sorted_unique, in_map, to_map, upto, in_upto, to_upto, sorted_upto, at_map, at_upto, at_get_or, is_in_range, same_list, length_map', by_number, length_upto}
 use Rattle.thm_order.proofs.Scripts.{script, flat_script, sift_all, script_sift}
 use Rattle.thm_order.proofs.Acts.{sees_what}
 use Rattle.thm_order.proofs.Near.{Near, near_start, near_next, near_good, fresh_good, nobodys}
@@ -158,7 +158,7 @@ module _ (g : Group) (fresh : Fresh g) (first second : List Call) (o : AnotherOr
 
   pub same_owner : (i : ℕ) (w : Whose) → At (whose g first) i w → At (whose g second) (place i) w
   same_owner i w e =
-      let h : i < length first = omega (arith, in_range_lem (whose g first) i w e, length_whose g g first) in
+      let h : i < length first = omega (arith, is_in_range (whose g first) i w e, length_whose g g first) in
       let t = rw (flat_script manages secondly) at (whose_marked call tag g g (script manages secondly) outcome.marks) in
       ap (λ u. get_elem? (whose g u) (place i)) (sym second_is)
       ∙ ap (λ u. get_elem? u (place i)) t
@@ -169,7 +169,7 @@ module _ (g : Group) (fresh : Fresh g) (first second : List Call) (o : AnotherOr
 
   pub same_answer : (i : ℕ) (a : Answer) → At (answers g first) i a → At (answers g second) (place i) a
   same_answer i a e =
-      let h : i < length first = omega (arith, in_range_lem (answers g first) i a e, length_answers g first) in
+      let h : i < length first = omega (arith, is_in_range (answers g first) i a e, length_answers g first) in
       let r = says_at call tag g secondly (place i) i (at_place i h) in
       let f = outcome.answered i r.0 (rw (flat_script manages secondly) r.2) in
       let t = at_says call tag g firstly i r.0 (rw (flat_script manages firstly) at f) in
@@ -182,7 +182,7 @@ module _ (g : Group) (fresh : Fresh g) (first second : List Call) (o : AnotherOr
       ∙ e
     where
       same : (j : ℕ) → At firstly j i → j ≡ i
-      same j e = some-injective j i (sym (at_upto (length first) j (rw (length_upto (length first)) at (in_range_lem firstly j i e))) ∙ e)
+      same j e = some-injective j i (sym (at_upto (length first) j (rw (length_upto (length first)) at (is_in_range firstly j i e))) ∙ e)
 
 -- calls that were made answered and left what the rules say
 pub by_rules : {g : Group} {cs : List Call} {said : List Answer} {end : Group} → Made g cs said end

@@ -92,8 +92,8 @@ module _ (h : Group) (s : Sound h) (j n : ℕ) (out : List ℕ) (says : (answer 
       omega (arith, ap length read_out, length-append (take n (ring_from e at)) (drop n out), size)
 
   module _ (i : ℕ) (l : i < n) where
-    pub in_data_lem : 4 ≤ offset_from h.N at i
-    in_data_lem =
+    pub within_data : 4 ≤ offset_from h.N at i
+    within_data =
         elim (dec_lt (at + i) h.N) [
           | yes p ↦ rw (lt-ltb (at + i) h.N p) (omega (arith, low))
           | no p ↦ rw (le-ltb (at + i) h.N (omega arith)) (omega arith)

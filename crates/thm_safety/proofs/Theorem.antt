@@ -21,7 +21,7 @@ use Rattle.thm_safety.proofs.Sound.{sound_fresh, sound_leaves, leaves_sizes}
 use Rattle.thm_safety.proofs.Held.{held_leaves, fresh_zeros}
 use Rattle.thm_safety.proofs.Bytes.{unstored, stored, From, unopened, since_open, from_calls, still_closed}
 use Rattle.thm_safety.proofs.Own.{own_touched, own_seen}
-use Rattle.thm_safety.proofs.Reader.{not_slot_0, read_open, read_out, in_data_lem, read_byte}
+use Rattle.thm_safety.proofs.Reader.{not_slot_0, read_open, read_out, within_data, read_byte}
 
 -- what is shown of slots from 1 on holds of every open slot
 module _ (h : Group) (P : ℕ → Type 0) where
@@ -118,7 +118,7 @@ module _ (g : Group) (f : Fresh g) (cs : List Call) where
     each i l =
         let x = offset_from h.N (offset_c h (suc j)) i in
         let inside = (slot_in g.S (suc j) (slot j open_now)).1 in
-        let origin = from_calls cs g (sound_fresh g f) j x inside (in_data_lem h s j n out e i l) in
+        let origin = from_calls cs g (sound_fresh g f) j x inside (within_data h s j n out e i l) in
         subst₂
         (λ m v. let y = offset_from m (offset_c h (suc j)) i in Stored g cs (suc j) y v ⊎ Unstored g cs (suc j) y v)
         (leaves_sizes cs g (sound_fresh g f)).1

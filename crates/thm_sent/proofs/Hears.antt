@@ -167,7 +167,7 @@ module _ {d d' : ℕ} {c : Record} {o : Outward} {i : Inward} (held : Held d d' 
     next_number : next_b c m ≡ true
     unfolding next_b
     next_number =
-        eq-eqb m.sequence (sequence_after c.inbound.last) (omega (arith, b.sequence_is, number_is, inn.last_is_lem, last-was))
+        eq-eqb m.sequence (sequence_after c.inbound.last) (omega (arith, b.sequence_is, number_is, inn.last_number_is, last-was))
 
     produces : producer_b (d + 4) c m.producer ≡ true
     unfolding producer_b
@@ -244,7 +244,7 @@ module _ {d d' : ℕ} {c : Record} {o : Outward} {i : Inward} (held : Held d d' 
           U_is =
               (λ j. passed_by (size' j) (b.consumer_is j) (out.Q_is j) (out.U_is j))
               ∙ passed_at d' full' o.R o.Q k.read o.U f.R_z f.z_Q Q_R f.U_Q;
-          next_is_lem = out.next_is_lem;
+          next_number_is = out.next_number_is;
         }
 
     in_now : InwardIs d (plain_heard_in i k) c1.inbound
@@ -255,7 +255,7 @@ module _ {d d' : ℕ} {c : Record} {o : Outward} {i : Inward} (held : Held d d' 
           C_is = inn.C_is;
           T_is = inn.T_is;
           W_is = W_now;
-          last_is_lem = b.sequence_is ∙ ap (λ (j : ℕ). j % 65536) (sym b.number_is);
+          last_number_is = b.sequence_is ∙ ap (λ (j : ℕ). j % 65536) (sym b.number_is);
         }
 
     heard_over : marked c1.marks.heard ≡ true → (marked c.marks.heard ≡ true) ⊎ (ends_b m ≡ true)

@@ -124,7 +124,7 @@ module _ (d : ℕ) (full : 0 < d) where
     pieces_standing n h k =
         let t : Takes c head body n =
         record {
-          in_range_lem = (λ i. in_range (size i) (Q_is i)) ∙ range_at d full x;
+          is_in_range = (λ i. in_range (size i) (Q_is i)) ∙ range_at d full x;
           fits = omega (arith, size);
           offered = k;
         }

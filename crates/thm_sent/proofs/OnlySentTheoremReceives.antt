@@ -431,7 +431,7 @@ module _ (a : Act) (b : List ℕ) (first-is : FirstIs b a.e.coming) (all : AllPe
             let is = the_first.is.bears in
             let none : h.seen.s + cond mark.failover 0 1 ≡ h.seen.s = ap (λ (t : Bool). h.seen.s + cond t 0 1) far ∙ omega arith in
             let last = (pair.to_e.caught_up (sym (at_of a).mute_is ∙ live)).1 in
-            is.sequence_is ∙ ap (λ (j : ℕ). j % 65536) (none ∙ last) ∙ sym (at_of a).in_now.last_is_lem
+            is.sequence_is ∙ ap (λ (j : ℕ). j % 65536) (none ∙ last) ∙ sym (at_of a).in_now.last_number_is
 
         same : (st : State) × (o ≡ outcome_of (Heard 0 st) false (rec_of a))
         same =

@@ -327,7 +327,7 @@ module _ (a : Act) {e1 : End} {items : List Item} {p1 : Plain} {h1 : Hidden} {c1
     h2 = record { ended = ended_b c1.marks; seen = h1.seen }
 
     next_was : c1.outbound.next ≡ (p1.outward.made + 1) % 65536
-    next_was = mid.follows.kept.same_next ∙ (at_of a).out_now.next_is_lem ∙ ap (λ (x : ℕ). (x + 1) % 65536) (sym mid.made_same)
+    next_was = mid.follows.kept.same_next ∙ (at_of a).out_now.next_number_is ∙ ap (λ (x : ℕ). (x + 1) % 65536) (sym mid.made_same)
 
     ended_up : h1.ended ≡ true → ended_b c1.marks ≡ true
     ended_up z = by (or_cases (marked (rec_of a).marks.sent) (rec_of a).marks.abort ((at_of a).ended_is ∙ sym mid.ended_same ∙ z))
@@ -350,8 +350,8 @@ module _ (a : Act) {e1 : End} {items : List Item} {p1 : Plain} {h1 : Hidden} {c1
         let i = s.in_now in
         record {
           matched = matched_now;
-          out_now = record { Q_is = o.Q_is; R_is = o.R_is; U_is = o.U_is; next_is_lem = omega (arith, next_was) };
-          in_now = record { P_is = i.P_is; C_is = i.C_is; T_is = i.C_is; W_is = i.W_is; last_is_lem = i.last_is_lem };
+          out_now = record { Q_is = o.Q_is; R_is = o.R_is; U_is = o.U_is; next_number_is = omega (arith, next_was) };
+          in_now = record { P_is = i.P_is; C_is = i.C_is; T_is = i.C_is; W_is = i.W_is; last_number_is = i.last_number_is };
           ended_is = refl;
           over-is = s.over-is;
           mute_is = mute_now;

@@ -102,7 +102,7 @@ module _ {d d' : ℕ} {c : Record} {o : Outward} {i : Inward} (x : Held d d' c o
               C_is = at.C_is ∙ ap (cursor_at d) z;
               T_is = at.T_is;
               W_is = at.W_is ∙ ap (λ (y : ℕ). urgent_at d y i.W) z;
-              last_is_lem = at.last_is_lem;
+              last_number_is = at.last_number_is;
             };
         same_out = refl;
         same_marks = refl;
@@ -141,7 +141,7 @@ module _ {d d' : ℕ} {c : Record} {o : Outward} {i : Inward} (x : Held d d' c o
               W_is =
                   (λ j. passed_by (d + 4) (C_now j) (at.P_is j) (at.W_is j))
                   ∙ passed_at d full i.C i.P (i.C + taken) i.W (omega arith) (omega (arith, taken_at)) P_C W_P;
-              last_is_lem = at.last_is_lem;
+              last_number_is = at.last_number_is;
             };
         same_out = refl;
         same_marks = refl;

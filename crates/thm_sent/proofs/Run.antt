@@ -124,10 +124,10 @@ opened_rec {d = d} {d' = d'} o u match =
       matched = match;
       out_now =
           subst (λ (x : Outward). OutwardIs d' x (opened_record o).outbound) (sym u.none_out)
-          (record { Q_is = cursor_0 d'; R_is = cursor_0 d'; U_is = refl; next_is_lem = refl });
+          (record { Q_is = cursor_0 d'; R_is = cursor_0 d'; U_is = refl; next_number_is = refl });
       in_now =
           subst (λ (x : Inward). InwardIs d x (opened_record o).inbound) (sym u.none_in)
-          (record { P_is = cursor_0 d; C_is = cursor_0 d; T_is = cursor_0 d; W_is = refl; last_is_lem = refl });
+          (record { P_is = cursor_0 d; C_is = cursor_0 d; T_is = cursor_0 d; W_is = refl; last_number_is = refl });
       ended_is = sym u.not_ended;
       over-is = λ z. absurd (false≢true z);
       mute_is = sym u.not_mute;

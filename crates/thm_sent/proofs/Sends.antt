@@ -102,7 +102,7 @@ module _ {d d' : ℕ} {c : Record} {o : Outward} {i : Inward} (x : Held d d' c o
         Q_is = at.Q_is ∙ ap (cursor_at d') z;
         R_is = at.R_is;
         U_is = at.U_is ∙ ap (urgent_at d' o.R) (sym same);
-        next_is_lem = at.next_is_lem;
+        next_number_is = at.next_number_is;
       }
     where
       same : new_u 0 ≡ o.U
@@ -208,7 +208,7 @@ module _ {d d' : ℕ} {c : Record} {o : Outward} {i : Inward} (x : Held d d' c o
 
     produced_at : new_u (n_of c len) ≡ o.U → OutwardIs d' (plain_sent o u len (n_of c len)) c1.outbound
     unfolding plain_sent produced_of produced_out
-    produced_at e = record { Q_is = Q_now; R_is = at.R_is; U_is = at.U_is ∙ ap (urgent_at d' o.R) (sym e); next_is_lem = at.next_is_lem }
+    produced_at e = record { Q_is = Q_now; R_is = at.R_is; U_is = at.U_is ∙ ap (urgent_at d' o.R) (sym e); next_number_is = at.next_number_is }
 
     sends : u ≡ false → Does (sent_of c len)
     unfolding sent_of produced_of produced_out
@@ -243,7 +243,7 @@ module _ {d d' : ℕ} {c : Record} {o : Outward} {i : Inward} (x : Held d d' c o
               ap place_at Q_now
               ∙ ap (λ (t : Bool). cond t (place_at (cursor_at d' (o.Q + n_of c len))) no_place) (sym later)
               ∙ ap (urgent_at d' o.R) (sym becomes);
-          next_is_lem = at.next_is_lem;
+          next_number_is = at.next_number_is;
         })
         refl refl refl
       where

@@ -268,7 +268,7 @@ module _ (a : Act) where
             producer_is = at.out_now.Q_is;
             consumer_is = at.in_now.C_is;
             taken_is = refl;
-            sequence_is = omega (arith, at.out_now.next_is_lem);
+            sequence_is = omega (arith, at.out_now.next_number_is);
             number_is = omega arith;
             failover_is = refl;
             not_abort = λ x. tells_live (plan_of e.group.links (next_of a).links) e.group.N (rec_of a) y;

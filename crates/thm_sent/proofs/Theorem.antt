@@ -55,7 +55,7 @@ only_sent_by {f = f} w =
     record {
       first_so_many = x.got_is ∙ ap (λ (j : ℕ). take j f.took) (sym (got_long x));
       from_element = x.read.holds_are;
-      in_data_lem = λ i o a. let y = x.read.each i o a in (y.0, omega (arith, y.1, w.at_e.N_is));
+      within_data = λ i o a. let y = x.read.each i o a in (y.0, omega (arith, y.1, w.at_e.N_is));
       where_put = λ i o a. (x.read.each i o a).2;
     }
 

@@ -184,7 +184,7 @@ pub record OnlySent (e other : End) : Type 0 where
   pub first_so_many : e.read.got ≡ take (length e.read.got) other.took
   -- "EACH WAS READ FROM THIS ELEMENT'S DATA,"
   pub from_element : map holds_of e.read.origins ≡ e.read.got
-  pub in_data_lem : (i : ℕ) (o : Origin) → At e.read.origins i o → (4 ≤ o.offset) × (o.offset < e.group.N)
+  pub within_data : (i : ℕ) (o : Origin) → At e.read.origins i o → (4 ≤ o.offset) × (o.offset < e.group.N)
   -- "WHERE A PLACING OF THIS CONNECTION PUT IT": the placing of the byte with the same number
   pub where_put : (i : ℕ) (o : Origin) → At e.read.origins i o → o.put ≡ some i
 

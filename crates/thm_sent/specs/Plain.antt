@@ -181,14 +181,14 @@ pub record OutwardIs (d' : ℕ) (o : Outward) (c : Outbound) : Type 0 where
   pub Q_is : c.producer ≡ cursor_at d' o.Q
   pub R_is : c.consumer ≡ cursor_at d' o.R
   pub U_is : c.urgent ≡ urgent_at d' o.R o.U
-  pub next_is_lem : c.next ≡ (o.made + 1) % 65536
+  pub next_number_is : c.next ≡ (o.made + 1) % 65536
 
 pub record InwardIs (d : ℕ) (i : Inward) (c : Inbound) : Type 0 where
   pub P_is : c.producer ≡ cursor_at d i.P
   pub C_is : c.consumer ≡ cursor_at d i.C
   pub T_is : c.told ≡ cursor_at d i.T
   pub W_is : c.urgent ≡ urgent_at d i.C i.W
-  pub last_is_lem : c.last ≡ i.last % 65536
+  pub last_number_is : c.last ≡ i.last % 65536
 
 -- a message under way carries the cursors and the number of its mark
 pub data Carries (d d' : ℕ) : List Item → List Mark → Type 0 where

@@ -70,7 +70,7 @@ gathered_in_pieces g k h b n ps e = sized (sizes_ok g) refl
         let most = room_most c.remote.size c.outbound.consumer c.outbound.producer in
         record {
           named = s.2;
-          pieces = gather_pieces c h b n (record { in_range_lem = facts.q_range; fits = omega (arith, takes.0); offered = takes.1 });
+          pieces = gather_pieces c h b n (record { is_in_range = facts.q_range; fits = omega (arith, takes.0); offered = takes.1 });
           new-q =
               sym (ap (λ (x : Record). x.outbound.producer) (slot_left g k (gather h b) ok was)
               ∙ send_steps g.N (link_of g k) c len n s.0 r);

@@ -190,8 +190,8 @@ urgent_heard M N a b len p m ends all some whole h =
                 one_size = ap (λ (r : Record). r.remote.size) (whole_after M a len p some whole) ∙ ends.one_size;
                 may_read = ap (λ (r : Record). read_forbids r.marks) answered ∙ ends.may_read;
               };
-          own_place_lem = ap (λ (r : Record). r.outbound.urgent) (whole_after M a len p some whole) ∙ ap (λ (r : Record). place_at r.outbound.producer) (sym (whole_after M a len p some whole));
-          their_place_lem =
+          at_own_place = ap (λ (r : Record). r.outbound.urgent) (whole_after M a len p some whole) ∙ ap (λ (r : Record). place_at r.outbound.producer) (sym (whole_after M a len p some whole));
+          at_their_place =
               ap (λ (r : Record). r.inbound.urgent) answered
               ∙ ap (λ (t : Bool). cond t (place_at m.producer) b.inbound.urgent) urges
               ∙ ap place_at (produces ∙ sym (ap (λ (r : Record). r.outbound.producer) (whole_after M a len p some whole)));
@@ -226,12 +226,12 @@ module _ (M N : ℕ) (a b : Record) (room : ℕ) (w : Pending M N a b) where
   f = coherent_facts N b w.ends.theirs
 
   place_is : i.urgent ≡ place_at i.producer
-  place_is = w.their_place_lem ∙ ap place_at (sym w.heard_all)
+  place_is = w.at_their_place ∙ ap place_at (sym w.heard_all)
 
   unread_some : 1 ≤ gap_cp N b
   unread_some =
       (place_facts N i.consumer i.producer (place_at i.producer)
-      (ap (place_ok N i.consumer i.producer) (sym place_is) ∙ f.their_place_lem) refl).least
+      (ap (place_ok N i.consumer i.producer) (sym place_is) ∙ f.at_their_place) refl).least
 
   read_is : read_now N b room ≡ outcome_of (Read n) (tells N b room) (left N b room)
   unfolding read_of
@@ -303,8 +303,8 @@ module _ (M N : ℕ) (a b : Record) (room : ℕ) (w : Pending M N a b) where
                 one_size = w.ends.one_size;
                 may_read = ap read_forbids s.marks ∙ w.ends.may_read;
               };
-          own_place_lem = w.own_place_lem;
-          their_place_lem = s.place ∙ w.their_place_lem;
+          at_own_place = w.at_own_place;
+          at_their_place = s.place ∙ w.at_their_place;
           heard_all = s.producer ∙ w.heard_all;
         },
         (λ x. gap_of (N - 4) (s.consumer x) (s.producer x) + sym taken x) ∙ moved.1,

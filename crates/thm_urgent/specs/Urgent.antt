@@ -68,8 +68,8 @@ pub record Ends (M N : ℕ) (a b : Record) : Type 0 where
 -- both have Q for the urgent place, and the peer has heard of all up to Q
 pub record Pending (M N : ℕ) (a b : Record) : Type 0 where
   pub ends : Ends M N a b
-  pub own_place_lem : a.outbound.urgent ≡ place_at a.outbound.producer
-  pub their_place_lem : b.inbound.urgent ≡ place_at a.outbound.producer
+  pub at_own_place : a.outbound.urgent ≡ place_at a.outbound.producer
+  pub at_their_place : b.inbound.urgent ≡ place_at a.outbound.producer
   pub heard_all : b.inbound.producer ≡ a.outbound.producer
 
 -- An urgent send taken whole, its message heard by a peer that had heard all before: the peer makes a message
