@@ -16,7 +16,7 @@ pub returns-then-not-offsets_ok : goal.returns-then-not-offsets_ok
 unfolding coherent_b
 returns-then-not-offsets_ok c =
     let numbers : numbers_ok c.args.rec ≡ true =
-        sym c.numbers_ok.ensures ∙ c.if-not-numbers_ok.false in
+    sym c.numbers_ok.ensures ∙ c.if-not-numbers_ok.false in
     let b = c in
     simp (numbers, ← b.offsets_ok.ensures, c.if-not-offsets_ok.true)
 
@@ -24,9 +24,9 @@ pub returns-then-not-distances_ok : goal.returns-then-not-distances_ok
 unfolding coherent_b
 returns-then-not-distances_ok c =
     let numbers : numbers_ok c.args.rec ≡ true =
-        sym c.numbers_ok.ensures ∙ c.if-not-numbers_ok.false in
+    sym c.numbers_ok.ensures ∙ c.if-not-numbers_ok.false in
     let offsets : (let a = c.args in offsets_ok a.n a.rec ≡ true) =
-        sym c.offsets_ok.ensures ∙ c.if-not-offsets_ok.false in
+    sym c.offsets_ok.ensures ∙ c.if-not-offsets_ok.false in
     let b = c in
     let o = b in
     simp (
@@ -40,11 +40,11 @@ pub returns : goal.returns
 unfolding coherent_b
 returns c =
     let numbers : numbers_ok c.args.rec ≡ true =
-        sym c.numbers_ok.ensures ∙ c.if-not-numbers_ok.false in
+    sym c.numbers_ok.ensures ∙ c.if-not-numbers_ok.false in
     let offsets : (let a = c.args in offsets_ok a.n a.rec ≡ true) =
-        sym c.offsets_ok.ensures ∙ c.if-not-offsets_ok.false in
+    sym c.offsets_ok.ensures ∙ c.if-not-offsets_ok.false in
     let distances : (let a = c.args in distances_ok a.n a.rec ≡ true) =
-        sym c.distances_ok.ensures ∙ c.if-not-distances_ok.false in
+    sym c.distances_ok.ensures ∙ c.if-not-distances_ok.false in
     let b = c in
     let o = b in
     simp (numbers, offsets, distances, c.places_ok.ensures)

@@ -24,7 +24,7 @@ pub returns-then-peer-eq0 : goal.returns-then-peer-eq0
 unfolding numbers_ok
 returns-then-peer-eq0 c =
     let own : ltb 0 c.args.rec.id.own ≡ true =
-        lt-ltb 0 c.args.rec.id.own (omega (arith, c.if-own-eq0.false)) in
+    lt-ltb 0 c.args.rec.id.own (omega (arith, c.if-own-eq0.false)) in
     let b = c in
     simp (own, le-ltb 0 b.args.rec.id.peer (omega (arith, c.if-peer-eq0.true)))
 
@@ -32,9 +32,9 @@ pub returns-then-link-lt1 : goal.returns-then-link-lt1
 unfolding numbers_ok
 returns-then-link-lt1 c =
     let own : ltb 0 c.args.rec.id.own ≡ true =
-        lt-ltb 0 c.args.rec.id.own (omega (arith, c.if-own-eq0.false)) in
+    lt-ltb 0 c.args.rec.id.own (omega (arith, c.if-own-eq0.false)) in
     let peer : ltb 0 c.args.rec.id.peer ≡ true =
-        lt-ltb 0 c.args.rec.id.peer (omega (arith, c.if-peer-eq0.false)) in
+    lt-ltb 0 c.args.rec.id.peer (omega (arith, c.if-peer-eq0.false)) in
     let b = c in
     simp (own, peer, lt-leb 1 b.args.rec.id.link (omega (arith, c.if-link-lt1.true)))
 
@@ -42,11 +42,11 @@ pub returns-then-link-gt-MOST_LINK : goal.returns-then-link-gt-MOST_LINK
 unfolding numbers_ok
 returns-then-link-gt-MOST_LINK c =
     let own : ltb 0 c.args.rec.id.own ≡ true =
-        lt-ltb 0 c.args.rec.id.own (omega (arith, c.if-own-eq0.false)) in
+    lt-ltb 0 c.args.rec.id.own (omega (arith, c.if-own-eq0.false)) in
     let peer : ltb 0 c.args.rec.id.peer ≡ true =
-        lt-ltb 0 c.args.rec.id.peer (omega (arith, c.if-peer-eq0.false)) in
+    lt-ltb 0 c.args.rec.id.peer (omega (arith, c.if-peer-eq0.false)) in
     let link_least : leb 1 c.args.rec.id.link ≡ true =
-        le-leb 1 c.args.rec.id.link (omega (arith, c.if-link-lt1.false)) in
+    le-leb 1 c.args.rec.id.link (omega (arith, c.if-link-lt1.false)) in
     let b = c in
     let a = b in
     simp (
@@ -60,13 +60,13 @@ pub returns-then-rec : goal.returns-then-rec
 unfolding numbers_ok
 returns-then-rec c =
     let own : ltb 0 c.args.rec.id.own ≡ true =
-        lt-ltb 0 c.args.rec.id.own (omega (arith, c.if-own-eq0.false)) in
+    lt-ltb 0 c.args.rec.id.own (omega (arith, c.if-own-eq0.false)) in
     let peer : ltb 0 c.args.rec.id.peer ≡ true =
-        lt-ltb 0 c.args.rec.id.peer (omega (arith, c.if-peer-eq0.false)) in
+    lt-ltb 0 c.args.rec.id.peer (omega (arith, c.if-peer-eq0.false)) in
     let link_least : leb 1 c.args.rec.id.link ≡ true =
-        le-leb 1 c.args.rec.id.link (omega (arith, c.if-link-lt1.false)) in
+    le-leb 1 c.args.rec.id.link (omega (arith, c.if-link-lt1.false)) in
     let link_most : leb c.args.rec.id.link most_link ≡ true =
-        le-leb c.args.rec.id.link most_link (omega (arith, c.if-link-gt-MOST_LINK.false)) in
+    le-leb c.args.rec.id.link most_link (omega (arith, c.if-link-gt-MOST_LINK.false)) in
     let b = c in
     let a = b in
     simp (
@@ -82,13 +82,13 @@ pub returns : goal.returns
 unfolding numbers_ok
 returns c =
     let own : ltb 0 c.args.rec.id.own ≡ true =
-        lt-ltb 0 c.args.rec.id.own (omega (arith, c.if-own-eq0.false)) in
+    lt-ltb 0 c.args.rec.id.own (omega (arith, c.if-own-eq0.false)) in
     let peer : ltb 0 c.args.rec.id.peer ≡ true =
-        lt-ltb 0 c.args.rec.id.peer (omega (arith, c.if-peer-eq0.false)) in
+    lt-ltb 0 c.args.rec.id.peer (omega (arith, c.if-peer-eq0.false)) in
     let link_least : leb 1 c.args.rec.id.link ≡ true =
-        le-leb 1 c.args.rec.id.link (omega (arith, c.if-link-lt1.false)) in
+    le-leb 1 c.args.rec.id.link (omega (arith, c.if-link-lt1.false)) in
     let link_most : leb c.args.rec.id.link most_link ≡ true =
-        le-leb c.args.rec.id.link most_link (omega (arith, c.if-link-gt-MOST_LINK.false)) in
+    le-leb c.args.rec.id.link most_link (omega (arith, c.if-link-gt-MOST_LINK.false)) in
     let b = c in
     let a = b in
     simp (

@@ -16,7 +16,7 @@ pub returns-then-size-gt-MOST_SIZE : goal.returns-then-size-gt-MOST_SIZE
 unfolding remote_ok
 returns-then-size-gt-MOST_SIZE c =
     let size_least : leb least_size c.args.r.size ≡ true =
-        le-leb least_size c.args.r.size (omega (arith, c.if-size-lt-LEAST_SIZE.false)) in
+    le-leb least_size c.args.r.size (omega (arith, c.if-size-lt-LEAST_SIZE.false)) in
     let b = c in
     simp (size_least, lt-leb b.args.r.size most_size (omega (arith, c.if-size-gt-MOST_SIZE.true)))
 
@@ -24,9 +24,9 @@ pub returns-then-index-lt1 : goal.returns-then-index-lt1
 unfolding remote_ok
 returns-then-index-lt1 c =
     let size_least : leb least_size c.args.r.size ≡ true =
-        le-leb least_size c.args.r.size (omega (arith, c.if-size-lt-LEAST_SIZE.false)) in
+    le-leb least_size c.args.r.size (omega (arith, c.if-size-lt-LEAST_SIZE.false)) in
     let size_most : leb c.args.r.size most_size ≡ true =
-        le-leb c.args.r.size most_size (omega (arith, c.if-size-gt-MOST_SIZE.false)) in
+    le-leb c.args.r.size most_size (omega (arith, c.if-size-gt-MOST_SIZE.false)) in
     let b = c in
     simp (size_least, size_most, lt-leb 1 b.args.r.index (omega (arith, c.if-index-lt1.true)))
 
@@ -34,11 +34,11 @@ pub returns-then-index-gt-MOST_INDEX : goal.returns-then-index-gt-MOST_INDEX
 unfolding remote_ok
 returns-then-index-gt-MOST_INDEX c =
     let size_least : leb least_size c.args.r.size ≡ true =
-        le-leb least_size c.args.r.size (omega (arith, c.if-size-lt-LEAST_SIZE.false)) in
+    le-leb least_size c.args.r.size (omega (arith, c.if-size-lt-LEAST_SIZE.false)) in
     let size_most : leb c.args.r.size most_size ≡ true =
-        le-leb c.args.r.size most_size (omega (arith, c.if-size-gt-MOST_SIZE.false)) in
+    le-leb c.args.r.size most_size (omega (arith, c.if-size-gt-MOST_SIZE.false)) in
     let index_least : leb 1 c.args.r.index ≡ true =
-        le-leb 1 c.args.r.index (omega (arith, c.if-index-lt1.false)) in
+    le-leb 1 c.args.r.index (omega (arith, c.if-index-lt1.false)) in
     let b = c in
     simp (
       size_least,
@@ -51,13 +51,13 @@ pub returns : goal.returns
 unfolding remote_ok
 returns c =
     let size_least : leb least_size c.args.r.size ≡ true =
-        le-leb least_size c.args.r.size (omega (arith, c.if-size-lt-LEAST_SIZE.false)) in
+    le-leb least_size c.args.r.size (omega (arith, c.if-size-lt-LEAST_SIZE.false)) in
     let size_most : leb c.args.r.size most_size ≡ true =
-        le-leb c.args.r.size most_size (omega (arith, c.if-size-gt-MOST_SIZE.false)) in
+    le-leb c.args.r.size most_size (omega (arith, c.if-size-gt-MOST_SIZE.false)) in
     let index_least : leb 1 c.args.r.index ≡ true =
-        le-leb 1 c.args.r.index (omega (arith, c.if-index-lt1.false)) in
+    le-leb 1 c.args.r.index (omega (arith, c.if-index-lt1.false)) in
     let index_most : leb c.args.r.index most_index ≡ true =
-        le-leb c.args.r.index most_index (omega (arith, c.if-index-gt-MOST_INDEX.false)) in
+    le-leb c.args.r.index most_index (omega (arith, c.if-index-gt-MOST_INDEX.false)) in
     let f = c in
     let b = f in
     simp (
