@@ -1,7 +1,7 @@
 -- What the hear for C and Rust promises: the rules' hear. Assumes nothing.
 use Rattle.std.specs.Prelude.{ℕ, ◌≡◌, Bool, cond, List, [], eqb}
 use Rattle.closing.specs.Closing.{state_at}
-use Rattle.group_rules.specs.Rules.{Says, refusal, heard, Group, Call, hear, Answer, answer}
+use Rattle.group_rules.specs.Rules.{Says, refusal, heard, Group, hear, Answer, answer}
 use Rattle.plan.specs.DirectMade.{Named, named_in, Made}
 use Rattle.plan_hear.specs.declared.HearAnswer.{HearAnswer}
 

@@ -1,6 +1,6 @@
 -- The small reading says what the rules' read says. Assumes nothing.
 use mathlib.Core.Path.{◌≡◌, refl, sym, ap, subst, ◌∙◌}
-use mathlib.Core.Bool.{Bool, true, false, ◌&&◌, ◌||◌, cond}
+use mathlib.Core.Bool.{Bool, true, false, ◌&&◌, cond}
 use mathlib.Core.List.{List}
 use Prim.Native.Nat.{ℕ, ◌-◌}
 use native.Mathlib.Omega.{arith}
@@ -11,7 +11,6 @@ use Rattle.cursor.specs.Cursor.{step_of}
 use Rattle.cursor.proofs.Laws.{good_most}
 use Rattle.cdc.specs.Cdc.{encode_of}
 use Rattle.closing.specs.declared.Marks.{Marks}
-use Rattle.closing.specs.Closing.{abort_sent}
 use Rattle.flow.specs.Flow.{taken_of, window_of}
 use Rattle.conn_record.specs.declared.Record.{Record}
 use Rattle.conn_answer.specs.declared.Reply.TheVariants.{Read}

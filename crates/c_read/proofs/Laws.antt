@@ -1,10 +1,10 @@
 -- What the walks of `reading_at`, `put`, `tell_at` and `fordlinnet_make_read` give. Assumes nothing.
 use Prim.Native.Nat.{ℕ, zero, suc, ◌<◌, ◌≤◌}
 use mathlib.Core.Path.{◌≡◌, refl, sym, ap, ◌∙◌, subst}
-use mathlib.Core.Bool.{Bool, true, false, ◌||◌, not, cond}
+use mathlib.Core.Bool.{Bool, true, false, ◌||◌, cond}
 use mathlib.Core.List.{List, []}
 use native.Mathlib.Omega.{arith}
-use lib.Dec.{ltb, eqb}
+use lib.Dec.{eqb}
 use lib.ListN.{length, get_or, set}
 use Rattle.cdc.specs.Cdc.{encode_of}
 use Rattle.element.specs.Element.{base_of, intact_at}
@@ -20,7 +20,6 @@ use Rattle.group_table.specs.Table.{sizes_b, index_of, record_at, with_record, a
 use Rattle.group_table.proofs.Laws.{record_kept}
 use Rattle.group_table.proofs.SlotsLaws.{record_at_returns, record_at_returns_2, put_record_returns, put_record_returns_2}
 use Rattle.group_rules.specs.Rules.{on, read, Answer, answer, Did, links_of, group_of, answer_of}
-use Rattle.group_calls.specs.Receiving.{copied_of}
 use Rattle.group_calls.proofs.Bytes.{read_none}
 use Rattle.group_calls.proofs.ReceivingLaws.{read_did}
 use Rattle.plan.specs.declared.LinkStates.{LinkStates}

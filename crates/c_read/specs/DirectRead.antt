@@ -1,6 +1,6 @@
 -- What the read for C and Rust promises: the rules' read. Assumes nothing.
 use Rattle.std.specs.Prelude.{ℕ, ◌≡◌, Bool, cond, List, eqb}
-use Rattle.group_rules.specs.Rules.{Says, refusal, was_read_of, torn, Group, Call, on, read, Answer, answer}
+use Rattle.group_rules.specs.Rules.{Says, refusal, was_read_of, torn, Group, on, read, Answer, answer}
 use Rattle.plan.specs.DirectMade.{Named, named_in, Made}
 use Rattle.plan_read.specs.declared.ReadAnswer.{ReadAnswer}
 
