@@ -8,7 +8,7 @@ use Rattle.group_table.specs.declared.Answered.{Answered}
 use Rattle.group_rules.specs.Rules.{Did, group_of, answer_of}
 use Rattle.group_make.specs.declared.Command.{Command}
 use Rattle.group_make.specs.Group.{call_of, out_left, OutKept}
-use Rattle.thm_order.specs.Statement.{Made, none_made, one_made}
+use Rattle.thm_order.specs.Statement.{none_made, one_made}
 use Rattle.example_series.specs.declared.Two.{Two}
 use Rattle.example_series.specs.Series.{MadeTwo, Joined, two_of}
 
