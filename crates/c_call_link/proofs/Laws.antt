@@ -1,17 +1,15 @@
 -- Why the answer that is told is the rules' answer in numbers, and what an unknown number leaves. Assumes nothing.
-use Prim.Native.Nat.{ℕ, ◌+◌, ◌*◌, ◌%◌, ◌≤◌}
-use mathlib.Core.Path.{◌≡◌, refl, sym, ap, ◌∙◌, subst}
+use Prim.Native.Nat.{ℕ, ◌*◌, ◌%◌, ◌≤◌}
+use mathlib.Core.Path.{◌≡◌, refl}
 use mathlib.Core.Bool.{Bool, true, false, cond}
 use mathlib.Core.List.{List, [], ◌∷◌}
 use native.Mathlib.Omega.{arith}
 use lib.Dec.{eqb, leb}
 use lib.ListN.{length}
 use Rattle.link_exchange.specs.declared.Fate.{Fate}
-use Rattle.gauge.specs.declared.Health.{Health}
 use Rattle.gauge.specs.declared.Health.TheVariants.{Unheard, Steady, Late}
 use Rattle.conn_record.specs.declared.Record.{Record}
 use Rattle.conn_record.proofs.Laws.{and_left}
-use Rattle.conn_answer.specs.declared.Placings.{Placings}
 use Rattle.conn_answer.specs.declared.Placings.TheVariants.{Nowhere, One, Two}
 use Rattle.conn_answer.specs.declared.Reply.{Reply}
 use Rattle.conn_answer.specs.declared.Reply.TheVariants.{Refused, Accepted, Sent, Read, Torn, Reset, Heard, Sampled}

@@ -7,7 +7,6 @@ use Rattle.link_message.specs.Llc.{class_of}
 use Rattle.link_message.specs.declared.Kind.{Kind}
 use Rattle.link_message.specs.declared.Kind.TheVariants as Kinds
 use Rattle.link_message.specs.Layouts.{code_of, kind_of, named_b}
-use Rattle.group_link.specs.declared.LinkCommand.{LinkCommand}
 use Rattle.group_link.specs.declared.LinkCommand.TheVariants.{Change, Message, Send}
 use Rattle.c_call_link.specs.declared.FlatLinkCommand.{FlatLinkCommand}
 use Rattle.c_call_link.specs.FlatLink.{link_known_b, link_named_of}

@@ -1,5 +1,5 @@
 -- Link change, link message and link send by their numbers, and their answers in numbers (requests 2026-01 and 2026-13). Assumes nothing.
-use Rattle.std.specs.Prelude.{ℕ, ◌%◌, ◌≡◌, Bool, true, false, ◌&&◌, ◌||◌, cond, List, [], eqb, replicate}
+use Rattle.std.specs.Prelude.{ℕ, ◌%◌, ◌≡◌, Bool, true, false, ◌&&◌, ◌||◌, cond, List, eqb, replicate}
 use Rattle.link_message.specs.Layouts.{code_of, kind_of, named_b}
 use Rattle.link_exchange.specs.declared.Fate.{Fate}
 use Rattle.link_exchange.specs.declared.Fate.TheVariants.{Taken, Queued, Denied, Dropped}
