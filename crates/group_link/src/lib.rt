@@ -309,7 +309,7 @@ fn beside(table: [Record; 300], done: LinkDone) -> LinkMade
     }
 }
 
-// Makes the call on the first `count` rows, which are lent. The proof is a walk, as that of every caller of `make`.
+// Makes the call on the first `count` rows, which are lent.
 pub fn on_rows(
     table: [Record; 300],
     count: usize,
