@@ -73,7 +73,7 @@ fn beside(table: [Record; 300], gathered: Gathered) -> GatherMade
     }
 }
 
-// Makes the call on the first `count` rows, which are lent. The proof is a walk, as that of every caller of `gather`.
+// Makes the call on the first `count` rows, which are lent.
 pub fn on_rows(
     table: [Record; 300],
     count: usize,
