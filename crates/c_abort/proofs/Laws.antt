@@ -1,4 +1,4 @@
--- What the walk of `fordlinnet_make_abort` gives. Assumes nothing.
+-- What the proof of `fordlinnet_make_abort` cites. Assumes nothing.
 use Prim.Native.Nat.{ℕ}
 use mathlib.Core.Path.{◌≡◌, subst}
 use mathlib.Core.Bool.{cond}

@@ -1,4 +1,4 @@
--- What `last_of` gives, and the walks of `last_at`, `gather_on`, `gather_unless` and `fordlinnet_make_gather` give. Assumes nothing.
+-- What `last_of` gives, and the proofs of `last_at`, `gather_on`, `gather_unless` and `fordlinnet_make_gather` cite. Assumes nothing.
 use Prim.Native.Nat.{ℕ, zero, suc, ◌+◌, ◌%◌, ◌^◌, ◌≤◌, ◌<◌}
 use mathlib.Core.Path.{◌≡◌, refl, sym, ap, ◌∙◌, subst}
 use mathlib.Core.Bool.{Bool, true, false, not, cond}

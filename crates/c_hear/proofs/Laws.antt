@@ -1,4 +1,4 @@
--- What the walks of `hearing_at`, `take_at`, `end_at`, `put`, `tell_at` and `fordlinnet_make_hear` give. Assumes nothing.
+-- What the proofs of `hearing_at`, `take_at`, `end_at`, `put`, `tell_at` and `fordlinnet_make_hear` cite. Assumes nothing.
 use Prim.Native.Nat.{ℕ, ◌<◌, ◌≤◌}
 use mathlib.Core.Path.{◌≡◌, refl, sym, ap, ◌∙◌, subst}
 use mathlib.Core.Bool.{Bool, true, false, ◌&&◌, ◌||◌, cond, false≢true}

@@ -1,4 +1,4 @@
--- What the walks of `placing_at` and `fordlinnet_make_place` give. Assumes nothing.
+-- What the proofs of `placing_at` and `fordlinnet_make_place` cite. Assumes nothing.
 use Prim.Native.Nat.{ℕ, ◌+◌, ◌<◌, ◌≤◌}
 use mathlib.Core.Path.{◌≡◌, refl, sym, ap, ◌∙◌, subst}
 use mathlib.Core.Bool.{Bool, true, false, not, cond}

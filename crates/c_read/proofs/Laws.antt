@@ -1,4 +1,4 @@
--- What the walks of `reading_at`, `put`, `tell_at` and `fordlinnet_make_read` give. Assumes nothing.
+-- What the proofs of `reading_at`, `put`, `tell_at` and `fordlinnet_make_read` cite. Assumes nothing.
 use Prim.Native.Nat.{ℕ, zero, suc, ◌<◌, ◌≤◌}
 use mathlib.Core.Path.{◌≡◌, refl, sym, ap, ◌∙◌, subst}
 use mathlib.Core.Bool.{Bool, true, false, ◌||◌, cond}

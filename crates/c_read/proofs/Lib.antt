@@ -1,3 +1,3 @@
--- `Agree`: a reading says what the rules' read says. `Laws`: the walks, and the contract.
+-- `Agree`: a reading says what the rules' read says. `Laws`: what the proofs cite, and the contract.
 pub mod Agree
 pub mod Laws

@@ -1,4 +1,4 @@
--- What the walks of `sending_at`, `put`, `tell_at`, `send_on`, `send_unless`, `send` and `fordlinnet_make_send` give. Assumes nothing.
+-- What the proofs of `sending_at`, `put`, `tell_at`, `send_on`, `send_unless`, `send` and `fordlinnet_make_send` cite. Assumes nothing.
 use Prim.Native.Nat.{ℕ, zero, suc, ◌<◌, ◌≤◌}
 use mathlib.Core.Path.{◌≡◌, refl, sym, ap, ◌∙◌, subst}
 use mathlib.Core.Bool.{Bool, true, false, not, cond}

@@ -1,3 +1,3 @@
--- `Agree`: a sending says what the rules' send says. `Laws`: the walks, and the contract.
+-- `Agree`: a sending says what the rules' send says. `Laws`: what the proofs cite, and the contract.
 pub mod Agree
 pub mod Laws

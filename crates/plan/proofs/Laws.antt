@@ -44,7 +44,7 @@ module _ (s n : ℕ) (active : List Bool) (k : ℕ) (c : Record) {b : Bool} (e :
   unfolding held_of
   held_none h = simp (← e, h)
 
--- the walks of `held_at` and `refusal_at`
+-- what the proofs of `held_at` and `refusal_at` cite
 pub held_at_returns : (s n : ℕ) (t : List Record) (links : LinkStates) (k : ℕ) (i : ℕ) → i ≡ index_of k (length t) → i < length t
     → (j : ℕ) → j ≡ held_of s n links.active k (get_or t i zero_record) → j ≡ held_of s n links.active k (record_at t k)
 held_at_returns s n t links k i e h j f = f ∙ ap (held_of s n links.active k) (record_at_returns t k i e h)

@@ -1,4 +1,4 @@
--- What the walks of `plan_at`, `told_at`, `put`, `shut`, `leave`, `finish_on` and `finish` give. Assumes nothing.
+-- What the proofs of `plan_at`, `told_at`, `put`, `shut`, `leave`, `finish_on` and `finish` cite. Assumes nothing.
 use borrow.Author.Tests.{lt-ltb, le-ltb}
 use Prim.Native.Nat.{ℕ, ◌<◌, ◌≤◌}
 use mathlib.Core.Path.{◌≡◌, refl, sym, ap, ◌∙◌, subst}
