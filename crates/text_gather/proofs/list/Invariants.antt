@@ -1,6 +1,5 @@
 -- `text_gather::list` is safe and ends: each piece before the empty one leaves fewer bytes of n. Assumes nothing.
 use Prim.Native.Nat.{◌-◌, ◌≤◌}
-use native.Mathlib.Omega.{arith}
 use Rattle.text_gather.proofs.list.Given as goal
 
 abbrev pub invariant-loop-p : goal.invariant-loop-p

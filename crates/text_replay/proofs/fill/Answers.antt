@@ -4,7 +4,7 @@ use lib.Seq.{drop-length}
 use lib.ListN.{replicate, length, drop, length-set}
 use borrow.Author.Fill.{fill_more}
 use native.Mathlib.Omega.{arith}
-use Prim.Native.Nat.{ℕ, ◌-◌, ◌≤◌, ◌<◌}
+use Prim.Native.Nat.{ℕ, ◌<◌}
 use mathlib.Core.Path.{◌≡◌, ap, ◌∙◌}
 use Rattle.text_replay.proofs.fill.Goals as goal
 

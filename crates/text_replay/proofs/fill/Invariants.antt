@@ -1,11 +1,8 @@
 -- `text_replay::fill` meets its contract: the byte b as far as the loop came. Assumes nothing.
-use Prim.Native.Nat.{ℕ, ◌-◌, ◌≤◌, ◌<◌}
-use borrow.Author.Fill.{fill_more}
-use lib.ListN.{replicate, length, drop, length-set}
-use lib.Seq.{drop-length}
-use mathlib.Core.List.{append-nil, List, ◌++◌}
-use mathlib.Core.Path.{◌≡◌, ap, ◌∙◌}
-use native.Mathlib.Omega.{arith}
+use Prim.Native.Nat.{◌-◌, ◌≤◌}
+use lib.ListN.{replicate, length, drop}
+use mathlib.Core.List.{◌++◌}
+use mathlib.Core.Path.{◌≡◌}
 use Rattle.text_replay.proofs.fill.Given as goal
 
 abbrev pub invariant-loop-i : goal.invariant-loop-i
