@@ -47,7 +47,10 @@ class Crates:
     """The crates of crates.txt, each with those that it names, and the words by which the prover is called."""
 
     def __init__(self):
-        self.deps = {name: needs for name, _, needs in edits.lines()}
+        lines = list(edits.lines())
+        own = {name for name, _, _ in lines}
+        self.deps = {name: [other for other in needs if other in own] for name, _, needs in lines}
+        self.of_kit = {name: [other for other in needs if other not in own] for name, _, needs in lines}
 
     def below(self, wanted):
         """These crates and all that they use, the lowest first."""
@@ -70,6 +73,8 @@ class Crates:
         words = ['--crate-name', name, root, '--extern', f'std={home}/rlibs/std.rlib', '-L', f'dependency={home}/rlibs']
         for other in self.deps[name]:
             words += ['--extern', f'{other}={os.path.abspath(os.path.join("crates", other, "out", "rlib", other + ".rlib"))}']
+        for other in self.of_kit[name]:
+            words += ['--extern', f'{other}={home}/rlibs/{other}.rlib']
         for other in self.below([name])[:-1]:
             words += ['-L', f'dependency={os.path.abspath(os.path.join("crates", other, "out", "rlib"))}']
         return words + ['--antt-project', f'{home}/rattle/logic/antt-project.json', '--logic-built', f'{home}/logic_built', '--links', f'{name}=']
@@ -142,9 +147,11 @@ class Tree(Crates):
                  '--antt-project', f'{home}/rattle/logic/antt-project.json', '--logic-built', f'{home}/logic_built',
                  '--jobs', str(jobs), '--incremental', saved, '-L', f'dependency={home}/rlibs', '--extern', f'core={home}/rlibs/core.rlib',
                  '--extern', f'std={home}/rlibs/std.rlib']
+        for other in sorted({other for name in self.below(wanted) for other in self.of_kit[name]}):
+            words += ['--extern', f'{other}={home}/rlibs/{other}.rlib']
         for name in self.below(wanted):
             folders = (os.path.join(place, 'crates', name) for place in (*places, self.work))
             folder = next(f for f in folders if os.path.isdir(f))
             root = os.path.join(folder, 'src', 'lib.rt')
-            words += ['--lib', f'{name}:{",".join(["core", "std"] + self.deps[name])}={root}']
+            words += ['--lib', f'{name}:{",".join(["core", "std"] + self.of_kit[name] + self.deps[name])}={root}']
         return subprocess.run(words, stdout=subprocess.PIPE, stderr=subprocess.STDOUT, text=True, errors='replace').stdout
