@@ -45,8 +45,8 @@ shut_b =
     (outwards start start) unmarked
 
 -- a connection with an urgent place of its own at a cursor, R at (5,0) and Q at (7,0); and with one in its element, C at (5,0), P at (7,0)
-abbrev pub field_own : Cursor → Group
-field_own u =
+abbrev pub own_at : Cursor → Group
+own_at u =
     a_group 1 8
     (laid token_a token_b 8 (inwards start start start)
     (record { producer = cur 7 0; consumer = cur 5 0; next = 1; blocked = false; urgent = place_at u }) unmarked
@@ -133,17 +133,17 @@ urgents =
     (told 0xFE2C_0001_0A0B0C0D_0000_0000_00000004_0000_0000_00000005_0000)
     ∷ [])
     -- one that stands lies after R up to Q, or 3; likewise after C up to P
-    ∷ plays (field_own (cur 5 0)) (gives (on 1 (send [])) (refusal 3) none ∷ [])
-    ∷ plays (field_own (cur 6 0)) (gives (on 1 (send [])) (sent 0 []) none ∷ [])
-    ∷ plays (field_own (cur 7 0)) (gives (on 1 (send [])) (sent 0 []) none ∷ [])
-    ∷ plays (field_own (cur 4 1)) (gives (on 1 (send [])) (refusal 3) none ∷ [])
-    ∷ plays (field_own (cur 8 0)) (gives (on 1 (send [])) (refusal 3) none ∷ [])
+    ∷ plays (own_at (cur 5 0)) (gives (on 1 (send [])) (refusal 3) none ∷ [])
+    ∷ plays (own_at (cur 6 0)) (gives (on 1 (send [])) (sent 0 []) none ∷ [])
+    ∷ plays (own_at (cur 7 0)) (gives (on 1 (send [])) (sent 0 []) none ∷ [])
+    ∷ plays (own_at (cur 4 1)) (gives (on 1 (send [])) (refusal 3) none ∷ [])
+    ∷ plays (own_at (cur 8 0)) (gives (on 1 (send [])) (refusal 3) none ∷ [])
     ∷ plays (theirs_at (cur 5 0)) (gives (on 1 (read [])) (refusal 3) none ∷ [])
     ∷ plays (theirs_at (cur 6 0)) (gives (on 1 (read [])) (was_read_of 0) none ∷ [])
     ∷ plays (theirs_at (cur 7 0)) (gives (on 1 (read [])) (was_read_of 0) none ∷ [])
     ∷ plays (theirs_at (cur 4 1)) (gives (on 1 (read [])) (refusal 3) none ∷ [])
     -- and one before Q is passed by a byte, or reached
-    ∷ plays (field_own (cur 6 0))
+    ∷ plays (own_at (cur 6 0))
     (gives (hears 0xFE2C_0001_0A0B0C0D_0000_0000_00000004_0000_0000_00000006_0000) (heard 0 Active) none
     ∷ gives (on 1 (send (bytes 1))) (sent 1 (placing 7 0 1 ∷ [])) (told 0xFE2C_0001_01020304_0000_0001_00000004_0000_0000_00000004_0000)
     ∷ [])
