@@ -58,7 +58,7 @@ pub struct Wrong {
 
 #[derive(Clone, Debug, PartialEq, Eq)]
 pub enum What {
-    /// `first-so-many`.
+    /// `first_so_many`.
     Byte {
         number: u64,
         read: u8,
@@ -200,7 +200,7 @@ impl End {
         }
     }
 
-    /// `landsIn`: by its key on its link, and base + (slot - 1) x N + offset.
+    /// `lands_in`: by its key on its link, and base + (slot - 1) x N + offset.
     fn lands(&self, link: u8, key: u32, address: u64) -> Option<u32> {
         let reach = self.reach[usize::from(link) - 1];
         let element = u64::from(self.slot - 1) * u64::from(self.size);
@@ -474,7 +474,7 @@ impl Books {
             let Some(offset) = owed.lands.filter(|offset| covered(*offset)) else { continue };
             owed.performed = true;
             if accepted {
-                // the first of several stands last: `numberAt`
+                // the first of several stands last: `number_at`
                 end.put[offset as usize] = Some(owed.number);
             }
         }

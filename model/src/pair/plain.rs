@@ -135,12 +135,12 @@ impl Plain {
     }
 }
 
-/// "`cursorAt d x` is (4 + x mod d, x / d mod 65,536)."
+/// "`cursor_at d x` is (4 + x mod d, x / d mod 65,536)."
 pub fn cursor_at(d: i64, x: i64) -> Cursor {
     cursor((4 + x % d) as u32, (x / d % WRAPS) as u16)
 }
 
-/// "Every message under way carries `cursorAt` and number of its mark." Its
+/// "Every message under way carries `cursor_at` and number of its mark." Its
 /// sender's D is `d`, its hearer's `d_peer`.
 pub fn carries(message: &Message, mark: &Mark, d: i64, d_peer: i64) -> bool {
     message.producer == cursor_at(d_peer, mark.taken)
