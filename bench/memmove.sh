@@ -1,6 +1,6 @@
 #!/bin/sh
 # Finds, in the library's object code, one memmove for each run of bytes that store and read copy, a memset in clear, and no array of
-# 64 KB on the stack: the compiler is to make the copy's two loops one memmove. Ends with status 1 otherwise.
+# 64 KB on the stack: the compiler is to make the copy's two copies one memmove. Ends with status 1 otherwise.
 set -eu
 cd "$(dirname "$0")/.."
 mkdir -p target

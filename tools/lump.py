@@ -20,7 +20,7 @@ def kit():
 
 
 def without_functions(folder):
-    """Leaves a crate's types, constants, definitions and theorems, and takes out its functions, those that derives make too, with their proofs."""
+    """Leaves a crate's types, constants, definitions and theorems, and takes out its functions and impls, those of derives too, with their proofs."""
     for place, _, files in os.walk(os.path.join(folder, 'src')):
         for name in files:
             path = os.path.join(place, name)
@@ -29,8 +29,11 @@ def without_functions(folder):
                 if line.startswith('#['):
                     held += [line] * (not line.startswith('#[derive('))
                     continue
-                if FUNCTION.match(line):
+                if FUNCTION.match(line) or line.startswith('impl') and not line.endswith('}'):
                     skip, held = True, []
+                elif line.startswith('impl'):
+                    held = []
+                    continue
                 if not skip:
                     kept += held + [line]
                     held = []

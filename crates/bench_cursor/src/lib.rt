@@ -7,6 +7,7 @@ ghost use Rattle.bench_cursor.specs.Stepped.{cursor_of, stepped_of};
 
 use cursor::Cursor;
 
+// Kept beside `Cursor`, which has its fields: the C interface of the benchmark.
 #[repr(C)]
 #[derive(Clone, Copy)]
 pub struct Stepped {
@@ -18,10 +19,7 @@ pub struct Stepped {
 pub extern "C" fn cursor_step(n: u32, offset: u32, wrap: u16, k: u32) -> Stepped
     ensures { result ≡ stepped_of (step_of n (cursor_of offset wrap) k) }
 {
-    let c = Cursor {
-        offset: offset,
-        wrap: wrap,
-    };
+    let c = Cursor { offset, wrap };
     let to = cursor::step(n, c, k);
     Stepped {
         offset: to.offset,
@@ -34,10 +32,7 @@ pub extern "C" fn cursor_step(n: u32, offset: u32, wrap: u16, k: u32) -> Stepped
 pub extern "C" fn cursor_step_by_remainder(n: u32, offset: u32, wrap: u16, k: u32) -> Stepped
     ensures { result ≡ stepped_of (step_of n (cursor_of offset wrap) k) }
 {
-    let c = Cursor {
-        offset: offset,
-        wrap: wrap,
-    };
+    let c = Cursor { offset, wrap };
     let to = step(n, c, k);
     Stepped {
         offset: to.offset,
@@ -45,6 +40,7 @@ pub extern "C" fn cursor_step_by_remainder(n: u32, offset: u32, wrap: u16, k: u3
     }
 }
 
+// Kept, with `moved`, beside the cursor's own: the benchmark sets the old step's time beside the new one's.
 fn step(n: u32, c: Cursor, k: u32) -> Cursor
     ensures { result ≡ step_of n c k }
 {

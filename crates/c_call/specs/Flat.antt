@@ -1,6 +1,6 @@
 -- A call by its number and an answer in numbers: one definition each, between the rules' `Call` and `Answer` and what C and Rust hand in
 -- and get. Assumes nothing.
-use Rattle.std.specs.Prelude.{ℕ, ◌≡◌, Bool, true, false, ◌&&◌, not, cond, List, [], ◌∷◌, leb, eqb, Float}
+use Rattle.std.specs.Prelude.{ℕ, ◌≡◌, Bool, true, false, ◌&&◌, not, cond, List, [], ◌∷◌, leb, eqb, Float, Result, MatchResult}
 use Rattle.closing.specs.declared.State.{State}
 use Rattle.closing.specs.Closing.{number_of}
 use Rattle.link_exchange.specs.declared.Role.{Role}
@@ -25,6 +25,7 @@ use Rattle.group_rules.specs.Rules.{Group, Call, Answer, answer, next, links_of,
 use Rattle.c_call.specs.declared.FlatCommand.{FlatCommand}
 use Rattle.c_call.specs.declared.FlatAnswer.{FlatAnswer}
 use Rattle.c_call.specs.declared.FlatLinks.{FlatLinks}
+use Rattle.c_call.specs.declared.UnknownCall.{UnknownCall}
 
 -- THE LINKS. The role is told as whether it is the server's; each direction undoes the other (`Statement`)
 unfoldable pub role_of : Bool → Role
@@ -192,6 +193,11 @@ pub record CallMade (g : Group) (q : FlatCommand) (b out : List ℕ) (r : FlatAn
   pub next_left : known_b q ≡ true → h ≡ next g (asked q b out)
   pub out_is_left : known_b q ≡ true → left ≡ out_after (named_of q) (answer g (asked q b out)).out out
   pub unknown : known_b q ≡ false → (r ≡ unknown_of (links_of g)) × (h ≡ g) × (left ≡ out)
+
+-- a number names its call, and any other none
+abbrev pub Names : FlatCommand → Result Command UnknownCall → Type 0
+Names q r =
+    MatchResult r (λ c. (known_b q ≡ true) × (c ≡ named_of q)) (λ e. (known_b q ≡ false) × (e.0 ≡ q.number))
 
 -- WHAT THE CODE DOES. For an unknown number it makes a call that changes nothing
 unfoldable pub command_of : FlatCommand → Command

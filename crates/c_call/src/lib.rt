@@ -3,9 +3,8 @@
 #![tactic(auto)]
 
 ghost use Rattle.std.specs.Prelude.{◌≡◌, []};
-ghost use Rattle.closing.specs.Closing.{number_of};
 ghost use Rattle.group_rules.specs.Rules.{placing_list, says_of, answer_of};
-ghost use Rattle.c_call.specs.Flat.{role_of, links_in, flat_links, known_b, named_of, command_of, bare, with_placings, with_health, with_heard};
+ghost use Rattle.c_call.specs.Flat.{role_of, links_in, flat_links, Names, command_of, bare, with_placings, with_health, with_heard};
 ghost use Rattle.c_call.specs.Flat.{flat_says, flat_of, told_of};
 ghost use Rattle.c_call.specs.View.{word_number, flat_view};
 ghost use Rattle.gauge.specs.Gauge.{health_of, view_of};
@@ -21,12 +20,7 @@ use group_make::Command;
 use group_table::{Answered, Links};
 use link_exchange::{Exchange, Queue, Role};
 
-// The calls are numbered from 1 to this, but for one number, which names a call of crate `c_call_link`.
-const MOST_CALL: u32 = 12;
-
-const LINK_CHANGE: u32 = 3;
-
-// What an answer says.
+// What an answer says: no enum, as the numbers are C's (fordlinnet.h).
 const UNKNOWN: u32 = 0;
 
 const REFUSED: u32 = 1;
@@ -95,6 +89,7 @@ pub struct FlatAnswer {
     pub links: FlatLinks,
 }
 
+// No From: bool and Role are both others' types.
 fn role_of(server: bool) -> Role
     ensures { result ≡ role_of server }
 {
@@ -102,68 +97,63 @@ fn role_of(server: bool) -> Role
 }
 
 // The links that a caller hands in, and those that it gets.
-pub fn links_of(f: FlatLinks) -> Links
-    ensures { result ≡ links_in f }
-{
-    let active = f.active;
-    let gauges = f.gauges;
-    let running = f.exchange;
-    let queue = f.queue;
-    let role = role_of(f.server);
-    Links {
-        active: active,
-        gauges: gauges,
-        role: role,
-        exchange: running,
-        queue: queue,
+impl From<FlatLinks> for Links {
+    ghost from_gives = { λ f links. links ≡ links_in f };
+
+    fn from(f: FlatLinks) -> Links {
+        let active = f.active;
+        let gauges = f.gauges;
+        Links {
+            active,
+            gauges,
+            role: role_of(f.server),
+            exchange: f.exchange,
+            queue: f.queue,
+        }
     }
 }
 
-pub fn flat_links(links: Links) -> FlatLinks
-    ensures { result ≡ flat_links links }
-{
-    let active = links.active;
-    let gauges = links.gauges;
-    let running = links.exchange;
-    let queue = links.queue;
-    let role = links.role;
-    let client = link_exchange::is_client(role);
-    FlatLinks {
-        active: active,
-        gauges: gauges,
-        server: !client,
-        exchange: running,
-        queue: queue,
+impl From<Links> for FlatLinks {
+    ghost from_gives = { λ links f. f ≡ flat_links links };
+
+    fn from(links: Links) -> FlatLinks {
+        let active = links.active;
+        let gauges = links.gauges;
+        FlatLinks {
+            active,
+            gauges,
+            server: !link_exchange::is_client(links.role),
+            exchange: links.exchange,
+            queue: links.queue,
+        }
     }
 }
 
-// Whether the number is one of the calls'.
-pub fn known(q: FlatCommand) -> bool
-    ensures { result ≡ known_b q }
-{
-    (1 <= q.number) & ((q.number <= MOST_CALL) & (q.number != LINK_CHANGE))
-}
+// A number that names none of the calls.
+#[derive(Clone, Copy)]
+pub struct UnknownCall(pub u32);
 
-// The call of a number that is one of the calls'.
-fn named(q: FlatCommand) -> Command
-    ensures { result ≡ named_of q }
-{
-    let given = q.opening;
-    let slot = q.slot;
-    let link = q.link;
-    let number = q.number;
-    match number {
-        1 => Command::Manage(Management::Open(slot, given)),
-        2 => Command::Manage(Management::Free(slot)),
-        4 => Command::Manage(Management::Sample(link, q.ms)),
-        5 => Command::On(slot, Request::Send),
-        6 => Command::On(slot, Request::Urgent),
-        7 => Command::On(slot, Request::Place(q.offset)),
-        8 => Command::On(slot, Request::Read),
-        9 => Command::On(slot, Request::Shutdown),
-        10 => Command::On(slot, Request::Close),
-        11 => Command::On(slot, Request::Abort),
-        _ => Command::Hear,
+// The call of a number; 3 names one of crate `c_call_link`.
+impl TryFrom<FlatCommand> for Command {
+    type Error = UnknownCall;
+
+    ghost try_from_gives = { Names };
+
+    fn try_from(q: FlatCommand) -> Result<Command, UnknownCall> {
+        match q.number {
+            1 => Ok(Command::Manage(Management::Open(q.slot, q.opening))),
+            2 => Ok(Command::Manage(Management::Free(q.slot))),
+            4 => Ok(Command::Manage(Management::Sample(q.link, q.ms))),
+            5 => Ok(Command::On(q.slot, Request::Send)),
+            6 => Ok(Command::On(q.slot, Request::Urgent)),
+            7 => Ok(Command::On(q.slot, Request::Place(q.offset))),
+            8 => Ok(Command::On(q.slot, Request::Read)),
+            9 => Ok(Command::On(q.slot, Request::Shutdown)),
+            10 => Ok(Command::On(q.slot, Request::Close)),
+            11 => Ok(Command::On(q.slot, Request::Abort)),
+            12 => Ok(Command::Hear),
+            _ => Err(UnknownCall(q.number)),
+        }
     }
 }
 
@@ -171,27 +161,13 @@ fn named(q: FlatCommand) -> Command
 pub fn command_of(q: FlatCommand) -> Command
     ensures { result ≡ command_of q }
 {
-    if known(q) {
-        return named(q);
-    }
-    Command::Manage(Management::Sample(0, 0))
-}
-
-fn state_number(state: State) -> u32
-    ensures { result ≡ number_of state }
-{
-    match state {
-        State::Active => 0,
-        State::PeerCloseWait1 => 1,
-        State::PeerCloseWait2 => 2,
-        State::AppCloseWait1 => 3,
-        State::AppCloseWait2 => 4,
-        State::PeerAbortWait => 5,
-        State::Closed => 6,
+    match Command::try_from(q) {
+        Ok(command) => command,
+        Err(_) => Command::Manage(Management::Sample(0, 0)),
     }
 }
 
-// An answer that names at most a refusal and a count, beside the message.
+// An answer that names at most a refusal and a count, beside the message; no struct for made, message and links, as in `c_call_link`.
 pub fn bare_answer(
     said: u32,
     refusal: u32,
@@ -209,9 +185,9 @@ pub fn bare_answer(
         len: 0,
     };
     FlatAnswer {
-        said: said,
-        refusal: refusal,
-        n: n,
+        said,
+        refusal,
+        n,
         state: 0,
         moved: 0,
         health: 0,
@@ -220,9 +196,9 @@ pub fn bare_answer(
         second: nowhere,
         mean: 0.0,
         worst: 0.0,
-        made: made,
-        message: message,
-        links: links,
+        made,
+        message,
+        links,
     }
 }
 
@@ -269,10 +245,10 @@ fn with_health(health: Health, f: FlatAnswer) -> FlatAnswer
 fn with_heard(moved: u64, state: State, f: FlatAnswer) -> FlatAnswer
     ensures { result ≡ with_heard moved state f }
 {
-    let number = state_number(state);
+    let number = u8::from(state);
     let mut a = f;
     a.moved = moved;
-    a.state = number;
+    a.state = number as u32;
     a
 }
 
@@ -305,21 +281,22 @@ fn answer_with(a: Answered, links: FlatLinks) -> FlatAnswer
 }
 
 // The answer, flat.
-pub fn answer_of(a: Answered) -> FlatAnswer
-    ensures { result ≡ flat_of (answer_of a []) a.links }
-{
-    let links = flat_links(a.links);
-    answer_with(a, links)
+impl From<Answered> for FlatAnswer {
+    ghost from_gives = { λ a f. f ≡ flat_of (answer_of a []) a.links };
+
+    fn from(a: Answered) -> FlatAnswer {
+        answer_with(a, FlatLinks::from(a.links))
+    }
 }
 
 // What the caller is told: the answer, or that the number is unknown, with the links as they were handed in.
 pub fn told(q: FlatCommand, links: FlatLinks, a: Answered) -> FlatAnswer
     ensures { result ≡ told_of q links a }
 {
-    if known(q) {
-        return answer_of(a);
+    match Command::try_from(q) {
+        Ok(_) => FlatAnswer::from(a),
+        Err(_) => bare_answer(UNKNOWN, 0, 0, false, [0u8; 44], links),
     }
-    bare_answer(UNKNOWN, 0, 0, false, [0u8; 44], links)
 }
 
 // What a console shows of a link: the health's number, how many numbers are shown (the mean, then the worst), and the numbers.
@@ -332,6 +309,7 @@ pub struct FlatView {
     pub worst: f64,
 }
 
+// No From: Word and u32 are both others' types.
 fn word_number(word: Word) -> u32
     ensures { result ≡ word_number word }
 {
@@ -346,16 +324,11 @@ fn word_number(word: Word) -> u32
 pub fn view(links: FlatLinks, link: u8) -> FlatView
     ensures { result ≡ flat_view (view_of (health_of (gauge_at links.gauges link))) }
 {
-    let own = links_of(links);
-    let g = group_table::gauge_of(own, link);
-    let h = gauge::health_of(g);
-    let v = gauge::view_of(h);
-    let word = v.word;
-    let number = word_number(word);
-    let shown = v.shown as u32;
+    let g = group_table::gauge_of(Links::from(links), link);
+    let v = gauge::view_of(gauge::health_of(g));
     FlatView {
-        health: number,
-        shown: shown,
+        health: word_number(v.word),
+        shown: v.shown as u32,
         mean: v.mean,
         worst: v.worst,
     }

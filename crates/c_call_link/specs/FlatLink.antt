@@ -1,5 +1,5 @@
 -- Link change, link message and link send by their numbers, and their answers in numbers (requests 2026-01 and 2026-13). Assumes nothing.
-use Rattle.std.specs.Prelude.{ℕ, ◌%◌, ◌≡◌, Bool, true, false, ◌&&◌, ◌||◌, cond, List, eqb, replicate}
+use Rattle.std.specs.Prelude.{ℕ, ◌%◌, ◌≡◌, Bool, true, false, ◌&&◌, ◌||◌, cond, List, eqb, replicate, Result, MatchResult}
 use Rattle.link_message.specs.Layouts.{code_of, kind_of, named_b}
 use Rattle.link_exchange.specs.declared.Fate.{Fate}
 use Rattle.link_exchange.specs.declared.Fate.TheVariants.{Taken, Queued, Denied, Dropped}
@@ -23,6 +23,7 @@ use Rattle.c_call_link.specs.declared.FlatFields.{FlatFields}
 use Rattle.c_call_link.specs.declared.FlatTakenUp.{FlatTakenUp}
 use Rattle.c_call_link.specs.declared.FlatLinkCommand.{FlatLinkCommand}
 use Rattle.c_call_link.specs.declared.FlatLinkAnswer.{FlatLinkAnswer}
+use Rattle.c_call_link.specs.declared.UnknownLinkCall.{UnknownLinkCall}
 
 -- THE CALLS' NUMBERS: 3 link change, 13 link message, 14 link send of a kind that is one of the messages'
 unfoldable pub link_known_b : FlatLinkCommand → Bool
@@ -124,6 +125,11 @@ pub record LinkMade (g : Group) (q : FlatLinkCommand) (b out : List ℕ) (r : Fl
   pub next_left : link_known_b q ≡ true → h ≡ next g (link_asked q b out)
   pub out_is_left : link_known_b q ≡ true → left ≡ (answer g (link_asked q b out)).out
   pub unknown : link_known_b q ≡ false → (r ≡ link_unknown_of (links_of g)) × (h ≡ g) × (left ≡ out)
+
+-- a number names its call, and any other, or a kind that is no message's, none
+abbrev pub LinkNames : FlatLinkCommand → Result LinkCommand UnknownLinkCall → Type 0
+LinkNames q r =
+    MatchResult r (λ c. (link_known_b q ≡ true) × (c ≡ link_named_of q)) (λ e. (link_known_b q ≡ false) × (e.0 ≡ q.number))
 
 -- WHAT THE CODE DOES. For an unknown number it makes a call that changes nothing
 unfoldable pub link_command_of : FlatLinkCommand → LinkCommand

@@ -4,7 +4,7 @@
 
 ghost use Rattle.std.specs.Prelude.{◌≡◌};
 ghost use Rattle.c_call_link.specs.FlatLink.{fate_number, kind_number, flat_fields, up_fate, flat_up, link_bare, link_named, said_number, refusal_number, link_told};
-ghost use Rattle.c_call_link.specs.FlatLink.{link_known_b, link_named_of, link_command_of, values_of, accepted_of, link_told_of};
+ghost use Rattle.c_call_link.specs.FlatLink.{LinkNames, link_command_of, values_of, accepted_of, link_told_of};
 
 use c_call::FlatLinks;
 use conn_answer::Reply;
@@ -12,14 +12,7 @@ use group_link::{LinkCommand, LinkDone, Values};
 use link_calls::{Fields, TakenUp};
 use link_exchange::Fate;
 
-// The calls' numbers.
-const LINK_CHANGE: u32 = 3;
-
-const LINK_MESSAGE: u32 = 13;
-
-const LINK_SEND: u32 = 14;
-
-// What an answer says.
+// What an answer says: no enum, as the numbers are C's (fordlinnet.h).
 const UNKNOWN: u32 = 0;
 
 const ACCEPTED: u32 = 2;
@@ -73,6 +66,7 @@ pub struct FlatLinkAnswer {
     pub links: FlatLinks,
 }
 
+// No From: Fate and u32 are both others' types.
 fn fate_number(fate: Fate) -> u32
     ensures { result ≡ fate_number fate }
 {
@@ -92,14 +86,15 @@ fn kind_number(f: Fields) -> u8
     if f.named { code } else { 0 }
 }
 
-fn flat_fields(f: Fields) -> FlatFields
-    ensures { result ≡ flat_fields f }
-{
-    let values = f.values;
-    let kind = kind_number(f);
-    FlatFields {
-        kind: kind,
-        values: values,
+impl From<Fields> for FlatFields {
+    ghost from_gives = { λ f flat. flat ≡ flat_fields f };
+
+    fn from(f: Fields) -> FlatFields {
+        let values = f.values;
+        FlatFields {
+            kind: kind_number(f),
+            values,
+        }
     }
 }
 
@@ -111,21 +106,26 @@ fn up_fate(up: TakenUp) -> u32
     if up.some { number } else { 0 }
 }
 
-fn flat_up(up: TakenUp) -> FlatTakenUp
-    ensures { result ≡ flat_up up }
-{
-    let heard = up.fields;
-    let fields = flat_fields(heard);
-    let fate = up_fate(up);
-    FlatTakenUp {
-        some: up.some,
-        link: up.link,
-        fate: fate,
-        fields: fields,
+impl From<TakenUp> for FlatTakenUp {
+    ghost from_gives = { λ up flat. flat ≡ flat_up up };
+
+    fn from(up: TakenUp) -> FlatTakenUp {
+        FlatTakenUp {
+            some: up.some,
+            link: up.link,
+            fate: up_fate(up),
+            fields: FlatFields::from(up.fields),
+        }
     }
 }
 
-// An answer that names at most a refusal and a count, beside the message.
+const NO_FIELDS: FlatFields = FlatFields {
+    kind: 0,
+    values: [0; 12],
+};
+
+// An answer that names at most a refusal and a count, beside the message. Made, message and links are no struct: each would be taken out of
+// it again here and below, and built at each call.
 fn link_bare(
     said: u32,
     refusal: u32,
@@ -136,26 +136,21 @@ fn link_bare(
 ) -> FlatLinkAnswer
     ensures { result ≡ link_bare said refusal count made message links }
 {
-    let none = FlatFields {
-        kind: 0,
-        values: [0u64; 12],
-    };
-    let nothing = FlatTakenUp {
-        some: false,
-        link: 0,
-        fate: 0,
-        fields: none,
-    };
     FlatLinkAnswer {
-        said: said,
-        refusal: refusal,
+        said,
+        refusal,
         fate: 0,
-        fields: none,
-        up: nothing,
-        count: count,
-        made: made,
-        message: message,
-        links: links,
+        fields: NO_FIELDS,
+        up: FlatTakenUp {
+            some: false,
+            link: 0,
+            fate: 0,
+            fields: NO_FIELDS,
+        },
+        count,
+        made,
+        message,
+        links,
     }
 }
 
@@ -172,39 +167,38 @@ fn link_named(
 ) -> FlatLinkAnswer
     ensures { result ≡ link_named said fate fields up count made message links }
 {
-    let taken = flat_up(up);
     FlatLinkAnswer {
-        said: said,
+        said,
         refusal: 0,
-        fate: fate,
-        fields: fields,
-        up: taken,
-        count: count,
-        made: made,
-        message: message,
-        links: links,
+        fate,
+        fields,
+        up: FlatTakenUp::from(up),
+        count,
+        made,
+        message,
+        links,
     }
 }
 
-// Whether the number is one of the calls', and a kind to send one of the messages'.
-fn known(q: FlatLinkCommand) -> bool
-    ensures { result ≡ link_known_b q }
-{
-    let sendable = link_message::is_named(q.fields.kind);
-    (q.number == LINK_CHANGE) | ((q.number == LINK_MESSAGE) | ((q.number == LINK_SEND) & sendable))
-}
+// A number that names none of the calls, or a kind to send that is none of the messages'.
+#[derive(Clone, Copy)]
+pub struct UnknownLinkCall(pub u32);
 
-// The call of a number that is one of the calls'.
-fn named(q: FlatLinkCommand) -> LinkCommand
-    ensures { result ≡ link_named_of q }
-{
-    let kind = link_message::kind_of(q.fields.kind);
-    let link = q.link;
-    let number = q.number;
-    match number {
-        3 => LinkCommand::Change(link, q.up),
-        13 => LinkCommand::Message(link),
-        _ => LinkCommand::Send(link, kind),
+// The call of a number.
+impl TryFrom<FlatLinkCommand> for LinkCommand {
+    type Error = UnknownLinkCall;
+
+    ghost try_from_gives = { LinkNames };
+
+    fn try_from(q: FlatLinkCommand) -> Result<LinkCommand, UnknownLinkCall> {
+        let kind = link_message::kind_of(q.fields.kind);
+        let sendable = link_message::is_named(q.fields.kind);
+        match q.number {
+            3 => Ok(LinkCommand::Change(q.link, q.up)),
+            13 => Ok(LinkCommand::Message(q.link)),
+            14 if sendable => Ok(LinkCommand::Send(q.link, kind)),
+            _ => Err(UnknownLinkCall(q.number)),
+        }
     }
 }
 
@@ -212,10 +206,10 @@ fn named(q: FlatLinkCommand) -> LinkCommand
 pub fn command_of(q: FlatLinkCommand) -> LinkCommand
     ensures { result ≡ link_command_of q }
 {
-    if known(q) {
-        return named(q);
+    match LinkCommand::try_from(q) {
+        Ok(command) => command,
+        Err(_) => LinkCommand::Change(0, false),
     }
-    LinkCommand::Change(0, false)
 }
 
 // The values of a message to send.
@@ -237,27 +231,25 @@ fn accepted(
 ) -> FlatLinkAnswer
     ensures { result ≡ accepted_of c d count made message links }
 {
-    let up = d.up;
     match c {
         LinkCommand::Change(_, _) => link_bare(LINK_CHANGED, 0, count, made, message, links),
-        LinkCommand::Message(_) => {
-            let fate = d.fate;
-            let heard = d.fields;
-            let number = fate_number(fate);
-            let fields = flat_fields(heard);
-            link_named(LINK_HEARD, number, fields, up, count, made, message, links)
-        }
+        LinkCommand::Message(_) => link_named(
+            LINK_HEARD,
+            fate_number(d.fate),
+            FlatFields::from(d.fields),
+            d.up,
+            count,
+            made,
+            message,
+            links,
+        ),
         LinkCommand::Send(_, _) => {
-            let none = FlatFields {
-                kind: 0,
-                values: [0u64; 12],
-            };
-            link_named(LINK_SENT, 0, none, up, count, made, message, links)
+            link_named(LINK_SENT, 0, NO_FIELDS, d.up, count, made, message, links)
         }
     }
 }
 
-// What a reply says in a number, and its refusal's number; 0 for none.
+// What a reply says in a number, and its refusal's number; 0 for none. No From: Reply and u32 are both others' types.
 fn said_number(reply: Reply) -> u32
     ensures { result ≡ said_number reply }
 {
@@ -295,15 +287,13 @@ fn link_told(c: LinkCommand, d: LinkDone) -> FlatLinkAnswer
     let answer = d.answer;
     let reply = answer.reply;
     let message = answer.message;
-    let left = answer.links;
-    let links = c_call::flat_links(left);
+    let links = FlatLinks::from(answer.links);
     let said = said_number(reply);
-    let refusal = refusal_number(reply);
     let count = (d.count % 4294967296) as u32;
     if said == ACCEPTED {
         accepted(c, d, count, answer.made, message, links)
     } else {
-        link_bare(said, refusal, 0, answer.made, message, links)
+        link_bare(said, refusal_number(reply), 0, answer.made, message, links)
     }
 }
 
@@ -311,9 +301,8 @@ fn link_told(c: LinkCommand, d: LinkDone) -> FlatLinkAnswer
 pub fn told(q: FlatLinkCommand, links: FlatLinks, d: LinkDone) -> FlatLinkAnswer
     ensures { result ≡ link_told_of q links d }
 {
-    if known(q) {
-        let c = named(q);
-        return link_told(c, d);
+    match LinkCommand::try_from(q) {
+        Ok(c) => link_told(c, d),
+        Err(_) => link_bare(UNKNOWN, 0, 0, false, [0u8; 44], links),
     }
-    link_bare(UNKNOWN, 0, 0, false, [0u8; 44], links)
 }

@@ -2,22 +2,14 @@
 // the message.
 #![tactic(auto)]
 
-ghost use Rattle.std.specs.Prelude.{◌≡◌};
 ghost use Rattle.group_table.specs.declared.Links.{Links};
 ghost use Rattle.group_rules.specs.Rules.{group_of, close};
 ghost use Rattle.plan.specs.DirectMade.{InEveryGroup};
-ghost use Rattle.plan_finish.specs.declared.Ending.TheVariants.{Close};
 ghost use Rattle.plan_finish.specs.DirectFinish.{FinishMade};
 
 use conn_record::Record;
 use plan::LinkStates;
 use plan_finish::{Ending, FinishAnswer};
-
-fn what() -> Ending
-    ensures { result ≡ Close }
-{
-    Ending::Close
-}
 
 #[unsafe(no_mangle)]
 pub extern "C" fn fordlinnet_make_close(
@@ -33,7 +25,6 @@ pub extern "C" fn fordlinnet_make_close(
         FinishMade close (group_of s n table.old ls mem.now) slot message.old
         result (group_of s n table.new ls mem.now) message.new) }
 {
-    let call = what();
-    let f = plan_finish::finish(call, s, n, mem, table, links, slot);
+    let f = plan_finish::finish(Ending::Close, s, n, mem, table, links, slot);
     plan_finish::answer(f, message)
 }

@@ -21,6 +21,7 @@ use c_call_link::{FlatLinkAnswer, FlatLinkCommand};
 use c_pool::{Books, PoolAnswer};
 use c_setup::SetupAnswer;
 use conn_record::Record;
+use group_table::Links;
 use setup::Settings;
 
 // Makes the call that a number names.
@@ -38,7 +39,7 @@ pub extern "C" fn fordlinnet_make(
     ensures { CallMade (group_of s n table.old (links_in links) mem.old) command bytes.now out.old result
         (group_of s n table.new (links_in result.links) mem.new) out.new }
 {
-    let own = c_call::links_of(links);
+    let own = Links::from(links);
     let named = c_call::command_of(command);
     let a = group_make::make(s, n, mem, table, own, named, bytes, out);
     c_call::told(command, links, a)

@@ -1,4 +1,5 @@
-// For a binding's test: the structs of the direct calls, filled as those of crate `c_shapes` are (document 02, 2026-11).
+// For a binding's test: the structs of the direct calls, filled as those of crate `c_shapes` are (document 02, 2026-11). Placings and
+// pieces are spelled out: a function for the three of each, with its contract and proof, is longer.
 #![tactic(auto)]
 
 ghost use Rattle.std.specs.Prelude.{◌≡◌};

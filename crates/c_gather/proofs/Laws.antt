@@ -1,4 +1,4 @@
--- What `last_of` gives, and the proofs of `last_at`, `gather_on`, `gather_unless` and `fordlinnet_make_gather` cite. Assumes nothing.
+-- What `last_of` gives, and the proof of `fordlinnet_make_gather` cites. Assumes nothing.
 use Prim.Native.Nat.{ℕ, zero, suc, ◌+◌, ◌%◌, ◌^◌, ◌≤◌, ◌<◌}
 use mathlib.Core.Path.{◌≡◌, refl, sym, ap, ◌∙◌, subst}
 use mathlib.Core.Bool.{Bool, true, false, not, cond}
@@ -30,9 +30,8 @@ use Rattle.plan_send.specs.declared.SendAnswer.{SendAnswer}
 use Rattle.plan_send.specs.declared.Sending.{Sending}
 use Rattle.plan_send.specs.Transmitting.{placing_in, unsent_answer, unsent, sent_by, sending_of}
 use Rattle.plan_send.specs.Transmitted.{record_left, message_left}
-use Rattle.c_send.specs.TableLeft.{sending_at, LeftBy, LeftUnless}
 use Rattle.c_send.specs.DirectSend.{send_answer_of, SendMade}
-use Rattle.c_send.proofs.Laws.{send_returns}
+use Rattle.c_send.proofs.Laws.{send_made, send_refused}
 use Rattle.plan_gather.specs.declared.Joined.{Joined}
 use Rattle.plan_gather.specs.declared.GatherAnswer.{GatherAnswer}
 use Rattle.plan_gather.specs.Cutting.{in_pieces}
@@ -51,15 +50,6 @@ unfolding last_by
 last_here rec t token p h et ep =
     let z : t.said.refusal ≡ 0 = omega arith in
     simp (ep, et, eq-eqb t.said.refusal 0 z)
-
--- THE RECORD THAT THE SLOT SHOWS
-pub last_at_returns : (t : List Record) (k : ℕ) (q : Sending) → (r : ℕ) → r ≡ index_of k (length t) → r < length t
-    → (p : Placing) → p ≡ last_by (get_or t r zero_record) q → p ≡ last_by (record_at t k) q
-last_at_returns t k q r e h p ep = ep ∙ ap (λ (x : Record). last_by x q) (record_at_returns t k r e h)
-
-pub last_at_returns_2 : (t : List Record) (k : ℕ) (q : Sending) → (r : ℕ) → r ≡ index_of k (length t) → length t ≤ r
-    → (z : Record) → z ≡ zero_record → (p : Placing) → p ≡ last_by z q → p ≡ last_by (record_at t k) q
-last_at_returns_2 t k q r e h z ez p ep = ep ∙ ap (λ (x : Record). last_by x q) (record_at_returns_2 t k r e h z ez)
 
 -- WHERE Q IS AFTER A SEND
 sending_steps : (rec : Record) (len : ℕ) → (sending_of false rec len).said.refusal ≡ 0
@@ -90,31 +80,6 @@ ends_at rec ok r t e =
     λ i. record { key = (rtoken_of rec).key; address = x i; start = n; len = 0 }
 
 -- THE GATHER
-pub gather_on_returns : (t : List Record) (k : ℕ) (head body b : List ℕ)
-    → (urgent : Bool) → urgent ≡ false
-    → (len : ℕ) → len ≡ length head + length body
-    → (r : Sending) → r ≡ sending_at urgent t k len
-    → (p : Placing) → p ≡ last_by (record_at t k) r
-    → (v : Unit {0}) (c : List ℕ) → c ≡ message_left urgent (record_at t k) r b
-    → (w : Unit {0}) (u : List Record) → u ≡ with_record t k (record_left urgent (record_at t k) r)
-    → (a : Joined) → (a.sent ≡ r.said) × (a.last ≡ p)
-    → GatherBy t k head body b a u c
-gather_on_returns t k head body b urgent eb len el r er p ep v c ec w u eu a ea =
-    let e : r ≡ sending_at false t k (length head + length body) = er ∙ (λ i. sending_at (eb i) t k (el i)) in (
-      ea.0 ∙ ap (λ (q : Sending). q.said) e,
-      ea.1 ∙ ep ∙ ap (last_by (record_at t k)) e,
-      eu ∙ (λ i. with_record t k (record_left (eb i) (record_at t k) (e i))),
-      ec ∙ (λ i. message_left (eb i) (record_at t k) (e i) b),
-    )
-
-pub gather_unless_returns : (j : ℕ) (t : List Record) (k : ℕ) (head body b : List ℕ) → 0 < j
-    → (a : Joined) → a ≡ refused_answer j → GatherUnless j t k head body b a t b
-gather_unless_returns j t k head body b h a ea = (λ e. absurd (omega (arith, h, e)), λ e. (ea, refl, refl))
-
-pub gather_unless_returns_2 : (j : ℕ) (t : List Record) (k : ℕ) (head body b : List ℕ) → j ≤ 0
-    → (a : Joined) (u : List Record) (c : List ℕ) → GatherBy t k head body b a u c → GatherUnless j t k head body b a u c
-gather_unless_returns_2 j t k head body b h a u c l = (λ e. l, λ e. absurd (omega (arith, h, e)))
-
 positive : (j : ℕ) → (j ≡ 0 → ⊥) → 0 < j
 positive zero z = absurd (z refl)
 positive (suc j) z = omega arith
@@ -133,20 +98,29 @@ module _
     abbrev said : Answer
     said = answer g (on k (send (head ++ body)))
 
-    as_left : LeftUnless first false t k (head ++ body) b a.sent u c
-    as_left = (
-      λ z.
-          let l = h.0 z in
-          let e = ap (sending_at false t k) (sym (length-append head body)) in (
-            l.0 ∙ ap (λ (q : Sending). q.said) e,
-            l.2 ∙ ap (λ (q : Sending). with_record t k (record_left false rec q)) e,
-            l.3 ∙ ap (λ (q : Sending). message_left false rec q b) e,
-          ),
-      λ z. let l = h.1 z in (ap (λ (x : Joined). x.sent) l.0, l.1, l.2),
-    )
+    abbrev Sent : SendAnswer → List Record → List ℕ → Type 0
+    Sent y v d = SendMade g k (head ++ body) b y (group_of s n v ls m) d
 
-    sends : SendMade g k (head ++ body) b a.sent (group_of s n u ls m) c
-    sends = send_returns false s n m t states k (head ++ body) b first eno a.sent u c as_left ls ea
+    sends_by : (z : Bool) → eqb first 0 ≡ z → Sent a.sent u c
+    sends_by true z =
+        let l = h.0 (eqb-true first 0 z) in
+        let e = ap (sending_of false rec) (sym (length-append head body)) in
+        send_made false s n m t states k (head ++ body) b (sym eno ∙ eqb-true first 0 z) a.sent u c (
+          l.0 ∙ ap (λ (q : Sending). q.said) e,
+          l.2 ∙ ap (λ (q : Sending). with_record t k (record_left false rec q)) e,
+          l.3 ∙ ap (λ (q : Sending). message_left false rec q b) e,
+        )
+        ls ea
+    sends_by false z =
+        let f = eqb-false first 0 z in
+        let l = h.1 (positive first f) in
+        subst (λ (v : List Record). Sent a.sent v c) (sym l.1)
+        (subst (λ (d : List ℕ). Sent a.sent t d) (sym l.2)
+        (send_refused false s n m t states k (head ++ body) b (λ x. f (eno ∙ x)) a.sent
+        (ap (λ (x : Joined). x.sent) l.0 ∙ ap unsent_answer eno) ls ea))
+
+    sends : Sent a.sent u c
+    sends = sends_by (eqb first 0) refl
 
     answers : a.sent ≡ send_answer_of said
     answers = sends.answered
@@ -166,28 +140,12 @@ module _
         took g k (head ++ body) _ _
         (says_sent g k (head ++ body) (ap (λ (y : SendAnswer). eqb y.refusal 0) (sym answers) ∙ z))
 
-    -- a slot outside the table shows all zeros, whose Q is in no range
-    none_there : zero_record ≡ rec → in_range rec.remote.size rec.outbound.producer ≡ true → ⊥
-    unfolding zero_record
-    none_there e r =
-        let o = range_is rec.remote.size rec.outbound.producer r in
-        let z : rec.remote.size ≡ 0 = ap (λ (x : Record). x.remote.size) (sym e) in
-        absurd (omega (arith, o.1, z))
-
-    module _ (q : Sending) (eq : q ≡ sending_at false t k (length head + length body)) (es : a.sent ≡ q.said) (el : a.last ≡ last_by rec q) where
-      steps : (y : Bool) → ltb (index_of k (length t)) (length t) ≡ y → eqb a.sent.refusal 0 ≡ true
-          → q.producer ≡ step_of rec.remote.size rec.outbound.producer q.said.taken
-      unfolding sending_at
-      steps true y z =
-          let e : q ≡ sending_of false rec (length head + length body) =
-          eq ∙ ap (λ (x : Bool). cond x (sending_of false rec (length head + length body)) (unsent 0 zero_record.outbound)) y in
+    module _ (q : Sending) (eq : q ≡ sending_of false rec (length head + length body)) (es : a.sent ≡ q.said) (el : a.last ≡ last_by rec q) where
+      steps : eqb a.sent.refusal 0 ≡ true → q.producer ≡ step_of rec.remote.size rec.outbound.producer q.said.taken
+      steps z =
           let no : q.said.refusal ≡ 0 = ap (λ (x : SendAnswer). x.refusal) (sym es) ∙ eqb-true a.sent.refusal 0 z in
-          subst (λ (x : Sending). x.producer ≡ step_of rec.remote.size rec.outbound.producer x.said.taken) (sym e)
-          (sending_steps rec (length head + length body) (ap (λ (x : Sending). x.said.refusal) (sym e) ∙ no))
-      steps false y z =
-          let e : zero_record ≡ rec =
-          record_at_returns_2 t k (index_of k (length t)) refl (ltb-false (index_of k (length t)) (length t) y) zero_record refl in
-          absurd (none_there e (facts z).q_range)
+          subst (λ (x : Sending). x.producer ≡ step_of rec.remote.size rec.outbound.producer x.said.taken) (sym eq)
+          (sending_steps rec (length head + length body) (ap (λ (x : Sending). x.said.refusal) (sym eq) ∙ no))
 
       last_by_lem : (z : Bool) → eqb a.sent.refusal 0 ≡ z → a.last ≡ named a.sent.refusal a.sent.taken
       unfolding last_by
@@ -197,7 +155,7 @@ module _
           ∙ ap (λ (x : SendAnswer). cond (eqb x.refusal 0) (placing_in rec.remote.size rec.remote.index (rtoken_of rec) (end_of q)) no_placing)
           (sym es)
           ∙ ap (λ (p : Placing). cond (eqb a.sent.refusal 0) p no_placing)
-          (ends_at rec f.remote_ok_lem f.q_range q (steps (ltb (index_of k (length t)) (length t)) refl z)
+          (ends_at rec f.remote_ok_lem f.q_range q (steps z)
           ∙ ap (λ (x : SendAnswer). placing_of rec (stretch_of rec x.taken 0)) (sym es))
       last_by_lem false z =
           let no : (p : Placing) → cond (eqb a.sent.refusal 0) p no_placing ≡ no_placing =
@@ -211,7 +169,7 @@ module _
     last_number_is : (z : Bool) → eqb first 0 ≡ z → a.last ≡ named a.sent.refusal a.sent.taken
     last_number_is true z =
         let l = h.0 (eqb-true first 0 z) in
-        last_by_lem (sending_at false t k (length head + length body)) refl l.0 l.1 (eqb a.sent.refusal 0) refl
+        last_by_lem (sending_of false rec (length head + length body)) refl l.0 l.1 (eqb a.sent.refusal 0) refl
     last_number_is false z =
         let l = h.1 (positive first (eqb-false first 0 z)) in
         let e : a ≡ refused_answer first = l.0 in

@@ -6,9 +6,8 @@ use Rattle.conn_record.specs.declared.Record.{Record}
 use Rattle.group_table.specs.Table.{record_at, with_record}
 use Rattle.conn_send.specs.Transmit.{rtoken_of, no_placing}
 use Rattle.plan_send.specs.declared.Sending.{Sending}
-use Rattle.plan_send.specs.Transmitting.{placing_in, unsent_answer}
+use Rattle.plan_send.specs.Transmitting.{placing_in, unsent_answer, sending_of}
 use Rattle.plan_send.specs.Transmitted.{record_left, message_left}
-use Rattle.c_send.specs.TableLeft.{sending_at}
 use Rattle.plan_gather.specs.declared.Joined.{Joined}
 
 -- an empty placing where Q is after the sending
@@ -25,7 +24,7 @@ refused_answer j = record { sent = unsent_answer j; last = no_placing }
 -- of the table t and the message's buffer b it leaves u and c
 abbrev pub GatherBy : List Record → ℕ → List ℕ → List ℕ → List ℕ → Joined → List Record → List ℕ → Type 0
 GatherBy t k head body b r u c =
-    let q = sending_at false t k (length head + length body) in
+    let q = sending_of false (record_at t k) (length head + length body) in
     (r.sent ≡ q.said)
     × (r.last ≡ last_by (record_at t k) q)
     × (u ≡ with_record t k (record_left false (record_at t k) q))

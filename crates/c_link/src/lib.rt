@@ -9,6 +9,7 @@ ghost use Rattle.c_call_link.specs.FlatLink.{LinkMade};
 use c_call::FlatLinks;
 use c_call_link::{FlatLinkAnswer, FlatLinkCommand};
 use conn_record::Record;
+use group_table::Links;
 
 // Makes the call on the links that a number names: link change, link message or link send. Where links go down, connections move.
 #[unsafe(no_mangle)]
@@ -25,7 +26,7 @@ pub extern "C" fn fordlinnet_make_link(
     ensures { LinkMade (group_of s n table.old (links_in links) mem.now) command bytes.now out.old result
         (group_of s n table.new (links_in result.links) mem.now) out.new }
 {
-    let own = c_call::links_of(links);
+    let own = Links::from(links);
     let named = c_call_link::command_of(command);
     let given = c_call_link::values_of(command);
     let d = group_link::make(s, n, mem, table, own, named, bytes, given, out);

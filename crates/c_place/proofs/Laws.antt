@@ -1,4 +1,4 @@
--- What the proofs of `placing_at` and `fordlinnet_make_place` cite. Assumes nothing.
+-- What the proof of `fordlinnet_make_place` cites. Assumes nothing.
 use Prim.Native.Nat.{ℕ, ◌+◌, ◌<◌, ◌≤◌}
 use mathlib.Core.Path.{◌≡◌, refl, sym, ap, ◌∙◌, subst}
 use mathlib.Core.Bool.{Bool, true, false, not, cond}
@@ -29,16 +29,6 @@ use Rattle.plan.proofs.DirectMadeLaws.{made_by}
 use Rattle.c_place.specs.Placing.{placing_of, stored_by}
 use Rattle.c_place.specs.DirectPlace.{place_answer_of, PlaceMade, says_in, NothingLost}
 use Rattle.c_place.proofs.Agree.{reply_by, answered_by, agree}
-
--- THE RECORD THAT THE SLOT SHOWS
-module _ (n : ℕ) (t : List Record) (k first at len : ℕ) (r : ℕ) (e : r ≡ index_of k (length t)) where
-  pub placing_at_returns : r < length t → (q : ℕ) → q ≡ placing_of n (get_or t r zero_record) first at len
-      → q ≡ placing_of n (record_at t k) first at len
-  placing_at_returns h q eq = eq ∙ ap (λ (c : Record). placing_of n c first at len) (record_at_returns t k r e h)
-
-  pub placing_at_returns_2 : length t ≤ r → (z : Record) → z ≡ zero_record → (q : ℕ) → q ≡ placing_of n z first at len
-      → q ≡ placing_of n (record_at t k) first at len
-  placing_at_returns_2 h z ez q eq = eq ∙ ap (λ (c : Record). placing_of n c first at len) (record_at_returns_2 t k r e h z ez)
 
 -- WHAT THE NUMBER SAYS, and whether bytes are stored
 number_is : (r : ℕ) (z : Bool) → eqb r 0 ≡ z → r ≡ (named_in (says_of (cond z Accepted (Refused r)))).refused

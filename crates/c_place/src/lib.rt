@@ -7,8 +7,8 @@
 ghost use Rattle.std.specs.Prelude.{◌≡◌};
 ghost use Rattle.conn_receive.specs.Receive.{may_place};
 ghost use Rattle.group_table.specs.declared.Links.{Links};
-ghost use Rattle.group_table.specs.Table.{record_at};
 ghost use Rattle.group_rules.specs.Rules.{group_of};
+ghost use Rattle.plan.specs.Direct.{refusal_in};
 ghost use Rattle.plan.specs.DirectMade.{InEveryGroup};
 ghost use Rattle.c_place.specs.Placing.{placing_of, stored_by};
 ghost use Rattle.c_place.specs.DirectPlace.{PlaceMade};
@@ -39,45 +39,26 @@ fn may_place(n: u32, i: Inbound, at: u32, len: usize) -> bool
     element::all_free(d, p.offset, w, at, len)
 }
 
-// What a place on the record is refused by, where `no` is what was refused before; 0 for nothing.
-fn placing(n: u32, rec: Record, no: u8, offset: u32, len: usize) -> u8
-    ensures { result ≡ placing_of n rec no offset len }
+// What a place on the record is refused by, after 1, 2, 3 and 6: 7, then 9.
+fn placing(n: u32, rec: Record, offset: u32, len: usize) -> Option<u8>
+    ensures { result ≡ refusal_in (placing_of n rec 0 offset len) }
 {
-    if no != 0 {
-        return no;
-    }
     if rec.marks.abort | (rec.marks.heard.done | rec.marks.heard.closed) {
-        return 7;
+        return Some(7);
     }
     if may_place(n, rec.inbound, offset, len) {
-        0
+        None
     } else {
-        9
+        Some(9)
     }
 }
 
-// The same, of the record that the slot shows; one outside the table shows all zeros.
-fn placing_at(n: u32, table: &[Record], slot: u32, no: u8, offset: u32, len: usize) -> u8
-    ensures { result ≡ placing_of n (record_at table.now slot) no offset len }
+// The bytes in the slot's element.
+fn store(n: u32, mem: &mut [u8], slot: u32, offset: u32, bytes: &[u8])
+    ensures { mem.new ≡ stored_by n mem.old slot 0 offset bytes.now }
 {
-    let i = plan::place_of(slot, table.len());
-    if i < table.len() {
-        let rec = table[i];
-        return placing(n, rec, no, offset, len);
-    } else {
-        let none = conn_record::zero_record();
-        return placing(n, none, no, offset, len);
-    }
-}
-
-// The bytes in the slot's element, where nothing was refused.
-fn store(n: u32, mem: &mut [u8], slot: u32, no: u8, offset: u32, bytes: &[u8])
-    ensures { mem.new ≡ stored_by n mem.old slot no offset bytes.now }
-{
-    if no == 0 {
-        let from = element::base_of(n, slot) + (offset as usize);
-        element::store(mem, from, bytes);
-    }
+    let from = element::base_of(n, slot) + (offset as usize);
+    element::store(mem, from, bytes);
 }
 
 // Places: the refusal's number, or 0 where the bytes are stored.
@@ -96,8 +77,17 @@ pub extern "C" fn fordlinnet_make_place(
         PlaceMade (group_of s n table.now ls mem.old) slot offset bytes.now result
         (group_of s n table.now ls mem.new)) }
 {
-    let no = plan::refusal_at(s, n, mem.len(), table, links, slot);
-    let k = placing_at(n, table, slot, no, offset, bytes.len());
-    store(n, mem, slot, k, offset, bytes);
-    k
+    match plan::refusal_at(s, n, mem.len(), table, links, slot) {
+        Some(j) => j,
+        None => {
+            let rec = group_table::record_at(table, slot as usize);
+            match placing(n, rec, offset, bytes.len()) {
+                Some(no) => no,
+                None => {
+                    store(n, mem, slot, offset, bytes);
+                    0
+                }
+            }
+        }
+    }
 }

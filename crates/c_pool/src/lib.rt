@@ -8,7 +8,7 @@ ghost use Rattle.c_pool.specs.FlatPool.{flat_of, PoolMade};
 
 use pool::{Outcome, Reply};
 
-// What an answer says.
+// What an answer says: no enum, as the numbers are C's (fordlinnet.h).
 const REFUSED: u32 = 1;
 
 const BLOCK: u32 = 10;
@@ -32,31 +32,32 @@ pub struct PoolAnswer {
 }
 
 // The answer, flat.
-fn answer_of(o: Outcome) -> PoolAnswer
-    ensures { result ≡ flat_of (says_of o.reply) o.books }
-{
-    let reply = o.reply;
-    let sizes = o.books;
-    let books = Books { sizes: sizes };
-    match reply {
-        Reply::Block(start) => PoolAnswer {
-            said: BLOCK,
-            refusal: 0,
-            start: start,
-            books: books,
-        },
-        Reply::Returned => PoolAnswer {
-            said: RETURNED,
-            refusal: 0,
-            start: 0,
-            books: books,
-        },
-        Reply::Refused(k) => PoolAnswer {
-            said: REFUSED,
-            refusal: k as u32,
-            start: 0,
-            books: books,
-        },
+impl From<Outcome> for PoolAnswer {
+    ghost from_gives = { λ o a. a ≡ flat_of (says_of o.reply) o.books };
+
+    fn from(o: Outcome) -> PoolAnswer {
+        let sizes = o.books;
+        let books = Books { sizes };
+        match o.reply {
+            Reply::Block(start) => PoolAnswer {
+                said: BLOCK,
+                refusal: 0,
+                start,
+                books,
+            },
+            Reply::Returned => PoolAnswer {
+                said: RETURNED,
+                refusal: 0,
+                start: 0,
+                books,
+            },
+            Reply::Refused(k) => PoolAnswer {
+                said: REFUSED,
+                refusal: k as u32,
+                start: 0,
+                books,
+            },
+        }
     }
 }
 
@@ -64,19 +65,19 @@ pub fn free_books() -> Books
     ensures { result.sizes ≡ free_pool }
 {
     let sizes = pool::free_pool();
-    Books { sizes: sizes }
+    Books { sizes }
 }
 
 pub fn take(books: Books, units: u32) -> PoolAnswer
     ensures { PoolMade books (Pool.Call.take units) result }
 {
     let sizes = books.sizes;
-    answer_of(pool::take(sizes, units))
+    PoolAnswer::from(pool::take(sizes, units))
 }
 
 pub fn give_back(books: Books, start: u32, units: u32) -> PoolAnswer
     ensures { PoolMade books (Pool.Call.give_back start units) result }
 {
     let sizes = books.sizes;
-    answer_of(pool::give_back(sizes, start, units))
+    PoolAnswer::from(pool::give_back(sizes, start, units))
 }

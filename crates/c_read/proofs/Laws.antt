@@ -1,4 +1,4 @@
--- What the proofs of `reading_at`, `put`, `tell_at` and `fordlinnet_make_read` cite. Assumes nothing.
+-- What the proof of `fordlinnet_make_read` cites. Assumes nothing.
 use Prim.Native.Nat.{ℕ, zero, suc, ◌<◌, ◌≤◌}
 use mathlib.Core.Path.{◌≡◌, refl, sym, ap, ◌∙◌, subst}
 use mathlib.Core.Bool.{Bool, true, false, ◌||◌, cond}
@@ -30,46 +30,9 @@ use Rattle.plan.proofs.DirectMadeLaws.{made_by, told_same}
 use Rattle.plan_read.specs.declared.ReadAnswer.{ReadAnswer}
 use Rattle.plan_read.specs.declared.Reading.{Reading}
 use Rattle.plan_read.specs.Reading.{refused_answer, refused_reading, torn_reading, took_of, reading_of, inbound_left, outbound_left, record_left, moved_of, message_left, copied_by}
-use Rattle.c_read.specs.ReadLeft.{LeftBy, LeftUnless}
+use Rattle.c_read.specs.ReadLeft.{LeftBy}
 use Rattle.c_read.specs.DirectRead.{read_answer_of, ReadMade, says_in, NothingLost}
 use Rattle.c_read.proofs.Agree.{Agrees, agree, refused_agree}
-
--- THE RECORD THAT THE SLOT SHOWS
-pub reading_at_returns : (n : ℕ) (m : List ℕ) (t : List Record) (k room : ℕ)
-    → (r : ℕ) → r ≡ index_of k (length t) → r < length t
-    → (q : Reading) → q ≡ reading_of n (intact_at m (base_of n k)) (get_or t r zero_record) room
-    → q ≡ reading_of n (intact_at m (base_of n k)) (record_at t k) room
-reading_at_returns n m t k room r e h q eq =
-    eq ∙ ap (λ (c : Record). reading_of n (intact_at m (base_of n k)) c room) (record_at_returns t k r e h)
-
-pub reading_at_returns_2 : (n : ℕ) (m : List ℕ) (t : List Record) (k room : ℕ)
-    → (r : ℕ) → r ≡ index_of k (length t) → length t ≤ r → (z : Record) → z ≡ zero_record
-    → (q : Reading) → q ≡ reading_of n (intact_at m (base_of n k)) z room
-    → q ≡ reading_of n (intact_at m (base_of n k)) (record_at t k) room
-reading_at_returns_2 n m t k room r e h z ez q eq =
-    eq ∙ ap (λ (c : Record). reading_of n (intact_at m (base_of n k)) c room) (record_at_returns_2 t k r e h z ez)
-
-pub tell_at_returns : (t : List Record) (k : ℕ) (q : Reading) (b : List ℕ)
-    → (r : ℕ) → r ≡ index_of k (length t) → r < length t → (u : Unit {0}) (c : List ℕ)
-    → c ≡ message_left (get_or t r zero_record) q b → c ≡ message_left (record_at t k) q b
-tell_at_returns t k q b r e h u c ec = ec ∙ ap (λ (x : Record). message_left x q b) (record_at_returns t k r e h)
-
-pub tell_at_returns_2 : (t : List Record) (k : ℕ) (q : Reading) (b : List ℕ)
-    → (r : ℕ) → r ≡ index_of k (length t) → length t ≤ r → (z : Record) → z ≡ zero_record → (u : Unit {0}) (c : List ℕ)
-    → c ≡ message_left z q b → c ≡ message_left (record_at t k) q b
-tell_at_returns_2 t k q b r e h z ez u c ec = ec ∙ ap (λ (x : Record). message_left x q b) (record_at_returns_2 t k r e h z ez)
-
-pub put_returns : (t : List Record) (k : ℕ) (q : Reading)
-    → (r : ℕ) → r ≡ index_of k (length t) → r < length t → (c : Record) → c ≡ record_left (get_or t r zero_record) q
-    → set t r c ≡ with_record t k (record_left (record_at t k) q)
-put_returns t k q r e h c ec =
-    put_record_returns t k c r e h
-    ∙ ap (with_record t k) (ec ∙ ap (λ (x : Record). record_left x q) (record_at_returns t k r e h))
-
-pub put_returns_2 : (t : List Record) (k : ℕ) (q : Reading)
-    → (r : ℕ) → r ≡ index_of k (length t) → length t ≤ r
-    → t ≡ with_record t k (record_left (record_at t k) q)
-put_returns_2 t k q r e h = put_record_returns_2 t k (record_left (record_at t k) q) r e h
 
 -- A REFUSED READING leaves its record as it was
 or-false : (a : Bool) → a || false ≡ a
@@ -186,10 +149,10 @@ module _ (s n : ℕ) (m : List ℕ) (t : List Record) (states : LinkStates) (k :
 
   -- one that they refuse
   pub refused_made : (refusal_at s n (length m) t states.active k ≡ 0 → ⊥)
-      → Promised (refused_answer (refusal_at s n (length m) t states.active k)) t out b
+      → (a : ReadAnswer) → a ≡ refused_answer (refusal_at s n (length m) t states.active k) → Promised a t out b
   unfolding message_left copied_by
-  refused_made z =
-      subst (λ (x : ℕ). Promised (refused_answer x) t out b) (sym held_is)
+  refused_made z a ea =
+      subst (λ (x : ReadAnswer). Promised x t out b) (sym (ea ∙ ap refused_answer held_is))
       (made (refused_reading held (record_at t k).inbound.consumer) (stays_refused n (length out) (record_at t k) held) b refl t
       (sym (ap (with_record t k) (left_refused (record_at t k) held) ∙ record_kept t k)) out
       (sym (read_none m (base_of n k) n (record_at t k).inbound.consumer.offset out))
@@ -222,41 +185,3 @@ module _ (s n : ℕ) (m : List ℕ) (t : List Record) (states : LinkStates) (k :
 
 pub nothing_lost : NothingLost
 nothing_lost g k out = all_said g.S g.N g.memory g.table (record { active = g.links }) k out [] (links_of g) refl
-
-pub read_on_returns : (n : ℕ) (m : List ℕ) (t : List Record) (k : ℕ) (out b : List ℕ)
-    → (r : Reading) → r ≡ reading_of n (intact_at m (base_of n k)) (record_at t k) (length out)
-    → (v : Unit {0}) (c : List ℕ) → c ≡ message_left (record_at t k) r b
-    → (w : Unit {0}) (u : List Record) → u ≡ with_record t k (record_left (record_at t k) r)
-    → (x : Unit {0}) (l : List ℕ) → l ≡ copied_by n m k r out
-    → (a : ReadAnswer) → a ≡ r.said
-    → LeftBy n m t k out b a u l c
-read_on_returns n m t k out b r er v c ec w u eu x l el a ea = (
-  ea ∙ ap (λ (q : Reading). q.said) er,
-  eu ∙ ap (λ (q : Reading). with_record t k (record_left (record_at t k) q)) er,
-  el ∙ ap (λ (q : Reading). copied_by n m k q out) er,
-  ec ∙ ap (λ (q : Reading). message_left (record_at t k) q b) er,
-)
-
-pub read_unless_returns : (j n : ℕ) (m : List ℕ) (t : List Record) (k : ℕ) (out b : List ℕ) → 0 < j
-    → (a : ReadAnswer) → a ≡ refused_answer j → LeftUnless j n m t k out b a t out b
-read_unless_returns j n m t k out b h a e =
-    (λ z. absurd (omega (arith, z, h)), λ _. (e, refl, refl, refl))
-
-pub read_unless_returns_2 : (j n : ℕ) (m : List ℕ) (t : List Record) (k : ℕ) (out b : List ℕ) → j ≤ 0
-    → (a : ReadAnswer) (u : List Record) (l c : List ℕ) → LeftBy n m t k out b a u l c → LeftUnless j n m t k out b a u l c
-read_unless_returns_2 j n m t k out b h a u l c e = (λ _. e, λ z. absurd (z (omega (arith, h))))
-
-pub fordlinnet_make_read_returns : (s n : ℕ) (m : List ℕ) (t : List Record) (states : LinkStates) (k : ℕ) (out b : List ℕ)
-    → (j : ℕ) → j ≡ refusal_at s n (length m) t states.active k
-    → (a : ReadAnswer) (u : List Record) (l c : List ℕ) → LeftUnless j n m t k out b a u l c
-    → Promised s n m t states k out b a u l c
-fordlinnet_make_read_returns s n m t states k out b zero e a u l c (f, g) = read_made s n m t states k out b (sym e) a u l c (f refl)
-fordlinnet_make_read_returns s n m t states k out b (suc j) e a u l c (f, g) =
-    let some : suc j ≡ 0 → ⊥ = λ z. absurd (omega (arith, z)) in
-    let left = g some in
-    let P = Promised s n m t states k out b in
-    subst (λ (z : ReadAnswer). P z u l c) (sym (left.0 ∙ ap refused_answer e))
-    (subst (λ (z : List Record). P (refused_answer (refusal_at s n (length m) t states.active k)) z l c) (sym left.1)
-    (subst (λ (z : List ℕ). P (refused_answer (refusal_at s n (length m) t states.active k)) t z c) (sym left.2)
-    (subst (λ (z : List ℕ). P (refused_answer (refusal_at s n (length m) t states.active k)) t out z) (sym left.3)
-    (refused_made s n m t states k out b (λ z. some (e ∙ z))))))

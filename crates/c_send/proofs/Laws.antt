@@ -1,4 +1,4 @@
--- What the proofs of `sending_at`, `put`, `tell_at`, `send_on`, `send_unless`, `send` and `fordlinnet_make_send` cite. Assumes nothing.
+-- What the proof of `send` cites. Assumes nothing.
 use Prim.Native.Nat.{ℕ, zero, suc, ◌<◌, ◌≤◌}
 use mathlib.Core.Path.{◌≡◌, refl, sym, ap, ◌∙◌, subst}
 use mathlib.Core.Bool.{Bool, true, false, not, cond}
@@ -30,74 +30,9 @@ use Rattle.plan_send.specs.declared.SendAnswer.{SendAnswer}
 use Rattle.plan_send.specs.declared.Sending.{Sending}
 use Rattle.plan_send.specs.Transmitting.{unsent_answer, unsent, sending_of}
 use Rattle.plan_send.specs.Transmitted.{inbound_left, place_left, outbound_moved, outbound_left, record_left, message_by, message_left}
-use Rattle.c_send.specs.TableLeft.{sending_at, LeftBy, LeftUnless}
+use Rattle.c_send.specs.TableLeft.{LeftBy}
 use Rattle.c_send.specs.DirectSend.{send_answer_of, request_of, Sends, SendMade, says_in, NothingLost, UrgentNothingLost}
 use Rattle.c_send.proofs.Agree.{rule_of, sending_unless, refused_first, Agrees, agree}
-
--- THE RECORD THAT THE SLOT SHOWS
-pub sending_at_returns : (urgent : Bool) (t : List Record) (k len : ℕ) → (r : ℕ) → r ≡ index_of k (length t) → r < length t
-    → (q : Sending) → q ≡ sending_of urgent (get_or t r zero_record) len → q ≡ sending_at urgent t k len
-unfolding sending_at
-sending_at_returns urgent t k len r e h q eq =
-    let i : ltb (index_of k (length t)) (length t) ≡ true = ap (λ (x : ℕ). ltb x (length t)) (sym e) ∙ lt-ltb r (length t) h in
-    let c : get_or t r zero_record ≡ record_at t k = record_at_returns t k r e h in
-    simp (eq, c, i)
-
-pub sending_at_returns_2 : (urgent : Bool) (t : List Record) (k len : ℕ) → (r : ℕ) → r ≡ index_of k (length t)
-    → length t ≤ r → (z : Record) → z ≡ zero_record → (q : Sending) → q ≡ unsent 0 z.outbound → q ≡ sending_at urgent t k len
-unfolding sending_at
-sending_at_returns_2 urgent t k len r e h z ez q eq =
-    let i : ltb (index_of k (length t)) (length t) ≡ false = ap (λ (x : ℕ). ltb x (length t)) (sym e) ∙ le-ltb r (length t) h in
-    simp (eq, ez, i)
-
-pub tell_at_returns : (urgent : Bool) (t : List Record) (k : ℕ) (q : Sending) (b : List ℕ)
-    → (r : ℕ) → r ≡ index_of k (length t) → r < length t → (u : Unit {0}) (c : List ℕ)
-    → c ≡ message_left urgent (get_or t r zero_record) q b → c ≡ message_left urgent (record_at t k) q b
-tell_at_returns urgent t k q b r e h u c ec = ec ∙ ap (λ (x : Record). message_left urgent x q b) (record_at_returns t k r e h)
-
-pub tell_at_returns_2 : (urgent : Bool) (t : List Record) (k : ℕ) (q : Sending) (b : List ℕ)
-    → (r : ℕ) → r ≡ index_of k (length t) → length t ≤ r → (z : Record) → z ≡ zero_record → (u : Unit {0}) (c : List ℕ)
-    → c ≡ message_left urgent z q b → c ≡ message_left urgent (record_at t k) q b
-tell_at_returns_2 urgent t k q b r e h z ez u c ec = ec ∙ ap (λ (x : Record). message_left urgent x q b) (record_at_returns_2 t k r e h z ez)
-
-pub put_returns : (urgent : Bool) (t : List Record) (k : ℕ) (q : Sending)
-    → (r : ℕ) → r ≡ index_of k (length t) → r < length t → (c : Record) → c ≡ record_left urgent (get_or t r zero_record) q
-    → set t r c ≡ with_record t k (record_left urgent (record_at t k) q)
-put_returns urgent t k q r e h c ec =
-    put_record_returns t k c r e h
-    ∙ ap (with_record t k) (ec ∙ ap (λ (x : Record). record_left urgent x q) (record_at_returns t k r e h))
-
-pub put_returns_2 : (urgent : Bool) (t : List Record) (k : ℕ) (q : Sending)
-    → (r : ℕ) → r ≡ index_of k (length t) → length t ≤ r
-    → t ≡ with_record t k (record_left urgent (record_at t k) q)
-put_returns_2 urgent t k q r e h = put_record_returns_2 t k (record_left urgent (record_at t k) q) r e h
-
--- A SLOT OUTSIDE THE TABLE shows all zeros, so that its call was refused before
-some : (sized : Bool) (x : ℕ) → x ≡ 2 → cond sized x 1 ≡ 0 → ⊥
-some true x e z = absurd (omega (arith, e, z))
-some false x e z = absurd (omega (arith, z))
-
-zero_refused : (s n size : ℕ) (t : List Record) (active : List Bool) (k first : ℕ) → zero_record ≡ record_at t k
-    → first ≡ refusal_at s n size t active k → first ≡ 0 → ⊥
-unfolding refusal_at
-zero_refused s n size t active k first e h z =
-    some (sizes_b s n size (length t)) (held_of s n active k (record_at t k))
-    (ap (held_of s n active k) (sym e) ∙ held_shut s n active k) (sym h ∙ z)
-
-module _
-    (urgent : Bool) (s n size : ℕ) (t : List Record) (active : List Bool) (k first len : ℕ) (h : first ≡ refusal_at s n size t active k)
-    (f : first ≡ 0)
-  where
-    by_place : (b : Bool) → ltb (index_of k (length t)) (length t) ≡ b → sending_at urgent t k len ≡ sending_of urgent (record_at t k) len
-    unfolding sending_at
-    by_place true e = simp e
-    by_place false e =
-        let z : zero_record ≡ record_at t k =
-        record_at_returns_2 t k (index_of k (length t)) refl (ltb-false (index_of k (length t)) (length t) e) zero_record refl in
-        absurd (zero_refused s n size t active k first z h f)
-
-    shown : sending_at urgent t k len ≡ sending_of urgent (record_at t k) len
-    shown = by_place (ltb (index_of k (length t)) (length t)) refl
 
 -- nothing sent leaves the record as it was
 left_unsent : (urgent : Bool) (rec : Record) (j : ℕ) → record_left urgent rec (unsent j rec.outbound) ≡ rec
@@ -180,90 +115,40 @@ module _
       all_said ea =
           subst (λ (x : Answer). says_in (send_answer_of x) ≡ x.says) (did ea).answered (ap says_in (sym ag.answers) ∙ ag.says)
 
--- the two ways of `send_unless` are one sending
-positive : (j : ℕ) → (j ≡ 0 → ⊥) → 0 < j
-positive zero z = absurd (z refl)
-positive (suc j) z = omega arith
+-- the two ways of the code are one sending
+module _ (urgent : Bool) (s n : ℕ) (m : List ℕ) (t : List Record) (states : LinkStates) (k : ℕ) (bytes b : List ℕ) where
+  abbrev no : ℕ
+  no = refusal_at s n (length m) t states.active k
 
-module _
-    (urgent : Bool) (s n size : ℕ) (t : List Record) (active : List Bool) (k : ℕ) (bytes b : List ℕ) (first : ℕ)
-    (eno : first ≡ refusal_at s n size t active k) (a : SendAnswer) (u : List Record) (c : List ℕ)
-    (h : LeftUnless first urgent t k bytes b a u c)
-  where
-    abbrev all : Sending
-    all = sending_unless urgent first (record_at t k) (length bytes)
+  abbrev rec : Record
+  rec = record_at t k
 
-    pub record OneSending : Type 0 where
-      pub answer_is : a ≡ all.said
-      pub table_is : u ≡ with_record t k (record_left urgent (record_at t k) all)
-      pub message_is : c ≡ message_left urgent (record_at t k) all b
+  abbrev all : Sending
+  all = sending_unless urgent no rec (length bytes)
 
-    one_by : (z : Bool) → eqb first 0 ≡ z → OneSending
-    unfolding message_left
-    one_by true z =
-        let f : first ≡ 0 = eqb-true first 0 z in
-        let l : LeftBy urgent t k bytes b a u c = h.0 f in
-        let e : sending_at urgent t k (length bytes) ≡ all =
-        shown urgent s n size t active k first (length bytes) eno f
-        ∙ ap (λ (x : ℕ). sending_unless urgent x (record_at t k) (length bytes)) (sym f) in
-        record {
-          answer_is = l.0 ∙ ap (λ (q : Sending). q.said) e;
-          table_is = l.1 ∙ ap (λ (q : Sending). with_record t k (record_left urgent (record_at t k) q)) e;
-          message_is = l.2 ∙ ap (λ (q : Sending). message_left urgent (record_at t k) q b) e;
-        }
-    one_by false z =
-        let f = eqb-false first 0 z in
-        let l = h.1 (positive first f) in
-        let e : unsent first (record_at t k).outbound ≡ all = sym (refused_first urgent first f (record_at t k) (length bytes)) in
-        record {
-          answer_is = l.0 ∙ ap (λ (q : Sending). q.said) e;
-          table_is =
-              l.1
-              ∙ sym (record_kept t k)
-              ∙ ap (with_record t k) (sym (left_unsent urgent (record_at t k) first))
-              ∙ ap (λ (q : Sending). with_record t k (record_left urgent (record_at t k) q)) e;
-          message_is = l.2 ∙ ap (λ (q : Sending). message_left urgent (record_at t k) q b) e;
-        }
+  abbrev Promised : SendAnswer → List Record → List ℕ → Type 0
+  Promised a u c = InEveryGroup states.active (λ (ls : Links). Sends urgent (group_of s n t ls m) k bytes b a (group_of s n u ls m) c)
 
-    pub one_sending : OneSending
-    one_sending = one_by (eqb first 0) refl
+  by_one : (q : Sending) → q ≡ all → (a : SendAnswer) (u : List Record) (c : List ℕ) → a ≡ q.said
+      → u ≡ with_record t k (record_left urgent rec q) → c ≡ message_left urgent rec q b → Promised a u c
+  by_one q e a u c ea eu ec ls el =
+      subst (λ (y : SendAnswer). Sends urgent (group_of s n t ls m) k bytes b y (group_of s n u ls m) c)
+      (sym (ea ∙ ap (λ (x : Sending). x.said) e))
+      (sends urgent s n m t states k bytes b no refl all refl c (ec ∙ ap (λ (x : Sending). message_left urgent rec x b) e) u
+      (eu ∙ ap (λ (x : Sending). with_record t k (record_left urgent rec x)) e) ls el)
 
-pub send_on_returns : (urgent : Bool) (t : List Record) (k : ℕ) (bytes b : List ℕ)
-    → (r : Sending) → r ≡ sending_at urgent t k (length bytes)
-    → (v : Unit {0}) (c : List ℕ) → c ≡ message_left urgent (record_at t k) r b
-    → (w : Unit {0}) (u : List Record) → u ≡ with_record t k (record_left urgent (record_at t k) r)
-    → (a : SendAnswer) → a ≡ r.said
-    → LeftBy urgent t k bytes b a u c
-send_on_returns urgent t k bytes b r er v c ec w u eu a ea = (
-  ea ∙ ap (λ (q : Sending). q.said) er,
-  eu ∙ ap (λ (q : Sending). with_record t k (record_left urgent (record_at t k) q)) er,
-  ec ∙ ap (λ (q : Sending). message_left urgent (record_at t k) q b) er,
-)
+  -- one that 1, 2, 3 and 6 do not refuse
+  pub send_made : no ≡ 0 → (a : SendAnswer) (u : List Record) (c : List ℕ) → LeftBy urgent t k bytes b a u c → Promised a u c
+  send_made z a u c l =
+      by_one (sending_of urgent rec (length bytes)) (ap (λ (x : ℕ). sending_unless urgent x rec (length bytes)) (sym z)) a u c
+      l.0 l.1 l.2
 
-pub send_unless_returns : (j : ℕ) (urgent : Bool) (t : List Record) (k : ℕ) (bytes b : List ℕ) → 0 < j
-    → (a : SendAnswer) → a ≡ unsent_answer j → LeftUnless j urgent t k bytes b a t b
-send_unless_returns j urgent t k bytes b h a ea = (λ e. absurd (omega (arith, h, e)), λ e. (ea, refl, refl))
-
-pub send_unless_returns_2 : (j : ℕ) (urgent : Bool) (t : List Record) (k : ℕ) (bytes b : List ℕ) → j ≤ 0
-    → (a : SendAnswer) (u : List Record) (c : List ℕ) → LeftBy urgent t k bytes b a u c → LeftUnless j urgent t k bytes b a u c
-send_unless_returns_2 j urgent t k bytes b h a u c l = (λ e. l, λ e. absurd (omega (arith, h, e)))
-
-pub send_returns : (urgent : Bool) (s n : ℕ) (m : List ℕ) (t : List Record) (states : LinkStates) (k : ℕ) (bytes b : List ℕ)
-    → (first : ℕ) → first ≡ refusal_at s n (length m) t states.active k
-    → (a : SendAnswer) (u : List Record) (c : List ℕ) → LeftUnless first urgent t k bytes b a u c
-    → InEveryGroup states.active (λ (ls : Links). Sends urgent (group_of s n t ls m) k bytes b a (group_of s n u ls m) c)
-send_returns urgent s n m t states k bytes b first eno a u c l ls ea =
-    let one = one_sending urgent s n (length m) t states.active k bytes b first eno a u c l in
-    let q : Sending = sending_unless urgent first (record_at t k) (length bytes) in
-    subst (λ (y : SendAnswer). Sends urgent (group_of s n t ls m) k bytes b y (group_of s n u ls m) c) (sym one.answer_is)
-    (sends urgent s n m t states k bytes b first eno q refl c one.message_is u one.table_is ls ea)
-
-pub fordlinnet_make_send_returns : (s n : ℕ) (m : List ℕ) (t : List Record) (states : LinkStates) (k : ℕ) (bytes b : List ℕ)
-    → (urgent : Bool) → urgent ≡ false → (a : SendAnswer) (u : List Record) (c : List ℕ)
-    → InEveryGroup states.active (λ (ls : Links). Sends urgent (group_of s n t ls m) k bytes b a (group_of s n u ls m) c)
-    → InEveryGroup states.active (λ (ls : Links). SendMade (group_of s n t ls m) k bytes b a (group_of s n u ls m) c)
-fordlinnet_make_send_returns s n m t states k bytes b urgent e a u c h ls ea =
-    subst (λ (x : Bool). Sends x (group_of s n t ls m) k bytes b a (group_of s n u ls m) c) e (h ls ea)
+  -- one that they refuse
+  pub send_refused : (no ≡ 0 → ⊥) → (a : SendAnswer) → a ≡ unsent_answer no → Promised a t b
+  unfolding message_left
+  send_refused z a ea =
+      by_one (unsent no rec.outbound) (sym (refused_first urgent no z rec (length bytes))) a t b ea
+      (sym (record_kept t k) ∙ ap (with_record t k) (sym (left_unsent urgent rec no))) refl
 
 lost_by : (urgent : Bool) (g : Group) (k : ℕ) (bytes : List ℕ)
     → (let a = answer g (on k (request_of urgent bytes)) in says_in (send_answer_of a) ≡ a.says)

@@ -6,69 +6,34 @@
 // step (docs/SPEED.md).
 #![tactic(auto)]
 
-ghost use Rattle.std.specs.Prelude.{◌≡◌, false};
+ghost use Rattle.std.specs.Prelude.{◌≡◌};
 ghost use Rattle.group_table.specs.declared.Links.{Links};
 ghost use Rattle.group_table.specs.Table.{record_at, with_record};
 ghost use Rattle.group_rules.specs.Rules.{group_of};
 ghost use Rattle.plan.specs.DirectMade.{InEveryGroup};
 ghost use Rattle.plan_send.specs.Transmitted.{record_left, message_left};
-ghost use Rattle.c_send.specs.TableLeft.{sending_at, LeftBy, LeftUnless};
+ghost use Rattle.c_send.specs.TableLeft.{LeftBy};
 ghost use Rattle.c_send.specs.DirectSend.{Sends, SendMade};
 
 use conn_record::Record;
 use plan::LinkStates;
 use plan_send::{SendAnswer, Sending};
 
-// A send of `len` bytes on the slot: on its record, where the table has it. One outside the table is refused before.
-pub fn sending_at(urgent: bool, table: &[Record], slot: u32, len: usize) -> Sending
-    ensures { result ≡ sending_at urgent table.now slot len }
-{
-    let i = plan::place_of(slot, table.len());
-    if i < table.len() {
-        let rec = table[i];
-        return plan_send::send_record(urgent, rec, len);
-    } else {
-        let none = conn_record::zero_record();
-        return plan_send::nothing(0, none.outbound);
-    }
-}
-
 // Stores what the send changed.
 pub fn put(urgent: bool, table: &mut [Record], slot: u32, t: Sending)
     ensures { table.new ≡ with_record table.old slot (record_left urgent (record_at table.old slot) t) }
 {
-    let at = plan::place_of(slot, table.len());
-    if at < table.len() {
-        let rec = table[at];
-        let next = plan_send::left(urgent, rec, t);
-        table[at] = next;
-        return;
-    } else {
-        return;
-    }
+    let rec = group_table::record_at(table, slot as usize);
+    let next = plan_send::left(urgent, rec, t);
+    group_table::put_record(table, slot as usize, next);
 }
 
 // The message, where one is made.
 pub fn tell_at(urgent: bool, table: &[Record], slot: u32, t: Sending, to: &mut [u8; 44])
     ensures { to.new ≡ message_left urgent (record_at table.now slot) t to.old }
 {
-    let from = plan::place_of(slot, table.len());
-    if from < table.len() {
-        let rec = table[from];
-        plan_send::tell(urgent, rec, t, to);
-        return;
-    } else {
-        let none = conn_record::zero_record();
-        plan_send::tell(urgent, none, t, to);
-        return;
-    }
-}
-
-// What the caller sees of it.
-fn answer_of(t: Sending) -> SendAnswer
-    ensures { result ≡ t.said }
-{
-    t.said
+    let from = group_table::record_at(table, slot as usize);
+    plan_send::tell(urgent, from, t, to);
 }
 
 // A send that 1, 2, 3 and 6 do not refuse.
@@ -82,29 +47,11 @@ fn send_on(
     ensures { LeftBy urgent table.old slot bytes.now message.old result table.new
         message.new }
 {
-    let t = sending_at(urgent, table, slot, bytes.len());
+    let rec = group_table::record_at(table, slot as usize);
+    let t = plan_send::send_record(urgent, rec, bytes.len());
     tell_at(urgent, table, slot, t, message);
     put(urgent, table, slot, t);
-    answer_of(t)
-}
-
-// The same, and one that is refused by `j`, where that is not 0.
-fn send_unless(
-    j: u8,
-    urgent: bool,
-    table: &mut [Record],
-    slot: u32,
-    bytes: &[u8],
-    message: &mut [u8; 44],
-) -> SendAnswer
-    ensures { LeftUnless j urgent table.old slot bytes.now message.old result table.new
-        message.new }
-{
-    if 0 < j {
-        return plan_send::refused(j);
-    } else {
-        return send_on(urgent, table, slot, bytes, message);
-    }
+    t.said
 }
 
 // Either. What refuses comes first, so that the compiler knows in what follows all that the tests have shown.
@@ -123,14 +70,10 @@ pub fn send(
         Sends urgent (group_of s n table.old ls mem.now) slot bytes.now message.old result
         (group_of s n table.new ls mem.now) message.new) }
 {
-    let j = plan::refusal_at(s, n, mem.len(), table, links, slot);
-    send_unless(j, urgent, table, slot, bytes, message)
-}
-
-fn not_urgent() -> bool
-    ensures { result ≡ false }
-{
-    false
+    match plan::refusal_at(s, n, mem.len(), table, links, slot) {
+        Some(j) => plan_send::refused(j),
+        None => send_on(urgent, table, slot, bytes, message),
+    }
 }
 
 // A library exports nothing: crate `c_send_c` has this one for C, under the same name.
@@ -149,6 +92,5 @@ pub extern "C" fn fordlinnet_make_send(
         SendMade (group_of s n table.old ls mem.now) slot bytes.now message.old result
         (group_of s n table.new ls mem.now) message.new) }
 {
-    let urgent = not_urgent();
-    send(urgent, s, n, mem, table, links, slot, bytes, message)
+    send(false, s, n, mem, table, links, slot, bytes, message)
 }

@@ -1,23 +1,17 @@
 -- Set-up's messages due by number, and its answer without enums. Assumes nothing.
-use Rattle.std.specs.Prelude.{ℕ, true, false, cond, List, ltb, eqb}
+use Rattle.std.specs.Prelude.{ℕ, true, false, cond, List, ltb, eqb, Option, Some, None, Ok, Err}
 use Rattle.setup_read.specs.Places.{zeros}
 use Rattle.setup.specs.declared.Settings.{Settings}
 use Rattle.setup.specs.declared.Due.{Due}
-use Rattle.setup.specs.declared.Due.TheVariants.{Nothing, Proposal, Accept, Confirm}
+use Rattle.setup.specs.declared.Due.TheVariants.{Proposal, Accept, Confirm}
 use Rattle.setup.specs.declared.Arguments.{Arguments}
-use Rattle.setup.specs.declared.Opening.{Opening}
-use Rattle.setup.specs.declared.Opening.TheVariants.{NoOpen, Open}
-use Rattle.setup.specs.declared.Diagnosis.{Diagnosis}
-use Rattle.setup.specs.declared.Diagnosis.TheVariants.{NoDiagnosis, Number}
-use Rattle.setup.specs.declared.Outcome.{Outcome}
-use Rattle.setup.specs.declared.Outcome.TheVariants.{Refused, Answered}
 use Rattle.setup.specs.declared.Answer.{Answer}
-use Rattle.setup.specs.Setup.{setup_of}
+use Rattle.setup.specs.Setup.{Outcome, refusal_number, setup_of}
 use Rattle.c_setup.specs.declared.SetupAnswer.{SetupAnswer}
 
 -- the message due: 1 Proposal, 2 Accept, 3 Confirm, else none (0; any other is unknown, below)
-unfoldable pub due_of : ℕ → Due
-due_of k = cond (eqb k 1) Proposal (cond (eqb k 2) Accept (cond (eqb k 3) Confirm Nothing))
+unfoldable pub due_of : ℕ → Option Due
+due_of k = cond (eqb k 1) (Some Proposal) (cond (eqb k 2) (Some Accept) (cond (eqb k 3) (Some Confirm) None))
 
 -- where no open is named
 abbrev pub no_arguments : Arguments
@@ -54,9 +48,9 @@ bare_setup said refusal count message =
     }
 
 -- columns "open" and "diagnosis"
-abbrev pub with_opening : Opening → SetupAnswer → SetupAnswer
-with_opening NoOpen f = f
-with_opening (Open given) f =
+abbrev pub with_opening : Option Arguments → SetupAnswer → SetupAnswer
+with_opening None f = f
+with_opening (Some given) f =
     record {
       said = f.said;
       refusal = f.refusal;
@@ -68,9 +62,9 @@ with_opening (Open given) f =
       message = f.message;
     }
 
-abbrev pub with_diagnosis : Diagnosis → SetupAnswer → SetupAnswer
-with_diagnosis NoDiagnosis f = f
-with_diagnosis (Number d) f =
+abbrev pub with_diagnosis : Option ℕ → SetupAnswer → SetupAnswer
+with_diagnosis None f = f
+with_diagnosis (Some d) f =
     record {
       said = f.said;
       refusal = f.refusal;
@@ -84,9 +78,8 @@ with_diagnosis (Number d) f =
 
 -- 1 refused, with the refusal's number; 12 answered
 abbrev pub flat_outcome : Outcome → ℕ → List ℕ → SetupAnswer
-flat_outcome (Refused k) count message = bare_setup 1 k count message
-flat_outcome (Answered opening diagnosis) count message =
-    with_diagnosis diagnosis (with_opening opening (bare_setup 12 0 count message))
+flat_outcome (Err k) count message = bare_setup 1 (refusal_number k) count message
+flat_outcome (Ok a) count message = with_diagnosis a.diagnosis (with_opening a.opening (bare_setup 12 0 count message))
 
 abbrev pub flat_of : Answer → SetupAnswer
 flat_of a = flat_outcome a.outcome a.count a.message

@@ -2,11 +2,11 @@
 #![tactic(auto)]
 
 ghost use Rattle.std.specs.Prelude.{◌≡◌};
-ghost use Rattle.c_setup.specs.FlatSetup.{no_arguments, due_of, bare_setup, with_opening, with_diagnosis, flat_of, flat_setup};
+ghost use Rattle.c_setup.specs.FlatSetup.{due_of, bare_setup, with_opening, with_diagnosis, flat_of, flat_setup};
 
-use setup::{Answer, Arguments, Diagnosis, Due, Opening, Outcome, Settings};
+use setup::{Answer, Arguments, Due, Settings};
 
-// What an answer says.
+// What an answer says: no enum, as the numbers are C's (fordlinnet.h).
 const UNKNOWN: u32 = 0;
 
 const REFUSED: u32 = 1;
@@ -30,36 +30,15 @@ pub struct SetupAnswer {
     pub message: [u8; 188],
 }
 
-fn no_arguments() -> Arguments
-    ensures { result ≡ no_arguments }
-{
-    Arguments {
-        slot: 0,
-        own: 0,
-        token: 0,
-        link: 0,
-        size: 0,
-        index: 0,
-        key1: 0,
-        base1: 0,
-        key2: 0,
-        base2: 0,
-        key3: 0,
-        base3: 0,
-        key4: 0,
-        base4: 0,
-    }
-}
-
 // The message due of a number; any other than those of a message is nothing.
-fn due_of(k: u32) -> Due
+fn due_of(k: u32) -> Option<Due>
     ensures { result ≡ due_of k }
 {
     match k {
-        1 => Due::Proposal,
-        2 => Due::Accept,
-        3 => Due::Confirm,
-        _ => Due::Nothing,
+        1 => Some(Due::Proposal),
+        2 => Some(Due::Accept),
+        3 => Some(Due::Confirm),
+        _ => None,
     }
 }
 
@@ -67,60 +46,53 @@ fn due_of(k: u32) -> Due
 fn bare(said: u32, refusal: u32, count: usize, message: [u8; 188]) -> SetupAnswer
     ensures { result ≡ bare_setup said refusal count message }
 {
-    let none = no_arguments();
     SetupAnswer {
-        said: said,
-        refusal: refusal,
+        said,
+        refusal,
         opens: false,
         declined: false,
         diagnosis: 0,
-        count: count,
-        arguments: none,
-        message: message,
+        count,
+        arguments: Arguments::default(),
+        message,
     }
 }
 
-fn with_opening(opening: Opening, f: SetupAnswer) -> SetupAnswer
+fn with_opening(opening: Option<Arguments>, f: SetupAnswer) -> SetupAnswer
     ensures { result ≡ with_opening opening f }
 {
     let mut a = f;
-    match opening {
-        Opening::NoOpen => {}
-        Opening::Open(given) => {
-            a.opens = true;
-            a.arguments = given;
-        }
+    if let Some(given) = opening {
+        a.opens = true;
+        a.arguments = given;
     }
     a
 }
 
-fn with_diagnosis(diagnosis: Diagnosis, f: SetupAnswer) -> SetupAnswer
+fn with_diagnosis(diagnosis: Option<u32>, f: SetupAnswer) -> SetupAnswer
     ensures { result ≡ with_diagnosis diagnosis f }
 {
     let mut a = f;
-    match diagnosis {
-        Diagnosis::NoDiagnosis => {}
-        Diagnosis::Number(d) => {
-            a.declined = true;
-            a.diagnosis = d;
-        }
+    if let Some(d) = diagnosis {
+        a.declined = true;
+        a.diagnosis = d;
     }
     a
 }
 
 // The answer, flat.
-fn answer_of(a: Answer) -> SetupAnswer
-    ensures { result ≡ flat_of a }
-{
-    let outcome = a.outcome;
-    let count = a.count;
-    let message = a.message;
-    match outcome {
-        Outcome::Refused(k) => bare(REFUSED, k as u32, count, message),
-        Outcome::Answered(opening, diagnosis) => with_diagnosis(
-            diagnosis,
-            with_opening(opening, bare(ANSWERED, 0, count, message)),
-        ),
+impl From<Answer> for SetupAnswer {
+    ghost from_gives = { λ a f. f ≡ flat_of a };
+
+    fn from(a: Answer) -> SetupAnswer {
+        let message = a.message;
+        match a.outcome {
+            Err(refusal) => bare(REFUSED, u8::from(refusal) as u32, a.count, message),
+            Ok(answered) => with_diagnosis(
+                answered.diagnosis,
+                with_opening(answered.opening, bare(ANSWERED, 0, a.count, message)),
+            ),
+        }
     }
 }
 
@@ -131,6 +103,5 @@ pub fn setup(settings: Settings, due: u32, bytes: &[u8]) -> SetupAnswer
     if CONFIRM < due {
         return bare(UNKNOWN, 0, 0, [0u8; 188]);
     }
-    let what = due_of(due);
-    answer_of(setup::setup(settings, what, bytes))
+    SetupAnswer::from(setup::setup(settings, due_of(due), bytes))
 }

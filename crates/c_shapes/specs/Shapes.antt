@@ -1,8 +1,11 @@
 -- The structs of the exported calls with known values, field by field. Assumes nothing.
-use Rattle.std.specs.Prelude.{ℕ, ◌*◌, [], ◌∷◌, eqb, Float, pos, replicate}
+use Rattle.std.specs.Prelude.{ℕ, ◌+◌, ◌*◌, List, [], ◌∷◌, eqb, Float, pos, replicate}
 use Rattle.std.specs.Float.{binary64}
 use Rattle.std.specs.Float.Ieee.{of_int}
+use Rattle.conn_record.specs.declared.RToken.{RToken}
 use Rattle.conn_record.specs.declared.Record.{Record}
+use Rattle.gauge.specs.declared.Gauge.{Gauge}
+use Rattle.link_exchange.specs.declared.Waiting.{Waiting}
 use Rattle.c_call.specs.declared.FlatAnswer.{FlatAnswer}
 use Rattle.c_call.specs.declared.FlatCommand.{FlatCommand}
 use Rattle.c_call.specs.declared.FlatLinks.{FlatLinks}
@@ -25,6 +28,34 @@ ends64 i = i * 72057594037927937
 
 abbrev pub whole : ℕ → Float
 whole i = of_int binary64 (pos i)
+
+-- what is filled more than once, counted from i
+abbrev pub filled_rtoken : ℕ → RToken
+filled_rtoken i = record { key = ends32 i; base = ends64 (i + 1) }
+
+abbrev pub filled_values : ℕ → List ℕ
+filled_values i =
+    ends64 i ∷ ends64 (i + 1) ∷ ends64 (i + 2) ∷ ends64 (i + 3) ∷ ends64 (i + 4) ∷ ends64 (i + 5) ∷ ends64 (i + 6) ∷ ends64 (i + 7)
+    ∷ ends64 (i + 8) ∷ ends64 (i + 9) ∷ ends64 (i + 10) ∷ ends64 (i + 11) ∷ []
+
+abbrev pub filled_gauge : ℕ → ℕ → Gauge
+filled_gauge i one = record { mean = whole i; worst = whole (i + 1); count = i + 2; late = eqb one (i + 3) }
+
+abbrev pub filled_waiting : ℕ → Waiting
+filled_waiting i = record { link = i; bytes = replicate 44 (i + 1) }
+
+abbrev pub filled_links : ℕ → ℕ → FlatLinks
+filled_links i one =
+    record {
+      active = eqb one i ∷ eqb one (i + 1) ∷ eqb one (i + 2) ∷ eqb one (i + 3) ∷ [];
+      gauges = filled_gauge (i + 4) one ∷ filled_gauge (i + 8) one ∷ filled_gauge (i + 12) one ∷ filled_gauge (i + 16) one ∷ [];
+      server = eqb one (i + 20);
+      exchange = record { stage = i + 21; v = i + 22; w = i + 23 };
+      queue = record {
+        count = i + 24;
+        places = filled_waiting (i + 25) ∷ filled_waiting (i + 27) ∷ filled_waiting (i + 29) ∷ filled_waiting (i + 31) ∷ [];
+      };
+    }
 
 abbrev pub shape_record : ℕ → Record
 shape_record one =

@@ -3,7 +3,8 @@
 // has i in its lowest and its highest byte, and is i as a float; a bool is whether `one` is i; each byte of an array is i.
 #![tactic(auto)]
 
-ghost use Rattle.std.specs.Prelude.{◌≡◌};
+ghost use Rattle.std.specs.Prelude.{◌≡◌, ◌<◌};
+ghost use Rattle.c_shapes.specs.Shapes.{ends32, ends64, filled_rtoken, filled_values, filled_gauge, filled_waiting, filled_links};
 ghost use Rattle.c_shapes.specs.Shapes.{shape_record, shape_links, shape_command, shape_link_command, shape_answer, shape_link_answer};
 ghost use Rattle.c_shapes.specs.Shapes.{shape_view, shape_pool_answer, shape_settings, shape_setup_answer};
 
@@ -19,6 +20,110 @@ use gauge::Gauge;
 use link_exchange::{Exchange, Queue, Waiting};
 use setup::{Arguments, Settings};
 
+// Number i, in its lowest and its highest byte.
+fn ends32(i: u8) -> u32
+    ensures { result ≡ ends32 i }
+{
+    (i as u32) * 16777217
+}
+
+fn ends64(i: u8) -> u64
+    ensures { result ≡ ends64 i }
+{
+    (i as u64) * 72057594037927937
+}
+
+// What is filled more than once, counted from i. Cursors and placings are spelled out: a function for each, with its contract, is longer.
+fn rtoken(i: u8) -> RToken
+    requires { i < 100 }
+    ensures { result ≡ filled_rtoken i }
+{
+    RToken {
+        key: ends32(i),
+        base: ends64(i + 1),
+    }
+}
+
+fn values(i: u8) -> [u64; 12]
+    requires { i < 100 }
+    ensures { result ≡ filled_values i }
+{
+    [
+        ends64(i),
+        ends64(i + 1),
+        ends64(i + 2),
+        ends64(i + 3),
+        ends64(i + 4),
+        ends64(i + 5),
+        ends64(i + 6),
+        ends64(i + 7),
+        ends64(i + 8),
+        ends64(i + 9),
+        ends64(i + 10),
+        ends64(i + 11),
+    ]
+}
+
+fn gauge(i: u8, one: u32) -> Gauge
+    requires { i < 100 }
+    ensures { result ≡ filled_gauge i one }
+{
+    Gauge {
+        mean: f64::from(i),
+        worst: f64::from(i + 1),
+        count: i + 2,
+        late: one == (i as u32) + 3,
+    }
+}
+
+fn waiting(i: u8) -> Waiting
+    requires { i < 100 }
+    ensures { result ≡ filled_waiting i }
+{
+    Waiting {
+        link: i,
+        bytes: [i + 1; 44],
+    }
+}
+
+fn links_from(i: u8, one: u32) -> FlatLinks
+    requires { i < 50 }
+    ensures { result ≡ filled_links i one }
+{
+    let first = i as u32;
+    let gauges = [
+        gauge(i + 4, one),
+        gauge(i + 8, one),
+        gauge(i + 12, one),
+        gauge(i + 16, one),
+    ];
+    let places = [
+        waiting(i + 25),
+        waiting(i + 27),
+        waiting(i + 29),
+        waiting(i + 31),
+    ];
+    FlatLinks {
+        active: [
+            one == first,
+            one == first + 1,
+            one == first + 2,
+            one == first + 3,
+        ],
+        gauges,
+        server: one == first + 20,
+        exchange: Exchange {
+            stage: i + 21,
+            v: i + 22,
+            w: i + 23,
+        },
+        queue: Queue {
+            count: i + 24,
+            places,
+        },
+    }
+}
+
 pub fn record(one: u32) -> Record
     ensures { result ≡ shape_record one }
 {
@@ -28,29 +133,13 @@ pub fn record(one: u32) -> Record
         peer: 50331651,
         link: 4,
     };
-    let remote_link1 = RToken {
-        key: 117440519,
-        base: 576460752303423496,
-    };
-    let remote_link2 = RToken {
-        key: 150994953,
-        base: 720575940379279370,
-    };
-    let remote_link3 = RToken {
-        key: 184549387,
-        base: 864691128455135244,
-    };
-    let remote_link4 = RToken {
-        key: 218103821,
-        base: 1008806316530991118,
-    };
     let remote = Remote {
         size: 83886085,
         index: 100663302,
-        link1: remote_link1,
-        link2: remote_link2,
-        link3: remote_link3,
-        link4: remote_link4,
+        link1: rtoken(7),
+        link2: rtoken(9),
+        link3: rtoken(11),
+        link4: rtoken(13),
     };
     let inbound_producer = Cursor {
         offset: 251658255,
@@ -130,90 +219,19 @@ pub fn record(one: u32) -> Record
 pub fn links(one: u32) -> FlatLinks
     ensures { result ≡ shape_links one }
 {
-    let gauges_1 = Gauge {
-        mean: 5.0,
-        worst: 6.0,
-        count: 7,
-        late: one == 8,
-    };
-    let gauges_2 = Gauge {
-        mean: 9.0,
-        worst: 10.0,
-        count: 11,
-        late: one == 12,
-    };
-    let gauges_3 = Gauge {
-        mean: 13.0,
-        worst: 14.0,
-        count: 15,
-        late: one == 16,
-    };
-    let gauges_4 = Gauge {
-        mean: 17.0,
-        worst: 18.0,
-        count: 19,
-        late: one == 20,
-    };
-    let exchange = Exchange {
-        stage: 22,
-        v: 23,
-        w: 24,
-    };
-    let waiting_1 = Waiting {
-        link: 26,
-        bytes: [27u8; 44],
-    };
-    let waiting_2 = Waiting {
-        link: 28,
-        bytes: [29u8; 44],
-    };
-    let waiting_3 = Waiting {
-        link: 30,
-        bytes: [31u8; 44],
-    };
-    let waiting_4 = Waiting {
-        link: 32,
-        bytes: [33u8; 44],
-    };
-    let queue = Queue {
-        count: 25,
-        places: [waiting_1, waiting_2, waiting_3, waiting_4],
-    };
-    FlatLinks {
-        active: [one == 1, one == 2, one == 3, one == 4],
-        gauges: [gauges_1, gauges_2, gauges_3, gauges_4],
-        server: one == 21,
-        exchange: exchange,
-        queue: queue,
-    }
+    links_from(1, one)
 }
 
 pub fn command() -> FlatCommand
     ensures { result ≡ shape_command }
 {
-    let opening_remote_link1 = RToken {
-        key: 184549387,
-        base: 864691128455135244,
-    };
-    let opening_remote_link2 = RToken {
-        key: 218103821,
-        base: 1008806316530991118,
-    };
-    let opening_remote_link3 = RToken {
-        key: 251658255,
-        base: 1152921504606846992,
-    };
-    let opening_remote_link4 = RToken {
-        key: 285212689,
-        base: 1297036692682702866,
-    };
     let opening_remote = Remote {
         size: 150994953,
         index: 167772170,
-        link1: opening_remote_link1,
-        link2: opening_remote_link2,
-        link3: opening_remote_link3,
-        link4: opening_remote_link4,
+        link1: rtoken(11),
+        link2: rtoken(13),
+        link3: rtoken(15),
+        link4: rtoken(17),
     };
     let opening = Opening {
         own: 100663302,
@@ -236,20 +254,7 @@ pub fn link_command(one: u32) -> FlatLinkCommand
 {
     let fields = FlatFields {
         kind: 4,
-        values: [
-            360287970189639685,
-            432345564227567622,
-            504403158265495559,
-            576460752303423496,
-            648518346341351433,
-            720575940379279370,
-            792633534417207307,
-            864691128455135244,
-            936748722493063181,
-            1008806316530991118,
-            1080863910568919055,
-            1152921504606846992,
-        ],
+        values: values(5),
     };
     FlatLinkCommand {
         number: 16777217,
@@ -274,72 +279,7 @@ pub fn answer(one: u32) -> FlatAnswer
         start: 234881038,
         len: 251658255,
     };
-    let links_gauges_1 = Gauge {
-        mean: 24.0,
-        worst: 25.0,
-        count: 26,
-        late: one == 27,
-    };
-    let links_gauges_2 = Gauge {
-        mean: 28.0,
-        worst: 29.0,
-        count: 30,
-        late: one == 31,
-    };
-    let links_gauges_3 = Gauge {
-        mean: 32.0,
-        worst: 33.0,
-        count: 34,
-        late: one == 35,
-    };
-    let links_gauges_4 = Gauge {
-        mean: 36.0,
-        worst: 37.0,
-        count: 38,
-        late: one == 39,
-    };
-    let links_exchange = Exchange {
-        stage: 41,
-        v: 42,
-        w: 43,
-    };
-    let links_waiting_1 = Waiting {
-        link: 45,
-        bytes: [46u8; 44],
-    };
-    let links_waiting_2 = Waiting {
-        link: 47,
-        bytes: [48u8; 44],
-    };
-    let links_waiting_3 = Waiting {
-        link: 49,
-        bytes: [50u8; 44],
-    };
-    let links_waiting_4 = Waiting {
-        link: 51,
-        bytes: [52u8; 44],
-    };
-    let links_queue = Queue {
-        count: 44,
-        places: [
-            links_waiting_1,
-            links_waiting_2,
-            links_waiting_3,
-            links_waiting_4,
-        ],
-    };
-    let links = FlatLinks {
-        active: [one == 20, one == 21, one == 22, one == 23],
-        gauges: [
-            links_gauges_1,
-            links_gauges_2,
-            links_gauges_3,
-            links_gauges_4,
-        ],
-        server: one == 40,
-        exchange: links_exchange,
-        queue: links_queue,
-    };
+    let links = links_from(20, one);
     FlatAnswer {
         said: 16777217,
         refusal: 33554434,
@@ -363,37 +303,11 @@ pub fn link_answer(one: u32) -> FlatLinkAnswer
 {
     let fields = FlatFields {
         kind: 4,
-        values: [
-            360287970189639685,
-            432345564227567622,
-            504403158265495559,
-            576460752303423496,
-            648518346341351433,
-            720575940379279370,
-            792633534417207307,
-            864691128455135244,
-            936748722493063181,
-            1008806316530991118,
-            1080863910568919055,
-            1152921504606846992,
-        ],
+        values: values(5),
     };
     let up_fields = FlatFields {
         kind: 20,
-        values: [
-            1513209474796486677,
-            1585267068834414614,
-            1657324662872342551,
-            1729382256910270488,
-            1801439850948198425,
-            1873497444986126362,
-            1945555039024054299,
-            2017612633061982236,
-            2089670227099910173,
-            2161727821137838110,
-            2233785415175766047,
-            2305843009213693984,
-        ],
+        values: values(21),
     };
     let up = FlatTakenUp {
         some: one == 17,
@@ -401,72 +315,7 @@ pub fn link_answer(one: u32) -> FlatLinkAnswer
         fate: 318767123,
         fields: up_fields,
     };
-    let links_gauges_1 = Gauge {
-        mean: 40.0,
-        worst: 41.0,
-        count: 42,
-        late: one == 43,
-    };
-    let links_gauges_2 = Gauge {
-        mean: 44.0,
-        worst: 45.0,
-        count: 46,
-        late: one == 47,
-    };
-    let links_gauges_3 = Gauge {
-        mean: 48.0,
-        worst: 49.0,
-        count: 50,
-        late: one == 51,
-    };
-    let links_gauges_4 = Gauge {
-        mean: 52.0,
-        worst: 53.0,
-        count: 54,
-        late: one == 55,
-    };
-    let links_exchange = Exchange {
-        stage: 57,
-        v: 58,
-        w: 59,
-    };
-    let links_waiting_1 = Waiting {
-        link: 61,
-        bytes: [62u8; 44],
-    };
-    let links_waiting_2 = Waiting {
-        link: 63,
-        bytes: [64u8; 44],
-    };
-    let links_waiting_3 = Waiting {
-        link: 65,
-        bytes: [66u8; 44],
-    };
-    let links_waiting_4 = Waiting {
-        link: 67,
-        bytes: [68u8; 44],
-    };
-    let links_queue = Queue {
-        count: 60,
-        places: [
-            links_waiting_1,
-            links_waiting_2,
-            links_waiting_3,
-            links_waiting_4,
-        ],
-    };
-    let links = FlatLinks {
-        active: [one == 36, one == 37, one == 38, one == 39],
-        gauges: [
-            links_gauges_1,
-            links_gauges_2,
-            links_gauges_3,
-            links_gauges_4,
-        ],
-        server: one == 56,
-        exchange: links_exchange,
-        queue: links_queue,
-    };
+    let links = links_from(36, one);
     FlatLinkAnswer {
         said: 16777217,
         refusal: 33554434,

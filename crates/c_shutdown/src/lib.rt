@@ -2,22 +2,14 @@
 // the message.
 #![tactic(auto)]
 
-ghost use Rattle.std.specs.Prelude.{◌≡◌};
 ghost use Rattle.group_table.specs.declared.Links.{Links};
 ghost use Rattle.group_rules.specs.Rules.{group_of, shutdown};
 ghost use Rattle.plan.specs.DirectMade.{InEveryGroup};
-ghost use Rattle.plan_finish.specs.declared.Ending.TheVariants.{Shutdown};
 ghost use Rattle.plan_finish.specs.DirectFinish.{FinishMade};
 
 use conn_record::Record;
 use plan::LinkStates;
 use plan_finish::{Ending, FinishAnswer};
-
-fn what() -> Ending
-    ensures { result ≡ Shutdown }
-{
-    Ending::Shutdown
-}
 
 #[unsafe(no_mangle)]
 pub extern "C" fn fordlinnet_make_shutdown(
@@ -33,7 +25,6 @@ pub extern "C" fn fordlinnet_make_shutdown(
         FinishMade shutdown (group_of s n table.old ls mem.now) slot message.old
         result (group_of s n table.new ls mem.now) message.new) }
 {
-    let call = what();
-    let f = plan_finish::finish(call, s, n, mem, table, links, slot);
+    let f = plan_finish::finish(Ending::Shutdown, s, n, mem, table, links, slot);
     plan_finish::answer(f, message)
 }

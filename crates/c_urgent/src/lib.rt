@@ -2,7 +2,6 @@
 // makes it fast.
 #![tactic(auto)]
 
-ghost use Rattle.std.specs.Prelude.{◌≡◌, true};
 ghost use Rattle.group_table.specs.declared.Links.{Links};
 ghost use Rattle.group_rules.specs.Rules.{group_of};
 ghost use Rattle.plan.specs.DirectMade.{InEveryGroup};
@@ -11,12 +10,6 @@ ghost use Rattle.c_send.specs.DirectSend.{UrgentMade};
 use conn_record::Record;
 use plan::LinkStates;
 use plan_send::SendAnswer;
-
-fn urgent() -> bool
-    ensures { result ≡ true }
-{
-    true
-}
 
 #[unsafe(no_mangle)]
 pub extern "C" fn fordlinnet_make_urgent_send(
@@ -33,6 +26,5 @@ pub extern "C" fn fordlinnet_make_urgent_send(
         UrgentMade (group_of s n table.old ls mem.now) slot bytes.now message.old result
         (group_of s n table.new ls mem.now) message.new) }
 {
-    let which = urgent();
-    c_send::send(which, s, n, mem, table, links, slot, bytes, message)
+    c_send::send(true, s, n, mem, table, links, slot, bytes, message)
 }

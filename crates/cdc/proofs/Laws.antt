@@ -8,6 +8,7 @@ use native.Mathlib.Nat.{add-mul, mul_right_comm, div-add-mod', mod-add-div', div
 use native.Mathlib.Omega.{arith}
 use lib.ListN.{length}
 use lib.Dec.{eqb}
+use Rattle.std.specs.Int.{from_bool, w16, w32, to_be_bytes}
 use borrow.Author.Tests.{eqb-true, eq-eqb}
 use Rattle.cdc.specs.declared.Flags.{Flags}
 use Rattle.cdc.specs.declared.Message.{Message}
@@ -21,6 +22,14 @@ whole16 x = omega arith
 
 pub whole32 : (x : ℕ) → joined (x / 16777216) (x / 65536 % 256) (x / 256 % 256) (x % 256) ≡ x
 whole32 x = omega arith
+
+-- the library's bytes of a number, and its number of bytes
+pub bytes_of16 : (x : ℕ) (b : List ℕ) → x < 65536 → b ≡ to_be_bytes w16 x → b ≡ be16 x
+bytes_of16 x b h e = e ∙ (let d : x / 256 % 256 ≡ x / 256 = omega arith in λ i. d i ∷ x % 256 ∷ [])
+
+pub bytes_of32 : (x : ℕ) (b : List ℕ) → x < 4294967296 → b ≡ to_be_bytes w32 x → b ≡ be32 x
+bytes_of32 x b h e =
+    e ∙ (let d : x / 16777216 % 256 ≡ x / 16777216 = omega arith in λ i. d i ∷ x / 65536 % 256 ∷ x / 256 % 256 ∷ x % 256 ∷ [])
 
 -- bytes are those of their number
 module _ (l : List ℕ) (small : (i : ℕ) → at l i < 256) (i : ℕ) where
@@ -43,6 +52,11 @@ module _ (l : List ℕ) (small : (i : ℕ) → at l i < 256) (i : ℕ) where
       let e2 : num4 l i / 256 % 256 ≡ at l (i + 2) = omega arith in
       let e3 : num4 l i % 256 ≡ at l (i + 3) = omega arith in
       λ j. e0 j ∷ e1 j ∷ e2 j ∷ e3 j ∷ []
+
+-- a flag's number, times its weight
+pub weight_from : (b : Bool) (w n : ℕ) → n ≡ from_bool b → n * w ≡ weight_of b w
+weight_from true w n e = simp e (omega arith)
+weight_from false w n e = simp e (omega arith)
 
 -- a flag as a number
 abbrev on : Bool → ℕ

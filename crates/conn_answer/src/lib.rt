@@ -54,6 +54,7 @@ pub struct Outcome {
 }
 
 // The message that tells the record's present state.
+#[tactic(auto, unfolding(crate::specs::Outcome::message_of))]
 pub fn message_of(rec: Record) -> Message
     ensures { result ≡ message_of rec }
 {
@@ -79,6 +80,7 @@ pub fn message_of(rec: Record) -> Message
 }
 
 // The message with P.
+#[tactic(auto, unfolding(crate::specs::Outcome::pending_of))]
 pub fn pending(m: Message) -> Message
     ensures { result ≡ pending_of m }
 {
@@ -87,32 +89,36 @@ pub fn pending(m: Message) -> Message
     next
 }
 
+#[tactic(auto, unfolding(crate::specs::Outcome::told_in))]
 fn told_in(i: Inbound) -> Inbound
     ensures { result ≡ told_in i }
 {
-    let c = i.consumer;
-    let mut next = i;
-    next.told = c;
-    next
+    Inbound {
+        told: i.consumer,
+        ..i
+    }
 }
 
+#[tactic(auto, unfolding(crate::specs::Outcome::used_in))]
 fn used_in(o: Outbound) -> Outbound
     ensures { result ≡ used_in o }
 {
-    let s = ((o.next as u32 + 1) % 65536) as u16;
-    let mut next = o;
-    next.next = s;
-    next
+    Outbound {
+        next: o.next.wrapping_add(1),
+        ..o
+    }
 }
 
 // The record once a message is made: T is C, and the next sequence number is used.
+#[tactic(auto, unfolding(crate::specs::Outcome::told_of))]
 fn told(rec: Record) -> Record
     ensures { result ≡ told_of rec }
 {
-    let mut next = rec;
-    next.inbound = told_in(rec.inbound);
-    next.outbound = used_in(rec.outbound);
-    next
+    Record {
+        inbound: told_in(rec.inbound),
+        outbound: used_in(rec.outbound),
+        ..rec
+    }
 }
 
 // An outcome without a message.
@@ -120,7 +126,7 @@ fn silent(reply: Reply, rec: Record) -> Outcome
     ensures { result ≡ silent_of reply rec }
 {
     Outcome {
-        reply: reply,
+        reply,
         made: false,
         message: [0u8; 44],
         after: rec,
@@ -128,37 +134,33 @@ fn silent(reply: Reply, rec: Record) -> Outcome
 }
 
 // The outcome of an accepted call that left the record rec: with a message where `tells`.
+#[tactic(auto, unfolding(crate::specs::Outcome::outcome_of, crate::specs::Outcome::urgent_outcome))]
 pub fn outcome_of(reply: Reply, tells: bool, rec: Record) -> Outcome
     ensures { result ≡ outcome_of reply tells rec }
 {
     if tells {
-        let bytes = cdc::encode(message_of(rec));
-        let next = told(rec);
-        return Outcome {
-            reply: reply,
-            made: true,
-            message: bytes,
-            after: next,
-        };
+        urgent_outcome(reply, message_of(rec), rec)
+    } else {
+        silent(reply, rec)
     }
-    silent(reply, rec)
 }
 
 // The outcome of an urgent send that left the record rec: with the message m.
+#[tactic(auto, unfolding(crate::specs::Outcome::urgent_outcome))]
 pub fn urgent_outcome(reply: Reply, m: Message, rec: Record) -> Outcome
     ensures { result ≡ urgent_outcome reply m rec }
 {
-    let bytes = cdc::encode(m);
-    let left = told(rec);
+    let message = cdc::encode(m);
     Outcome {
-        reply: reply,
+        reply,
         made: true,
-        message: bytes,
-        after: left,
+        message,
+        after: told(rec),
     }
 }
 
 // A refusal: its number, and the record as it was.
+#[tactic(auto, unfolding(crate::specs::Outcome::refused_of))]
 pub fn refused(k: u8, rec: Record) -> Outcome
     ensures { result ≡ refused_of k rec }
 {
@@ -166,13 +168,13 @@ pub fn refused(k: u8, rec: Record) -> Outcome
 }
 
 // The outcome with its slot closed where `shut`.
+#[tactic(auto, unfolding(crate::specs::Outcome::closed_if))]
 pub fn closed_if(shut: bool, o: Outcome) -> Outcome
     ensures { result ≡ closed_if shut o }
 {
     let mut next = o;
     if shut {
-        let z = conn_record::zero_record();
-        next.after = z;
+        next.after = conn_record::zero_record();
     }
     next
 }

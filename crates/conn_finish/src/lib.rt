@@ -9,12 +9,15 @@ use closing::Marks;
 use conn_answer::{Outcome, Reply};
 use conn_record::Record;
 
+#[tactic(auto, unfolding(crate::specs::Finish::shutdown_forbids))]
 fn shutdown_forbids(m: Marks) -> bool
     ensures { result ≡ shutdown_forbids m }
 {
     m.sent.done | (m.sent.closed | m.abort)
 }
 
+// By itself, though a read's test is the same today: document 01 says which marks forbid each call, one by one (`close_forbids`).
+#[tactic(auto, unfolding(crate::specs::Finish::close_forbids))]
 fn close_forbids(m: Marks) -> bool
     ensures { result ≡ close_forbids m }
 {
@@ -22,6 +25,7 @@ fn close_forbids(m: Marks) -> bool
 }
 
 // Shutdown sends D.
+#[tactic(auto, unfolding(crate::specs::Finish::shutdown_of))]
 pub fn shutdown(n: u32, active: bool, rec: Record) -> Outcome
     ensures { result ≡ shutdown_of n active rec }
 {
@@ -34,6 +38,7 @@ pub fn shutdown(n: u32, active: bool, rec: Record) -> Outcome
 }
 
 // Whether bytes are unread: the distance C to P is above 0.
+#[tactic(auto, unfolding(conn_receive::specs::Receive::unread_of))]
 fn has_unread(n: u32, rec: Record) -> bool
     ensures { result ≡ ltb 0 (unread_of n rec.inbound) }
 {
@@ -44,6 +49,7 @@ fn has_unread(n: u32, rec: Record) -> bool
 }
 
 // A close with unread bytes sends A, and the slot stays open.
+#[tactic(auto, unfolding(crate::specs::Finish::reset_of))]
 fn reset(rec: Record) -> Outcome
     ensures { result ≡ reset_of rec }
 {
@@ -52,6 +58,7 @@ fn reset(rec: Record) -> Outcome
 }
 
 // With none it sends C, and the slot is closed if C was heard.
+#[tactic(auto, unfolding(crate::specs::Finish::closing_of))]
 fn finished(rec: Record) -> Outcome
     ensures { result ≡ closing_of rec }
 {
@@ -61,6 +68,7 @@ fn finished(rec: Record) -> Outcome
 }
 
 // Close looks at the unread bytes first: none is dropped in silence.
+#[tactic(auto, unfolding(crate::specs::Finish::close_of))]
 pub fn close(n: u32, active: bool, rec: Record) -> Outcome
     ensures { result ≡ close_of n active rec }
 {
@@ -76,6 +84,7 @@ pub fn close(n: u32, active: bool, rec: Record) -> Outcome
 }
 
 // Abort sends A.
+#[tactic(auto, unfolding(crate::specs::Finish::abort_of))]
 pub fn abort(n: u32, active: bool, rec: Record) -> Outcome
     ensures { result ≡ abort_of n active rec }
 {

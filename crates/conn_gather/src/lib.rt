@@ -11,27 +11,13 @@ use conn_record::Record;
 use cursor::Cursor;
 use flow::Stretch;
 
-fn least(a: usize, b: usize) -> usize
-    ensures { (result ≡ min a b) × (result ≤ a) × (result ≤ b) }
-{
-    if a <= b { a } else { b }
-}
-
-// What is left of a, once b is taken off; 0 where b is more.
-fn less(a: u32, b: u32) -> u32
-    ensures { result ≡ a - b }
-{
-    if a <= b { 0 } else { a - b }
-}
-
 // How long a piece may be by n and by the room before the element's end.
 fn allowed(size: u32, q: Cursor, n: u32, k: u32) -> usize
     ensures { (result ≡ allowed_of size q n k) × (result ≤ n) }
 {
     let at = cursor::step(size, q, k);
-    let left = less(n, k) as usize;
-    let room = less(size, at.offset) as usize;
-    least(left, room)
+    let room = size.saturating_sub(at.offset);
+    n.saturating_sub(k).min(room) as usize
 }
 
 // The next piece, where n bytes are taken, Q was q before the send, the peer's element has `size` bytes, and the pieces before held k
@@ -44,12 +30,12 @@ pub fn piece<'a>(head: &'a [u8], body: &'a [u8], size: u32, q: Cursor, n: u32, k
     let h = head.len();
     let at = k as usize;
     if at < h {
-        let l = least(most, h - at);
+        let l = most.min(h - at);
         &head[at..at + l]
     } else {
         let b = body.len();
-        let s = least(at - h, b);
-        let l = least(most, b - s);
+        let s = (at - h).min(b);
+        let l = most.min(b - s);
         &body[s..s + l]
     }
 }

@@ -1,3 +1,2 @@
 pub mod HeardLaws
-pub mod Parts
 pub mod Laws

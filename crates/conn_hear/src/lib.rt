@@ -14,6 +14,7 @@ use cursor::Cursor;
 // A message heard, against one record: its rules, and the record with what it says (document 01, "Calls of a connection").
 
 // Whether the heard producer may replace P.
+#[tactic(auto, unfolding(crate::specs::Heard::producer_b))]
 pub fn producer_ok(n: u32, rec: Record, p: Cursor) -> bool
     ensures { result ≡ producer_b n rec p }
 {
@@ -23,10 +24,11 @@ pub fn producer_ok(n: u32, rec: Record, p: Cursor) -> bool
     cursor::in_range(n, p)
         & (cursor::good(d, t, p)
             & ((cursor::gap(d, t, old) <= cursor::gap(d, t, p))
-                & (!(rec.marks.heard.done | rec.marks.heard.closed) | cursor::same(old, p))))
+                & (!(rec.marks.heard.done | rec.marks.heard.closed) | (old == p))))
 }
 
 // Whether the heard consumer may replace R.
+#[tactic(auto, unfolding(crate::specs::Heard::consumer_b))]
 pub fn consumer_ok(rec: Record, r: Cursor) -> bool
     ensures { result ≡ consumer_b rec r }
 {
@@ -49,6 +51,7 @@ pub fn moved_by(n: u32, i: Inbound, m: Message) -> u64
 }
 
 // Whether the message has U and moves P.
+#[tactic(auto, unfolding(crate::specs::Heard::urges_b))]
 fn urges(n: u32, i: Inbound, m: Message) -> bool
     ensures { result ≡ urges_b n i m }
 {
@@ -57,6 +60,7 @@ fn urges(n: u32, i: Inbound, m: Message) -> bool
 }
 
 // The urgent place of our element: the new P then.
+#[tactic(auto, unfolding(crate::specs::Heard::urgent_in))]
 fn urgent_in(n: u32, i: Inbound, m: Message) -> Urgent
     ensures { result ≡ urgent_in n i m }
 {
@@ -71,6 +75,7 @@ fn urgent_in(n: u32, i: Inbound, m: Message) -> Urgent
     }
 }
 
+#[tactic(auto, unfolding(crate::specs::Heard::heard_in))]
 fn heard_in(n: u32, i: Inbound, m: Message) -> Inbound
     ensures { result ≡ heard_in n i m }
 {
@@ -85,6 +90,7 @@ fn heard_in(n: u32, i: Inbound, m: Message) -> Inbound
     next
 }
 
+#[tactic(auto, unfolding(crate::specs::Heard::heard_out))]
 fn heard_out(size: u32, o: Outbound, m: Message) -> Outbound
     ensures { result ≡ heard_out size o m }
 {
@@ -99,6 +105,7 @@ fn heard_out(size: u32, o: Outbound, m: Message) -> Outbound
 }
 
 // The record with what the message says.
+#[tactic(auto, unfolding(crate::specs::Heard::heard_record, conn_record::specs::Connection::marks_to))]
 pub fn heard(n: u32, rec: Record, m: Message) -> Record
     ensures { result ≡ heard_record n rec m }
 {
@@ -110,24 +117,26 @@ pub fn heard(n: u32, rec: Record, m: Message) -> Record
 }
 
 // Whether a message is made in answer: the urgent place is a new one, or the R flag is on and T differs from C.
+#[tactic(auto, unfolding(crate::specs::Heard::answers_b))]
 pub fn answers(n: u32, i: Inbound, m: Message) -> bool
     ensures { result ≡ answers_b n i m }
 {
     let t = i.told;
     let c = i.consumer;
     let urged = urges(n, i, m);
-    urged | (m.flags.request & !cursor::same(t, c))
+    urged | (m.flags.request & (t != c))
 }
 
 // Whether the message carries the last number heard plus one, 65,535 going on to 0.
+#[tactic(auto, unfolding(crate::specs::Heard::next_b))]
 pub fn is_next(rec: Record, m: Message) -> bool
     ensures { result ≡ next_b rec m }
 {
-    let next = ((rec.inbound.last as u32 + 1) % 65536) as u16;
-    m.sequence == next
+    m.sequence == rec.inbound.last.wrapping_add(1)
 }
 
 // A message with A: one abort message is made if we had not sent A, and the slot is closed.
+#[tactic(auto, unfolding(crate::specs::Hear::aborted_of))]
 fn aborted(rec: Record) -> Outcome
     ensures { result ≡ aborted_of rec }
 {
@@ -139,6 +148,7 @@ fn aborted(rec: Record) -> Outcome
 }
 
 // A message whose cursors keep the rules.
+#[tactic(auto, unfolding(crate::specs::Hear::accepted_of))]
 fn accepted(n: u32, rec: Record, m: Message) -> Outcome
     ensures { result ≡ accepted_of n rec m }
 {
@@ -153,6 +163,7 @@ fn accepted(n: u32, rec: Record, m: Message) -> Outcome
 }
 
 // A message without A, before our A.
+#[tactic(auto, unfolding(crate::specs::Hear::followed_of))]
 fn followed(n: u32, rec: Record, m: Message) -> Outcome
     ensures { result ≡ followed_of n rec m }
 {
@@ -170,6 +181,7 @@ fn followed(n: u32, rec: Record, m: Message) -> Outcome
 }
 
 // A message with F: it carries the last number heard, or an abort message is made.
+#[tactic(auto, unfolding(crate::specs::Hear::validated_of))]
 fn validated(rec: Record, m: Message) -> Outcome
     ensures { result ≡ validated_of rec m }
 {
@@ -183,6 +195,7 @@ fn validated(rec: Record, m: Message) -> Outcome
 }
 
 // A message whose number is next: its cursors keep the rules, or not.
+#[tactic(auto, unfolding(crate::specs::Hear::ruled_of))]
 fn ruled(n: u32, rec: Record, m: Message) -> Outcome
     ensures { result ≡ ruled_of n rec m }
 {
@@ -196,6 +209,7 @@ fn ruled(n: u32, rec: Record, m: Message) -> Outcome
 }
 
 // Hear of a message for this connection.
+#[tactic(auto, unfolding(crate::specs::Hear::hear_of))]
 pub fn hear(n: u32, active: bool, rec: Record, m: Message) -> Outcome
     ensures { result ≡ hear_of n active rec m }
 {

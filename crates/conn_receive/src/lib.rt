@@ -9,6 +9,7 @@ use closing::Marks;
 use conn_answer::{Outcome, Reply};
 use conn_record::{Inbound, Record};
 
+#[tactic(auto, unfolding(crate::specs::Receive::place_forbids))]
 fn place_forbids(m: Marks) -> bool
     ensures { result ≡ place_forbids m }
 {
@@ -16,29 +17,23 @@ fn place_forbids(m: Marks) -> bool
 }
 
 // Whether k bytes from offset `at` on lie in the data and are free.
+#[tactic(auto, unfolding(crate::specs::Receive::may_place, element::specs::Element::in_data))]
 fn may_place(n: u32, i: Inbound, at: u32, k: usize) -> bool
     ensures { result ≡ may_place n i at k }
 {
     if k == 0 {
         return true;
     }
-    if at < 4 {
-        return false;
-    }
-    if n < at {
-        return false;
-    }
-    if ((n - at) as usize) < k {
-        return false;
-    }
     let t = i.told; // what the peer was told, not C
-    let p = i.producer;
     let d = cursor::data_size(n);
-    let w = flow::window(n, t, p);
-    element::all_free(d, p.offset, w, at, k)
+    4 <= at
+        && at <= n
+        && k <= (n - at) as usize
+        && element::all_free(d, i.producer.offset, flow::window(n, t, i.producer), at, k)
 }
 
 // Place of k bytes at offset `at`: accepted, or refused. The record stays as it is.
+#[tactic(auto, unfolding(crate::specs::Receive::place_of))]
 pub fn place(n: u32, active: bool, rec: Record, at: u32, k: usize) -> Outcome
     ensures { result ≡ place_of n active rec at k }
 {
@@ -46,14 +41,14 @@ pub fn place(n: u32, active: bool, rec: Record, at: u32, k: usize) -> Outcome
     if no != 0 {
         return conn_answer::refused(no, rec);
     }
-    let ok = may_place(n, rec.inbound, at, k);
-    if ok {
+    if may_place(n, rec.inbound, at, k) {
         conn_answer::outcome_of(Reply::Accepted, false, rec)
     } else {
         conn_answer::refused(9, rec)
     }
 }
 
+#[tactic(auto, unfolding(crate::specs::Receive::read_forbids))]
 fn read_forbids(m: Marks) -> bool
     ensures { result ≡ read_forbids m }
 {
@@ -71,6 +66,7 @@ fn unread(n: u32, i: Inbound) -> u32
     cursor::gap(d, c, p) as u32
 }
 
+#[tactic(auto, unfolding(crate::specs::Receive::consumed_in))]
 fn consumed_in(n: u32, i: Inbound, k: u32) -> Inbound
     ensures { result ≡ consumed_in n i k }
 {
@@ -82,6 +78,7 @@ fn consumed_in(n: u32, i: Inbound, k: u32) -> Inbound
 }
 
 // The urgent place is cleared, if C has reached or passed it.
+#[tactic(auto, unfolding(crate::specs::Receive::cleared_in))]
 fn cleared_in(n: u32, i: Inbound) -> Inbound
     ensures { result ≡ cleared_in n i }
 {
@@ -94,6 +91,7 @@ fn cleared_in(n: u32, i: Inbound) -> Inbound
     next
 }
 
+#[tactic(auto, unfolding(crate::specs::Receive::consumed_of))]
 fn consumed(n: u32, rec: Record, k: u32) -> Record
     ensures { result ≡ consumed_of n rec k }
 {
@@ -104,6 +102,7 @@ fn consumed(n: u32, rec: Record, k: u32) -> Record
 }
 
 // Whether a message is made, once k bytes are read and the inbound half is `i`, its urgent place not cleared yet.
+#[tactic(auto, unfolding(crate::specs::Receive::update_of))]
 fn updates(n: u32, i: Inbound, k: u32) -> bool
     ensures { result ≡ update_of n i k }
 {
@@ -116,6 +115,7 @@ fn updates(n: u32, i: Inbound, k: u32) -> bool
 }
 
 // A damaged eye catcher: an abort message is made, and the abort mark is set.
+#[tactic(auto, unfolding(crate::specs::Receive::torn_of))]
 fn torn(rec: Record) -> Outcome
     ensures { result ≡ torn_of rec }
 {

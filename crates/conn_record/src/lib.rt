@@ -111,10 +111,9 @@ pub struct Opening {
 fn no_place() -> Urgent
     ensures { result ≡ no_place }
 {
-    let at = Cursor { offset: 0, wrap: 0 };
     Urgent {
         standing: false,
-        place: at,
+        place: Cursor { offset: 0, wrap: 0 },
     }
 }
 
@@ -122,7 +121,6 @@ fn no_place() -> Urgent
 fn resting_record(id: Identity, remote: Remote, at: Cursor, next: u16) -> Record
     ensures { result ≡ resting_record id remote at next }
 {
-    let nowhere = no_place();
     let inbound = Inbound {
         producer: at,
         consumer: at,
@@ -130,14 +128,14 @@ fn resting_record(id: Identity, remote: Remote, at: Cursor, next: u16) -> Record
         last: 0,
         blocked: false,
         request: false,
-        urgent: nowhere,
+        urgent: no_place(),
     };
     let outbound = Outbound {
         producer: at,
         consumer: at,
-        next: next,
+        next,
         blocked: false,
-        urgent: nowhere,
+        urgent: no_place(),
     };
     let side = Side {
         done: false,
@@ -150,15 +148,16 @@ fn resting_record(id: Identity, remote: Remote, at: Cursor, next: u16) -> Record
         abort: false,
     };
     Record {
-        id: id,
-        remote: remote,
-        inbound: inbound,
-        outbound: outbound,
-        marks: marks,
+        id,
+        remote,
+        inbound,
+        outbound,
+        marks,
     }
 }
 
 // What closing writes.
+#[tactic(auto, unfolding(crate::specs::Connection::zero_record))]
 pub fn zero_record() -> Record
     ensures { result ≡ zero_record }
 {
@@ -182,6 +181,7 @@ pub fn zero_record() -> Record
 }
 
 // The record that open lays down.
+#[tactic(auto, unfolding(crate::specs::Connection::opened_record))]
 pub fn opened_record(given: Opening) -> Record
     ensures { result ≡ opened_record given }
 {
@@ -191,71 +191,49 @@ pub fn opened_record(given: Opening) -> Record
         peer: given.peer,
         link: given.link,
     };
-    let remote = given.remote;
     let at = Cursor { offset: 4, wrap: 0 };
-    resting_record(id, remote, at, 1)
+    resting_record(id, given.remote, at, 1)
 }
 
 // Whether the peer's element ends at the last address or before, in a memory that begins at `base`.
+#[tactic(auto, unfolding(crate::specs::Connection::fits_b))]
 fn fits(size: u32, index: u32, base: u64) -> bool
     ensures { result ≡ fits_b size index base }
 {
-    let end = (index as u64) * (size as u64);
-    if end == 0 {
-        return true;
-    }
-    base <= MOST_ADDRESS - (end - 1)
+    let end = index as u64 * size as u64;
+    end == 0 || base <= MOST_ADDRESS - (end - 1)
 }
 
 // Whether the peer's element is as a record may have it: its size, its index, and its end on every link.
+#[tactic(auto, unfolding(crate::specs::Connection::remote_ok))]
 pub fn remote_ok(r: Remote) -> bool
     ensures { result ≡ remote_ok r }
 {
     let size = r.size;
     let index = r.index;
-    if size < LEAST_SIZE {
-        return false;
-    }
-    if MOST_SIZE < size {
-        return false;
-    }
-    if index < 1 {
-        return false;
-    }
-    if MOST_INDEX < index {
-        return false;
-    }
-    let on_1 = fits(size, index, r.link1.base);
-    let on_2 = fits(size, index, r.link2.base);
-    let on_3 = fits(size, index, r.link3.base);
-    let on_4 = fits(size, index, r.link4.base);
-    on_1 & (on_2 & (on_3 & on_4))
+    LEAST_SIZE <= size
+        && size <= MOST_SIZE
+        && 1 <= index
+        && index <= MOST_INDEX
+        && fits(size, index, r.link1.base)
+        && fits(size, index, r.link2.base)
+        && fits(size, index, r.link3.base)
+        && fits(size, index, r.link4.base)
 }
 
+#[tactic(auto, unfolding(crate::specs::Connection::numbers_ok))]
 fn numbers_ok(rec: Record) -> bool
     ensures { result ≡ numbers_ok rec }
 {
-    let own = rec.id.own;
-    let peer = rec.id.peer;
-    let link = rec.id.link;
-    if own == 0 {
-        return false;
-    }
-    if peer == 0 {
-        return false;
-    }
-    if link < 1 {
-        return false;
-    }
-    if MOST_LINK < link {
-        return false;
-    }
-    if rec.marks.sent.closed & rec.marks.heard.closed {
-        return false;
-    }
-    remote_ok(rec.remote)
+    rec.id.own != 0
+        && rec.id.peer != 0
+        && 1 <= rec.id.link
+        && rec.id.link <= MOST_LINK
+        && !(rec.marks.sent.closed & rec.marks.heard.closed)
+        && remote_ok(rec.remote)
 }
 
+#[tactic(auto, unfolding(crate::specs::Connection::offsets_ok))]
 fn offsets_ok(n: u32, rec: Record) -> bool
     ensures { result ≡ offsets_ok n rec }
 {
@@ -267,6 +245,7 @@ fn offsets_ok(n: u32, rec: Record) -> bool
                     & cursor::in_range(size, rec.outbound.consumer))))
 }
 
+#[tactic(auto, unfolding(crate::specs::Connection::distances_ok))]
 fn distances_ok(n: u32, rec: Record) -> bool
     ensures { result ≡ distances_ok n rec }
 {
@@ -281,6 +260,7 @@ fn distances_ok(n: u32, rec: Record) -> bool
 }
 
 // Whether an urgent place lies after `from` up to `to`, in an element of n bytes.
+#[tactic(auto, unfolding(crate::specs::Connection::place_ok))]
 fn place_ok(n: u32, from: Cursor, to: Cursor, u: Urgent) -> bool
     ensures { result ≡ place_ok n from to u }
 {
@@ -294,41 +274,26 @@ fn place_ok(n: u32, from: Cursor, to: Cursor, u: Urgent) -> bool
         & (cursor::good(d, from, at) & ((1 <= far) & (far <= cursor::gap(d, from, to))))
 }
 
+#[tactic(auto, unfolding(crate::specs::Connection::places_ok))]
 fn places_ok(n: u32, rec: Record) -> bool
     ensures { result ≡ places_ok n rec }
 {
     let i = rec.inbound;
     let o = rec.outbound;
-    let c = i.consumer;
-    let p = i.producer;
-    let theirs = i.urgent;
-    let r = o.consumer;
-    let q = o.producer;
-    let ours = o.urgent;
-    if place_ok(n, c, p, theirs) {
-        place_ok(rec.remote.size, r, q, ours)
-    } else {
-        false
-    }
+    place_ok(n, i.consumer, i.producer, i.urgent)
+        && place_ok(rec.remote.size, o.consumer, o.producer, o.urgent)
 }
 
 // Whether an open record is coherent, in a memory whose elements have n bytes.
+#[tactic(auto, unfolding(crate::specs::Connection::coherent_b))]
 pub fn coherent(n: u32, rec: Record) -> bool
     ensures { result ≡ coherent_b n rec }
 {
-    if !numbers_ok(rec) {
-        return false;
-    }
-    if !offsets_ok(n, rec) {
-        return false;
-    }
-    if !distances_ok(n, rec) {
-        return false;
-    }
-    places_ok(n, rec)
+    numbers_ok(rec) && offsets_ok(n, rec) && distances_ok(n, rec) && places_ok(n, rec)
 }
 
 // Whether a cursor on its way to `to`, now at `at`, has reached or passed an urgent place that stands.
+#[tactic(auto, unfolding(crate::specs::Connection::reached_b))]
 pub fn reached(n: u32, at: Cursor, to: Cursor, u: Urgent) -> bool
     ensures { result ≡ reached_b n at to u }
 {
@@ -342,6 +307,7 @@ pub fn reached(n: u32, at: Cursor, to: Cursor, u: Urgent) -> bool
 }
 
 // The place is cleared then.
+#[tactic(auto, unfolding(crate::specs::Connection::passed_by))]
 pub fn passed_by(n: u32, at: Cursor, to: Cursor, u: Urgent) -> Urgent
     ensures { result ≡ passed_by n at to u }
 {
@@ -349,22 +315,23 @@ pub fn passed_by(n: u32, at: Cursor, to: Cursor, u: Urgent) -> Urgent
 }
 
 // The refusal that every call on a connection tests: 3, then 6, then 7 where `forbids`; 0 for none.
+#[tactic(auto, unfolding(crate::specs::Connection::refusal_of))]
 pub fn refusal(n: u32, active: bool, rec: Record, forbids: bool) -> u8
     ensures { result ≡ refusal_of n active rec forbids }
 {
-    let ok = coherent(n, rec);
-    if ok {
-        if active {
-            if forbids { 7 } else { 0 }
-        } else {
-            6
-        }
-    } else {
+    if !coherent(n, rec) {
         3
+    } else if !active {
+        6
+    } else if forbids {
+        7
+    } else {
+        0
     }
 }
 
 // The record with other marks.
+#[tactic(auto, unfolding(crate::specs::Connection::marks_to))]
 pub fn marks_to(rec: Record, marks: Marks) -> Record
     ensures { result ≡ marks_to rec marks }
 {

@@ -17,6 +17,7 @@ use flow::{Stretch, Stretches};
 // What a send of some bytes makes of one record, and when (document 01, "Calls of a connection"; document 02, 2026-04).
 
 // Whether the marks forbid a send.
+#[tactic(auto, unfolding(crate::specs::Produced::send_forbids))]
 pub fn forbids(m: Marks) -> bool
     ensures { result ≡ send_forbids m }
 {
@@ -24,6 +25,7 @@ pub fn forbids(m: Marks) -> bool
 }
 
 // The outbound half with k of len bytes taken, for an element of `size` bytes.
+#[tactic(auto, unfolding(crate::specs::Produced::produced_out))]
 fn produced_out(size: u32, o: Outbound, k: u32, len: usize) -> Outbound
     ensures { result ≡ produced_out size o k len }
 {
@@ -36,6 +38,7 @@ fn produced_out(size: u32, o: Outbound, k: u32, len: usize) -> Outbound
     next
 }
 
+#[tactic(auto, unfolding(crate::specs::Produced::produced_of))]
 pub fn produced(rec: Record, k: u32, len: usize) -> Record
     ensures { result ≡ produced_of rec k len }
 {
@@ -45,6 +48,7 @@ pub fn produced(rec: Record, k: u32, len: usize) -> Record
 }
 
 // How many of len bytes are taken.
+#[tactic(auto, unfolding(crate::specs::Produced::n_of))]
 pub fn taken(rec: Record, len: usize) -> u32
     ensures { result ≡ n_of rec len }
 {
@@ -54,12 +58,14 @@ pub fn taken(rec: Record, len: usize) -> u32
 }
 
 // Whether a message is made.
+#[tactic(auto, unfolding(crate::specs::Produced::tells_of))]
 pub fn tells(rec: Record, k: u32, len: usize) -> bool
     ensures { result ≡ tells_of rec k len }
 {
     (0 < k) | (((k as usize) < len) & !rec.outbound.blocked)
 }
 
+#[tactic(auto, unfolding(crate::specs::Produced::urged_out))]
 fn urged_out(o: Outbound) -> Outbound
     ensures { result ≡ urged_out o }
 {
@@ -74,6 +80,7 @@ fn urged_out(o: Outbound) -> Outbound
 }
 
 // The record with Q for its urgent place.
+#[tactic(auto, unfolding(crate::specs::Produced::urged_of))]
 pub fn urged(rec: Record) -> Record
     ensures { result ≡ urged_of rec }
 {
@@ -83,6 +90,7 @@ pub fn urged(rec: Record) -> Record
 }
 
 // Whether nothing is sent: an urgent place of our own stands, or nothing is offered.
+#[tactic(auto, unfolding(crate::specs::Produced::waits_b))]
 pub fn waits(rec: Record, len: usize) -> bool
     ensures { result ≡ waits_b rec len }
 {
@@ -90,21 +98,17 @@ pub fn waits(rec: Record, len: usize) -> bool
 }
 
 // The peer's memory as the connection's own link reaches it.
+#[tactic(auto, unfolding(crate::specs::Transmit::rtoken_of))]
 fn rtoken_of(rec: Record) -> RToken
     ensures { result ≡ rtoken_of rec }
 {
-    let link = rec.id.link;
     let r = rec.remote;
-    if link == 1 {
-        return r.link1;
+    match rec.id.link {
+        1 => r.link1,
+        2 => r.link2,
+        3 => r.link3,
+        _ => r.link4,
     }
-    if link == 2 {
-        return r.link2;
-    }
-    if link == 3 {
-        return r.link3;
-    }
-    r.link4
 }
 
 // The one place where an offset becomes a key and an address.
@@ -212,7 +216,8 @@ pub fn send(n: u32, active: bool, rec: Record, len: usize) -> Outcome
     sent(rec, len)
 }
 
-// Urgent send of `len` bytes, likewise.
+// Urgent send of `len` bytes, likewise. Beside `send` and not one function with it: what differs is the call at the end, and a closure for
+// it would need a contract longer than these lines.
 pub fn urgent_send(n: u32, active: bool, rec: Record, len: usize) -> Outcome
     ensures { result ≡ urgent_send_of n active rec len }
 {

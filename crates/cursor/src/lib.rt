@@ -2,10 +2,10 @@
 #![tactic(auto)]
 
 ghost use Rattle.std.specs.Prelude.{◌≡◌, ◌+◌, ◌≤◌, ◌<◌};
-ghost use Rattle.cursor.specs.Cursor.{data_of, in_range, same_b, turns_of, lead_of, good_b, gap_of, next_wrap, moved_of, step_of};
+ghost use Rattle.cursor.specs.Cursor.{data_of, in_range, turns_of, lead_of, good_b, gap_of, moved_of, step_of};
 
 #[repr(C)]
-#[derive(Clone, Copy)]
+#[derive(Clone, Copy, PartialEq, Eq)]
 pub struct Cursor {
     pub offset: u32,
     pub wrap: u16,
@@ -15,7 +15,7 @@ pub struct Cursor {
 pub fn data_size(n: u32) -> u32
     ensures { result ≡ data_of n }
 {
-    if n < 4 { 0 } else { n - 4 }
+    n.saturating_sub(4)
 }
 
 // Whether the offset is one of an element of n bytes.
@@ -25,21 +25,11 @@ pub fn in_range(n: u32, c: Cursor) -> bool
     (4 <= c.offset) & (c.offset < n)
 }
 
-pub fn same(a: Cursor, b: Cursor) -> bool
-    ensures { result ≡ same_b a b }
-{
-    (a.offset == b.offset) & (a.wrap == b.wrap)
-}
-
 // How often the wrap number went on from one cursor to the other, modulo 65,536.
 pub fn turns(from: u16, to: u16) -> u16
     ensures { result ≡ turns_of from to }
 {
-    if from <= to {
-        to - from
-    } else {
-        65535 - from + to + 1
-    }
+    to.wrapping_sub(from)
 }
 
 // The distance with the first cursor's offset added: no signed number is held.
@@ -64,7 +54,7 @@ pub fn gap(d: u32, from: Cursor, to: Cursor) -> u64
 {
     let l = lead(d, from, to);
     let low = from.offset as u64;
-    if low <= l { l - low } else { 0 }
+    l.saturating_sub(low)
 }
 
 // The cursor k bytes further on in an element of n bytes. Out of the range in which the page gives a step a meaning (the offset in the
@@ -91,14 +81,7 @@ fn moved(n: u32, c: Cursor, k: u32) -> Cursor
     } else {
         Cursor {
             offset: (at - size + 4) as u32,
-            wrap: next_wrap(c.wrap),
+            wrap: c.wrap.wrapping_add(1),
         }
     }
-}
-
-// The wrap number plus one, 65,535 going on to 0: by a comparison.
-fn next_wrap(w: u16) -> u16
-    ensures { result ≡ next_wrap w }
-{
-    if w == 65535 { 0 } else { w + 1 }
 }

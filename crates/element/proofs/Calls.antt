@@ -1,7 +1,7 @@
 -- Each call where it acts, and where it leaves all as it is. Assumes nothing.
 use mathlib.Core.Path.{◌≡◌, refl}
-use mathlib.Core.Bool.{Bool, true, false, ◌&&◌, cond}
-use mathlib.Core.List.{List, ◌++◌}
+use mathlib.Core.Bool.{Bool, true, false, ◌&&◌, cond, and-false, and-true}
+use mathlib.Core.List.{List, [], ◌∷◌, ◌++◌}
 use Prim.Native.Nat.{ℕ, ◌+◌, ◌-◌, ◌≤◌, ◌<◌}
 use native.Mathlib.Nat.{add-zero}
 use native.Mathlib.Omega.{arith}
@@ -9,7 +9,9 @@ use lib.Dec.{ltb, leb, eqb}
 use lib.ListN.{length, drop, get_or, length-drop}
 use lib.Seq.{get_or-drop}
 use borrow.Author.Tests.{le-leb, lt-leb, lt-ltb, leb-true, ltb-true}
-use Rattle.element.specs.Element.{part, splice, fresh_element, clears, cleared_of, intact_b, intact_at, stores, stored_of, unread, into_out, reads, read_of}
+use Rattle.std.proofs.lemmas.Bool.Decides.{nat_tests}
+use Rattle.std.specs.List.{starts_with}
+use Rattle.element.specs.Element.{eye_catcher, part, splice, fresh_element, clears, cleared_of, intact_b, intact_at, stores, stored_of, unread, into_out, reads, read_of}
 use Rattle.element.proofs.Laws.{both}
 
 -- a test that does not hold
@@ -107,3 +109,16 @@ module _ (m : List ℕ) (base : ℕ) where
         get_or-drop base m 3 0,
         add-zero,
       )
+
+-- the eye catcher at a list's front
+turned : (k a : ℕ) → eqb k a ≡ eqb a k
+turned k a = grind (arith, nat_tests)
+
+pub begins : (l : List ℕ) → starts_with eqb l eye_catcher ≡ intact_b l
+unfolding intact_b
+begins [] = refl
+begins (a ∷ []) = simp and-false
+begins (a ∷ b ∷ []) = simp and-false
+begins (a ∷ b ∷ c ∷ []) = simp and-false
+begins (a ∷ b ∷ c ∷ d ∷ l) =
+    simp (turned 226 a, turned 212 b, turned 195 c, turned 217 d, and-true, le-leb 4 (length (a ∷ b ∷ c ∷ d ∷ l)) (omega arith))

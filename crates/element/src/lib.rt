@@ -4,63 +4,34 @@
 ghost use Rattle.std.specs.Prelude.{◌≡◌, cond, ◌∷◌, ◌++◌, ◌+◌, ◌-◌, ◌*◌, ◌≤◌, ◌<◌, length, take, drop, replicate};
 ghost use Rattle.element.specs.Element.{base_of, splice, part, fresh_element, clears, cleared_of, intact_b, intact_at, free_from, all_free, stores, stored_of, reads, ring_from, unread, read_of};
 
+// An element's first four bytes.
+const EYE_CATCHER: [u8; 4] = [0xE2, 0xD4, 0xC3, 0xD9];
+
 // Where the element of a slot from 1 on begins in the memory, each having n bytes; 0 for slot 0.
 pub fn base_of(n: u32, slot: u32) -> usize
     ensures { result ≡ base_of n slot }
 {
-    if slot == 0 {
-        return 0;
-    }
-    (slot as usize - 1) * (n as usize)
+    (slot.saturating_sub(1) as usize) * (n as usize)
 }
 
 // Copies src over the whole of dst, which is as long. By way of a local array, which the compiler knows to be apart from both: it makes
-// the two loops one memmove, and the array goes.
+// the two copies one memmove, and the array goes.
 fn copy(src: &[u8], dst: &mut [u8])
     requires { (length src.now ≡ length dst.old) × (length src.now ≤ 65536) }
     ensures { dst.new ≡ src.now }
 {
     let n = src.len();
-    let mut tmp = [0u8; 65536];
-    let mut i: usize = 0;
-    while i < n {
-        tmp[i] = src[i];
-        i += 1;
-    }
-    let mut j: usize = 0;
-    while j < n {
-        dst[j] = tmp[j];
-        j += 1;
-    }
-}
-
-fn zero(dst: &mut [u8])
-    ensures { dst.new ≡ replicate (length dst.old) 0 }
-{
-    let mut i: usize = 0;
-    while i < dst.len() {
-        dst[i] = 0;
-        i += 1;
-    }
-}
-
-// The eye catcher over the first four bytes.
-fn stamp(el: &mut [u8])
-    requires { 4 ≤ length el.old }
-    ensures { el.new ≡ 0xE2 ∷ 0xD4 ∷ 0xC3 ∷ 0xD9 ∷ drop 4 el.old }
-{
-    el[0] = 0xE2;
-    el[1] = 0xD4;
-    el[2] = 0xC3;
-    el[3] = 0xD9;
+    let mut tmp = [0; 65536];
+    tmp[..n].copy_from_slice(src);
+    dst.copy_from_slice(&tmp[..n]);
 }
 
 fn fresh(el: &mut [u8])
     requires { 4 ≤ length el.old }
     ensures { el.new ≡ fresh_element (length el.old) }
 {
-    zero(el);
-    stamp(el);
+    el.fill(0);
+    el[..4].copy_from_slice(&EYE_CATCHER);
 }
 
 // Zeroes the element of `size` bytes at `base` and writes its eye catcher; memory that does not hold it stays as it is.
@@ -68,13 +39,8 @@ pub fn clear(mem: &mut [u8], base: usize, size: usize)
     ensures { mem.new ≡ cleared_of mem.old base size }
 {
     let len = mem.len();
-    if base <= len {
-        if size <= len - base {
-            if 4 <= size {
-                let e = base + size;
-                fresh(&mut mem[base..e]);
-            }
-        }
+    if base <= len && size <= len - base && 4 <= size {
+        fresh(&mut mem[base..base + size]);
     }
 }
 
@@ -82,15 +48,7 @@ pub fn clear(mem: &mut [u8], base: usize, size: usize)
 pub fn intact(mem: &[u8], base: usize) -> bool
     ensures { result ≡ intact_at mem.now base }
 {
-    let len = mem.len();
-    if len < base {
-        return false;
-    }
-    if len - base < 4 {
-        return false;
-    }
-    (mem[base] == 0xE2)
-        & ((mem[base + 1] == 0xD4) & ((mem[base + 2] == 0xC3) & (mem[base + 3] == 0xD9)))
+    base <= mem.len() && mem[base..].starts_with(&EYE_CATCHER)
 }
 
 // (x - p) mod d.
@@ -132,30 +90,23 @@ pub fn store(mem: &mut [u8], at: usize, bytes: &[u8])
 {
     let len = mem.len();
     let n = bytes.len();
-    if n <= 65536 {
-        if at <= len {
-            if n <= len - at {
-                let e = at + n;
-                copy(bytes, &mut mem[at..e]);
-            }
-        }
+    if n <= 65536 && at <= len && n <= len - at {
+        copy(bytes, &mut mem[at..at + n]);
     }
 }
 
-fn read_ring(mem: &[u8], base: usize, size: usize, offset: usize, count: usize, out: &mut [u8])
-    requires { (base + size ≤ length mem.now) × (4 ≤ offset) × (offset < size) × (count + 4 ≤ size) × (count ≤ length out.old) × (size ≤ 65540) }
-    ensures { out.new ≡ unread (part mem.now base size) offset count ++ drop count out.old }
+// Fills out with the bytes of an element that a reader at `offset` meets: up to the element's end, and on from 4.
+fn read_ring(el: &[u8], offset: usize, out: &mut [u8])
+    requires { (4 ≤ offset) × (offset < length el.now) × (length out.old + 4 ≤ length el.now) × (length el.now ≤ 65540) }
+    ensures { out.new ≡ unread el.now offset (length out.old) }
 {
-    let room = size - offset;
-    let a = base + offset;
+    let count = out.len();
+    let room = el.len() - offset;
     if count <= room {
-        copy(&mem[a..a + count], &mut out[0..count]);
+        copy(&el[offset..offset + count], out);
     } else {
-        let e = base + size;
-        copy(&mem[a..e], &mut out[0..room]);
-        let b = base + 4;
-        let rest = count - room;
-        copy(&mem[b..b + rest], &mut out[room..count]);
+        copy(&el[offset..], &mut out[..room]);
+        copy(&el[4..4 + (count - room)], &mut out[room..]);
     }
 }
 
@@ -165,20 +116,14 @@ pub fn read(mem: &[u8], base: usize, size: usize, offset: usize, count: usize, o
     ensures { out.new ≡ read_of mem.now base size offset count out.old }
 {
     let len = mem.len();
-    let room = out.len();
-    if base <= len {
-        if size <= len - base {
-            if size <= 65540 {
-                if 4 <= offset {
-                    if offset < size {
-                        if count <= room {
-                            if count <= size - 4 {
-                                read_ring(mem, base, size, offset, count, out);
-                            }
-                        }
-                    }
-                }
-            }
-        }
+    if base <= len
+        && size <= len - base
+        && size <= 65540
+        && 4 <= offset
+        && offset < size
+        && count <= out.len()
+        && count <= size - 4
+    {
+        read_ring(&mem[base..base + size], offset, &mut out[..count]);
     }
 }

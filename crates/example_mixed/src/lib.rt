@@ -2,11 +2,10 @@
 // table, the links and the memory as the last one left them, so they are a list of calls made (demand 3).
 #![tactic(auto)]
 
-ghost use Rattle.std.specs.Prelude.{◌≡◌, replicate};
 ghost use Rattle.group_link.specs.declared.LinkCommand.TheVariants.{Message};
 ghost use Rattle.group_link.specs.LinkDesk.{answer_in};
 ghost use Rattle.group_rules.specs.Rules.{Did, group_of, link_message, manage};
-ghost use Rattle.example_mixed.specs.Mixed.{four_of, MadeFour};
+ghost use Rattle.example_mixed.specs.Mixed.{MadeFour};
 
 use conn_record::Record;
 use group_gather::Gathered;
@@ -25,34 +24,6 @@ pub struct Four {
     pub made: Answered,
 }
 
-fn states_of(links: Links) -> LinkStates
-    ensures { links.active ≡ result.active }
-{
-    let active = links.active;
-    LinkStates { active: active }
-}
-
-fn after_gather(g: Gathered) -> Links
-    ensures { result ≡ g.answer.links }
-{
-    let a = g.answer;
-    let links = a.links;
-    links
-}
-
-fn message_on(link: u8) -> LinkCommand
-    ensures { result ≡ Message link }
-{
-    LinkCommand::Message(link)
-}
-
-fn no_values() -> Values
-    ensures { result.values ≡ replicate 12 0 }
-{
-    let values = [0u64; 12];
-    Values { values: values }
-}
-
 // A link message heard; the values are a link send's.
 fn hear_link(
     s: u32,
@@ -69,28 +40,9 @@ fn hear_link(
         (answer_in (Message link) result buffer.new)
         (group_of s n table.new result.answer.links mem.now) }
 {
-    let command = message_on(link);
-    let none = no_values();
+    let none = Values { values: [0; 12] };
+    let command = LinkCommand::Message(link);
     group_link::make(s, n, mem, table, links, command, told, none, buffer)
-}
-
-fn after_message(d: LinkDone) -> Links
-    ensures { result ≡ d.answer.links }
-{
-    let a = d.answer;
-    let links = a.links;
-    links
-}
-
-fn all(sent: SendAnswer, gathered: Gathered, heard: LinkDone, made: Answered) -> Four
-    ensures { result ≡ four_of sent gathered heard made }
-{
-    Four {
-        sent: sent,
-        gathered: gathered,
-        heard: heard,
-        made: made,
-    }
 }
 
 // Sends the bytes on one slot, directly; a head and a body on another; hears a link message, lent a buffer for what moves; and makes the
@@ -119,12 +71,18 @@ pub fn make_four(
         buffer.old buffer.new out.old out.new result
         (group_of s n table.new result.made.links mem.new) }
 {
-    let states = states_of(links);
+    let active = links.active;
+    let states = LinkStates { active };
     let sent = c_send::fordlinnet_make_send(s, n, mem, table, states, slot, bytes, message);
     let gathered = group_gather::gather(s, n, mem, table, links, other, head, body);
-    let second = after_gather(gathered);
+    let second = gathered.answer.links;
     let heard = hear_link(s, n, mem, table, second, link, told, buffer);
-    let third = after_message(heard);
+    let third = heard.answer.links;
     let made = group_make::make(s, n, mem, table, third, command, lent, out);
-    all(sent, gathered, heard, made)
+    Four {
+        sent,
+        gathered,
+        heard,
+        made,
+    }
 }

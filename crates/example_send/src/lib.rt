@@ -2,11 +2,8 @@
 // leaves go into the second.
 #![tactic(auto)]
 
-ghost use Rattle.std.specs.Prelude.{◌≡◌};
-ghost use Rattle.group_calls.specs.declared.Request.TheVariants.{Send, Shutdown};
-ghost use Rattle.group_make.specs.declared.Command.TheVariants.{On};
 ghost use Rattle.group_rules.specs.Rules.{group_of};
-ghost use Rattle.example_send.specs.Example.{LastWords, said_of};
+ghost use Rattle.example_send.specs.Example.{LastWords};
 
 use conn_record::Record;
 use group_calls::Request;
@@ -17,34 +14,6 @@ use group_table::{Answered, Links};
 pub struct Said {
     sent: Answered,
     done: Answered,
-}
-
-fn send_on(slot: u32) -> Command
-    ensures { result ≡ On slot Send }
-{
-    Command::On(slot, Request::Send)
-}
-
-fn shutdown_on(slot: u32) -> Command
-    ensures { result ≡ On slot Shutdown }
-{
-    Command::On(slot, Request::Shutdown)
-}
-
-fn links_after(a: Answered) -> Links
-    ensures { result ≡ a.links }
-{
-    let links = a.links;
-    links
-}
-
-fn both(sent: Answered, done: Answered) -> Said
-    ensures { result ≡ said_of sent done }
-{
-    Said {
-        sent: sent,
-        done: done,
-    }
 }
 
 pub fn last_words(
@@ -60,8 +29,9 @@ pub fn last_words(
     ensures { LastWords (group_of s n table.old links mem.old) slot bytes.now result
         table.new mem.new }
 {
-    let sent = group_make::make(s, n, mem, table, links, send_on(slot), bytes, out);
-    let left = links_after(sent);
-    let done = group_make::make(s, n, mem, table, left, shutdown_on(slot), bytes, out);
-    both(sent, done)
+    let send = Command::On(slot, Request::Send);
+    let sent = group_make::make(s, n, mem, table, links, send, bytes, out);
+    let shutdown = Command::On(slot, Request::Shutdown);
+    let done = group_make::make(s, n, mem, table, sent.links, shutdown, bytes, out);
+    Said { sent, done }
 }

@@ -1,6 +1,5 @@
 -- What the two calls give together, and lists that are joined. Assumes nothing.
 use Prim.Native.Nat.{ℕ}
-use mathlib.Core.Path.{◌≡◌, sym, subst}
 use mathlib.Core.List.{List, [], ◌∷◌}
 use Rattle.conn_record.specs.declared.Record.{Record}
 use Rattle.group_table.specs.declared.Links.{Links}
@@ -9,8 +8,7 @@ use Rattle.group_rules.specs.Rules.{Did, group_of, answer_of}
 use Rattle.group_make.specs.declared.Command.{Command}
 use Rattle.group_make.specs.Group.{call_of, out_left, OutKept}
 use Rattle.thm_order.specs.Statement.{none_made, one_made}
-use Rattle.example_series.specs.declared.Two.{Two}
-use Rattle.example_series.specs.Series.{MadeTwo, Joined, two_of}
+use Rattle.example_series.specs.Series.{MadeTwo, Joined}
 
 pub joined : Joined
 joined g h end [] ds [] also none_made rest = rest
@@ -22,21 +20,10 @@ pub make_two_returns : (s n : ℕ) (m : List ℕ) (t : List Record) (ls : Links)
     → (a₁ : Answered) (m₁ : List ℕ) (t₁ : List Record) (o₁ : List ℕ)
     → Did (group_of s n t ls m) (call_of c b out) (answer_of a₁ (out_left c o₁)) (group_of s n t₁ a₁.links m₁)
     × OutKept c out o₁
-    → (l : Links) → l ≡ a₁.links → (a₂ : Answered) (m₂ : List ℕ) (t₂ : List Record) (o₂ : List ℕ)
-    → Did (group_of s n t₁ l m₁) (call_of d b' out') (answer_of a₂ (out_left d o₂)) (group_of s n t₂ a₂.links m₂)
+    → (a₂ : Answered) (m₂ : List ℕ) (t₂ : List Record) (o₂ : List ℕ)
+    → Did (group_of s n t₁ a₁.links m₁) (call_of d b' out') (answer_of a₂ (out_left d o₂)) (group_of s n t₂ a₂.links m₂)
     × OutKept d out' o₂
-    → (r : Two) → r ≡ two_of a₁ a₂
-    → MadeTwo (group_of s n t ls m) (call_of c b out) (call_of d b' out') (answer_of r.first (out_left c o₁)) (answer_of r.second (out_left d o₂))
-    (group_of s n t₂ r.second.links m₂)
+    → MadeTwo (group_of s n t ls m) (call_of c b out) (call_of d b' out') (answer_of a₁ (out_left c o₁)) (answer_of a₂ (out_left d o₂))
+    (group_of s n t₂ a₂.links m₂)
     × OutKept c out o₁ × OutKept d out' o₂
-make_two_returns s n m t ls c b out d b' out' a₁ m₁ t₁ o₁ d₁ l hl a₂ m₂ t₂ o₂ d₂ r hr =
-    let q : Did (group_of s n t₁ a₁.links m₁) (call_of d b' out') (answer_of a₂ (out_left d o₂)) (group_of s n t₂ a₂.links m₂) =
-    subst (λ (x : Links). Did (group_of s n t₁ x m₁) (call_of d b' out') (answer_of a₂ (out_left d o₂)) (group_of s n t₂ a₂.links m₂)) hl d₂.0 in (
-      subst
-          (λ (x : Two).
-          MadeTwo (group_of s n t ls m) (call_of c b out) (call_of d b' out') (answer_of x.first (out_left c o₁)) (answer_of x.second (out_left d o₂))
-          (group_of s n t₂ x.second.links m₂))
-          (sym hr) (one_made d₁.0 (one_made q none_made)),
-      d₁.1,
-      d₂.1,
-    )
+make_two_returns s n m t ls c b out d b' out' a₁ m₁ t₁ o₁ d₁ a₂ m₂ t₂ o₂ d₂ = (one_made d₁.0 (one_made d₂.0 none_made), d₁.1, d₂.1)

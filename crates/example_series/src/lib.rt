@@ -2,10 +2,9 @@
 // is made by the list that joins them (specs/Series.antt, `Joined`).
 #![tactic(auto)]
 
-ghost use Rattle.std.specs.Prelude.{◌≡◌};
 ghost use Rattle.group_rules.specs.Rules.{group_of, answer_of};
 ghost use Rattle.group_make.specs.Group.{call_of, out_left, OutKept};
-ghost use Rattle.example_series.specs.Series.{MadeTwo, two_of};
+ghost use Rattle.example_series.specs.Series.{MadeTwo};
 
 use conn_record::Record;
 use group_make::Command;
@@ -16,22 +15,6 @@ use group_table::{Answered, Links};
 pub struct Two {
     pub first: Answered,
     pub second: Answered,
-}
-
-fn links_after(a: Answered) -> Links
-    ensures { result ≡ a.links }
-{
-    let links = a.links;
-    links
-}
-
-fn both(first: Answered, second: Answered) -> Two
-    ensures { result ≡ two_of first second }
-{
-    Two {
-        first: first,
-        second: second,
-    }
 }
 
 // Makes the call c, lent `given` and `out`, then the call d, lent `also` and `into`.
@@ -55,7 +38,6 @@ pub fn make_two(
         × OutKept c out.old out.new × OutKept d into.old into.new }
 {
     let first = group_make::make(s, n, mem, table, links, c, given, out);
-    let left = links_after(first);
-    let second = group_make::make(s, n, mem, table, left, d, also, into);
-    both(first, second)
+    let second = group_make::make(s, n, mem, table, first.links, d, also, into);
+    Two { first, second }
 }

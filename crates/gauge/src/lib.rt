@@ -77,6 +77,7 @@ fn is_late(m: f64, s: f64) -> bool
     s > 4.0 * m + 20.0
 }
 
+// Kept: `f64::max` drops what is no number, and `larger_of` of specs/Gauge.antt keeps it.
 fn larger(a: f64, b: f64) -> f64
     ensures { result ≡ larger_of a b }
 {
@@ -87,7 +88,7 @@ fn larger(a: f64, b: f64) -> f64
 fn one_more(c: u8) -> u8
     ensures { result ≡ count_after c }
 {
-    if c < 8 { c + 1 } else { 8 }
+    c.saturating_add(1).min(8)
 }
 
 // The gauge after one sample more; as it was where the number is no sample.
@@ -118,10 +119,10 @@ fn next(g: Gauge, ms: u32) -> Gauge
     let worst = larger(w, s);
     let count = one_more(c);
     Gauge {
-        mean: mean,
-        worst: worst,
-        count: count,
-        late: late,
+        mean,
+        worst,
+        count,
+        late,
     }
 }
 

@@ -1,5 +1,5 @@
--- Hear, from what its parts gave, and any call on a slot: of what they are given; and in any table that shows the record, the answer and the
--- group that is left are what the rules say. Assumes nothing.
+-- Hear, from what its parts gave: of what it is given; and in any table that shows the record, the answer and the group that is left are what
+-- the rules say. Assumes nothing.
 use Prim.Native.Nat.{ℕ}
 use mathlib.Core.Path.{◌≡◌, refl, sym, ap, ◌∙◌, subst}
 use mathlib.Core.Bool.{Bool, true, false, cond}
@@ -17,19 +17,14 @@ use Rattle.conn_record.specs.declared.Record.{Record}
 use Rattle.conn_answer.specs.declared.Outcome.{Outcome}
 use Rattle.conn_hear.specs.Hear.{hear_of}
 use Rattle.group_table.specs.declared.Links.{Links}
-use Rattle.group_table.specs.declared.Answered.{Answered}
 use Rattle.group_table.specs.declared.Turned.{Turned}
 use Rattle.group_table.specs.Table.{sizes_b, slot_b, record_at, find_from, holder_in, refused_by, kept_by_of, settled_by}
 use Rattle.group_table.proofs.Laws.{sizes_facts, find_slot, holder_none, holder_some}
 use Rattle.group_rules.specs.Rules.{Group, Call, Turn, group_of, turn_of, hear_turn, hear_at, hear_message, hear_does, holder_of, element_in, link_of}
-use Rattle.group_rules.specs.Promises.{Shown, shown_by, keeps_all, shows_turn, active_for, on_record, hears_by, hear_record, InTable, Promise}
+use Rattle.group_rules.specs.Promises.{Shown, shown_by, keeps_all, shows_turn, active_for, hears_by, hear_record, InTable, Promise}
 use Rattle.group_rules.proofs.Memory.{kept_memory}
 use Rattle.group_rules.proofs.Settled.{shown, refused_in, turned_in}
-use Rattle.group_calls.specs.Calls.{request_of, out_left, OutKept, token_in, heard_by}
-use Rattle.group_calls.specs.declared.Request.{Request as Asked}
-
-pub kept_by : (c : Record) {a r : Answered} {x : Turned} → x ≡ kept_by_of c a → a ≡ r → x ≡ kept_by_of c r
-kept_by c p q = p ∙ ap (kept_by_of c) q
+use Rattle.group_calls.specs.Calls.{token_in, heard_by}
 
 -- HEAR, of what it is given
 module _ (s n : ℕ) (m : List ℕ) (count : ℕ) (ls : Links) (b : List ℕ) (k : ℕ) (c : Record) (a : Turned) where
@@ -145,11 +140,3 @@ module _ (s n : ℕ) (t : List Record) (ls : Links) (m : List ℕ) (b : List ℕ
 
       pub hear_good : (w : Message) → decode_of b ≡ Good w → a ≡ heard_by n ls k c w → Hears (shown_by a [] m)
       hear_good w d p = hear_promised (good_shown s n m (length t) ls b k c a y w d p)
-
--- ANY CALL ON A SLOT: what holds of the request that was matched holds of the request
-module _ {x y : Asked} (e : x ≡ y) (s n : ℕ) (m l : List ℕ) (count : ℕ) (ls : Links) (k : ℕ) (rec : Record) (b out left : List ℕ) (r : Turned) where
-  abbrev DidAsked : Asked → Type 0
-  DidAsked q = (shown_by r (out_left q left) l ≡ on_record s n m count ls k rec (request_of q b out)) × OutKept q out left
-
-  pub by_request : DidAsked y → DidAsked x
-  by_request = subst DidAsked (sym e)

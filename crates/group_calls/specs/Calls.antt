@@ -10,8 +10,17 @@ use Rattle.group_table.specs.declared.Links.{Links}
 use Rattle.group_table.specs.declared.Turned.{Turned}
 use Rattle.group_table.specs.Table.{active_b, settled_by}
 use Rattle.group_rules.specs.Rules as Rules
+use Rattle.group_rules.specs.Promises.{Shown, on_record, hear_record}
+use Rattle.group_calls.specs.declared.View.{View}
 use Rattle.group_calls.specs.declared.Request.{Request}
 use Rattle.group_calls.specs.declared.Request.TheVariants as Requests
+
+-- what a request on slot k, and a message for the slot k, answer and leave of what a call is given
+abbrev pub on_view : View → List ℕ → ℕ → Rules.Request → Shown
+on_view v m k q = on_record v.s v.n m v.count v.links k v.rec q
+
+abbrev pub hear_view : View → List ℕ → ℕ → List ℕ → Shown
+hear_view v m k b = hear_record v.s v.n m v.count v.links k v.rec b
 
 -- the rules' request that the code's names, with what is lent
 abbrev pub request_of : Request → List ℕ → List ℕ → Rules.Request

@@ -4,6 +4,8 @@ use Rattle.conn_record.specs.declared.Record.{Record}
 use Rattle.group_table.specs.declared.Links.{Links}
 use Rattle.group_rules.specs.Rules as Rules
 use Rattle.group_rules.specs.Promises.{Shown, open_record, free_record, sample_record}
+use Rattle.conn_record.specs.declared.Opening.{Opening}
+use Rattle.group_calls.specs.declared.View.{View}
 use Rattle.group_desk.specs.declared.Management.{Management}
 use Rattle.group_desk.specs.declared.Management.TheVariants as Calls
 
@@ -30,3 +32,13 @@ abbrev pub manage_record : ℕ → ℕ → List ℕ → ℕ → Links → ℕ �
 manage_record s n m count links holder c (Calls.Open k given) = open_record s n m count links holder k c given
 manage_record s n m count links holder c (Calls.Free k) = free_record s n m count links k c
 manage_record s n m count links holder c (Calls.Sample l ms) = sample_record s n m links c l ms
+
+-- the same of a view
+abbrev pub open_view : View → List ℕ → ℕ → ℕ → Opening → Shown
+open_view v m holder k given = open_record v.s v.n m v.count v.links holder k v.rec given
+
+abbrev pub free_view : View → List ℕ → ℕ → Shown
+free_view v m k = free_record v.s v.n m v.count v.links k v.rec
+
+abbrev pub manage_view : View → List ℕ → ℕ → Management → Shown
+manage_view v m holder call = manage_record v.s v.n m v.count v.links holder v.rec call

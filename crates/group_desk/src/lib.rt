@@ -3,29 +3,33 @@
 #![tactic(auto)]
 
 ghost use Rattle.group_rules.specs.Rules as Rules;
-ghost use Rattle.std.specs.Prelude.{◌≡◌, [], length};
+ghost use Rattle.std.specs.Prelude.{◌≡◌, []};
 ghost use Rattle.group_rules.specs.Rules.{Call, sample_refusal, bad_opening};
-ghost use Rattle.group_rules.specs.Promises.{DidLinks, shown_by, open_number, open_record, free_number, free_record};
+ghost use Rattle.group_rules.specs.Promises.{DidLinks, shown_by, open_number, free_number};
 ghost use Rattle.group_desk.specs.Linkstate.{health_by};
-ghost use Rattle.group_desk.specs.Management.{token_of, slot_of_all, manage_record};
+ghost use Rattle.group_desk.specs.Management.{token_of, slot_of_all, open_view, free_view, manage_view};
 
 use conn_answer::Reply;
-use conn_record::{Opening, Record};
+use conn_record::Opening;
 use gauge::Health;
+use group_calls::View;
 use group_table::{Answered, Links, Turned};
 
 // SAMPLE (request 2026-10): it sees the links with their gauges alone.
 
-// The refusal that sample gives: 13, 6, 17; 0 for none.
+// The refusal that sample gives: 13, 6, 17; 0 for none. Numbers, no enum: document 01's, which `settled` and thm_refusals take so.
 fn sample_refusal(links: Links, link: u8, ms: u32) -> u8
     ensures { result ≡ sample_refusal links.active link ms }
 {
-    let outside = !group_table::link_ok(link);
-    let down = !group_table::link_active(links, link);
-    let long = !gauge::is_sample(ms);
-    let no_17 = group_table::refusal_if(long, 17, 0);
-    let no_6 = group_table::refusal_if(down, 6, no_17);
-    group_table::refusal_if(outside, 13, no_6)
+    if !group_table::link_ok(link) {
+        13
+    } else if !group_table::link_active(links, link) {
+        6
+    } else if !gauge::is_sample(ms) {
+        17
+    } else {
+        0
+    }
 }
 
 // A sample's answer: the health, no message, and the links with the gauge that it leaves.
@@ -35,8 +39,8 @@ fn health_answer(health: Health, links: Links) -> Answered
     Answered {
         reply: Reply::Sampled(health),
         made: false,
-        message: [0u8; 44],
-        links: links,
+        message: [0; 44],
+        links,
     }
 }
 
@@ -53,8 +57,7 @@ pub fn sample(links: Links, link: u8, ms: u32) -> Answered
     }
 }
 
-// OPEN AND FREE, on one record. Each is lent S, N and the memory, and is given the table's length, the links, a
-// slot and the record that the slot shows, as the calls of a connection are.
+// OPEN AND FREE, on one record, given as the calls of a connection are.
 
 // Whether what open is given is refused with 12: a zero token, or what is fixed about the peer out of range.
 fn bad_opening(given: Opening) -> bool
@@ -65,94 +68,67 @@ fn bad_opening(given: Opening) -> bool
 }
 
 // The refusal that open gives: 1, 2, 10, 12, 13, 6, 11; 0 for none. `holder` is the slot that holds the own token.
-fn open_refusal(
-    s: u32,
-    n: u32,
-    mem: &[u8],
-    count: usize,
-    links: Links,
-    holder: usize,
-    slot: u32,
-    rec: Record,
-    given: Opening,
-) -> u8
-    ensures { result ≡ open_number s n (length mem.now) count links holder slot rec given }
+fn open_refusal(view: &View, len: usize, holder: usize, slot: u32, given: Opening) -> u8
+    ensures { result ≡ open_number view.now.s view.now.n len view.now.count view.now.links holder slot view.now.rec given }
 {
-    let wrong = !group_table::sizes_ok(s, n, mem.len(), count);
-    let outside = !group_table::slot_ok(s, slot);
-    let bad = bad_opening(given);
-    let unknown = !group_table::link_ok(given.link);
-    let down = !group_table::link_active(links, given.link);
-    let no_11 = group_table::refusal_if(0 < holder, 11, 0);
-    let no_6 = group_table::refusal_if(down, 6, no_11);
-    let no_13 = group_table::refusal_if(unknown, 13, no_6);
-    let no_12 = group_table::refusal_if(bad, 12, no_13);
-    let no_10 = group_table::refusal_if(rec.id.opened, 10, no_12);
-    let no_2 = group_table::refusal_if(outside, 2, no_10);
-    group_table::refusal_if(wrong, 1, no_2)
+    if !group_table::sizes_ok(view.s, view.n, len, view.count) {
+        1
+    } else if !group_table::slot_ok(view.s, slot) {
+        2
+    } else if view.rec.id.opened {
+        10
+    } else if bad_opening(given) {
+        12
+    } else if !group_table::link_ok(given.link) {
+        13
+    } else if !group_table::link_active(view.links, given.link) {
+        6
+    } else if 0 < holder {
+        11
+    } else {
+        0
+    }
 }
 
 // `holder` is the slot that holds the own token, 0 for none.
-pub fn open(
-    s: u32,
-    n: u32,
-    mem: &mut [u8],
-    count: usize,
-    links: Links,
-    holder: usize,
-    slot: u32,
-    rec: Record,
-    given: Opening,
-) -> Turned
-    ensures { shown_by result [] mem.new ≡ open_record s n mem.old count links holder slot rec given }
+pub fn open(view: &View, mem: &mut [u8], holder: usize, slot: u32, given: Opening) -> Turned
+    ensures { shown_by result [] mem.new ≡ open_view view.now mem.old holder slot given }
 {
-    let no = open_refusal(s, n, mem, count, links, holder, slot, rec, given);
+    let no = open_refusal(view, mem.len(), holder, slot, given);
     let after = conn_record::opened_record(given);
     let o = conn_answer::outcome_of(Reply::Accepted, false, after);
-    let d = group_table::settled(no, links, rec, o);
+    let d = group_table::settled(no, view.links, view.rec, o);
     if no == 0 {
-        let base = element::base_of(n, slot);
-        element::clear(mem, base, n as usize);
+        let base = element::base_of(view.n, slot);
+        element::clear(mem, base, view.n as usize);
     }
     d
 }
 
 // The refusal that free gives: 1, 2, 3, 7; 0 for none.
-fn free_refusal(
-    s: u32,
-    n: u32,
-    mem: &[u8],
-    count: usize,
-    links: Links,
-    slot: u32,
-    rec: Record,
-) -> u8
-    ensures { result ≡ free_number s n (length mem.now) count slot rec }
+fn free_refusal(view: &View, len: usize, slot: u32) -> u8
+    ensures { result ≡ free_number view.now.s view.now.n len view.now.count slot view.now.rec }
 {
-    let wrong = !group_table::sizes_ok(s, n, mem.len(), count);
-    let closed = !(group_table::slot_ok(s, slot) & rec.id.opened);
-    let incoherent = !conn_record::coherent(n, rec);
-    let no_7 = group_table::refusal_if(!rec.marks.abort, 7, 0);
-    let no_3 = group_table::refusal_if(incoherent, 3, no_7);
-    let no_2 = group_table::refusal_if(closed, 2, no_3);
-    group_table::refusal_if(wrong, 1, no_2)
+    if !group_table::sizes_ok(view.s, view.n, len, view.count) {
+        1
+    } else if !(group_table::slot_ok(view.s, slot) & view.rec.id.opened) {
+        2
+    } else if !conn_record::coherent(view.n, view.rec) {
+        3
+    } else if !view.rec.marks.abort {
+        7
+    } else {
+        0
+    }
 }
 
-pub fn free(
-    s: u32,
-    n: u32,
-    mem: &[u8],
-    count: usize,
-    links: Links,
-    slot: u32,
-    rec: Record,
-) -> Turned
-    ensures { shown_by result [] mem.now ≡ free_record s n mem.now count links slot rec }
+pub fn free(view: &View, mem: &[u8], slot: u32) -> Turned
+    ensures { shown_by result [] mem.now ≡ free_view view.now mem.now slot }
 {
-    let no = free_refusal(s, n, mem, count, links, slot, rec);
+    let no = free_refusal(view, mem.len(), slot);
     let z = conn_record::zero_record();
     let o = conn_answer::outcome_of(Reply::Accepted, false, z);
-    group_table::settled(no, links, rec, o)
+    group_table::settled(no, view.links, view.rec, o)
 }
 
 // A call of management, with its numbers.
@@ -166,7 +142,7 @@ pub enum Management {
     Sample(u8, u32),
 }
 
-// The own token that an open looks for in the table; 0 for none.
+// The own token that an open looks for in the table; 0 for none, no `Option`: `group_table::find` and `holder_in` say so.
 pub fn token_of(call: Management) -> u32
     ensures { result ≡ token_of call }
 {
@@ -189,21 +165,14 @@ pub fn slot_of(call: Management) -> u32
 }
 
 // Any one of the calls of management; `holder` is the slot that holds the token that it looks for, 0 for none.
-pub fn manage(
-    s: u32,
-    n: u32,
-    mem: &mut [u8],
-    count: usize,
-    links: Links,
-    holder: usize,
-    rec: Record,
-    call: Management,
-) -> Turned
-    ensures { shown_by result [] mem.new ≡ manage_record s n mem.old count links holder rec call }
+pub fn manage(view: &View, mem: &mut [u8], holder: usize, call: Management) -> Turned
+    ensures { shown_by result [] mem.new ≡ manage_view view.now mem.old holder call }
 {
     match call {
-        Management::Open(slot, given) => open(s, n, mem, count, links, holder, slot, rec, given),
-        Management::Free(slot) => free(s, n, mem, count, links, slot, rec),
-        Management::Sample(link, ms) => group_table::kept(rec, sample(links, link, ms)),
+        Management::Open(slot, given) => open(view, mem, holder, slot, given),
+        Management::Free(slot) => free(view, mem, slot),
+        Management::Sample(link, ms) => {
+            group_table::kept(view.rec, sample(view.links, link, ms))
+        }
     }
 }

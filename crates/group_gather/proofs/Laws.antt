@@ -9,14 +9,12 @@ use Rattle.conn_answer.specs.declared.Outcome.{Outcome}
 use Rattle.conn_send.specs.Transmit.{send_of}
 use Rattle.conn_gather.specs.Pieces.{pieces_of}
 use Rattle.group_table.specs.declared.Links.{Links}
-use Rattle.group_table.specs.declared.Answered.{Answered}
 use Rattle.group_table.specs.declared.Turned.{Turned}
 use Rattle.group_table.specs.Table.{record_at, with_record}
-use Rattle.group_rules.specs.Rules.{on, send, gather, Did, group_of, answer, answer_of, answer_in_pieces, turn_of, request_turn}
+use Rattle.group_rules.specs.Rules.{on, send, gather, Did, group_of, answer, answer_in_pieces, turn_of, request_turn}
 use Rattle.group_rules.specs.Promises.{shown_by, on_record, Promise}
 use Rattle.group_rules.proofs.Settled.{on_promised}
 use Rattle.group_rules.proofs.Joined.{joined_left, joined_says}
-use Rattle.group_gather.specs.declared.Gathered.{Gathered}
 use Rattle.group_gather.specs.Gathering.{gather_answer, DidGather}
 
 -- the turn of a send of the joined bytes, whose length the code adds up
@@ -43,18 +41,15 @@ did_joined s n m t ls k c h b a hc p =
 
 -- THE LENT FORM: what the record that was found, its step and the store give together
 pub gather_returns : (s n : ℕ) (m : List ℕ) (t : List Record) (ls : Links) (slot : ℕ) (h b : List ℕ) → (rec : Record)
-    → rec ≡ record_at t slot → (d : Turned) → shown_by d [] m ≡ on_record s n m (length t) ls slot rec (send (h ++ b)) → (after : Record)
-    → after ≡ d.after → (u : Unit {0}) → (z : List Record) → z ≡ with_record t slot after → (r : Gathered)
-    → (r.answer ≡ d.answer) × (r.found ≡ rec)
-    → DidGather (group_of s n t ls m) slot h b r (group_of s n z r.answer.links m)
-gather_returns s n m t ls slot h b rec er d e after ea u z ez r es =
-    let g = group_of s n t ls m in
+    → rec ≡ record_at t slot → (d : Turned) → shown_by d [] m ≡ on_record s n m (length t) ls slot rec (send (h ++ b))
+    → (z : List Record) → z ≡ with_record t slot d.after
+    → DidGather (group_of s n t ls m) slot h b (record { answer = d.answer; found = rec }) (group_of s n z d.answer.links m)
+gather_returns s n m t ls slot h b rec er d e z ez =
     let q = on_promised s n t ls m slot (send (h ++ b)) rec er d [] m e in
     let p = did_joined s n m t ls slot rec h b d er q in
-    let left : group_of s n z r.answer.links m ≡ group_of s n (with_record t slot d.after) d.answer.links m =
-    (λ i. group_of s n ((ez ∙ ap (with_record t slot) ea) i) (es.0 i).links m) in
+    let left = ap (λ (u : List Record). group_of s n u d.answer.links m) ez in
     record {
-      as_sent = record { answered = ap (λ (w : Answered). answer_of w []) es.0 ∙ q.answered; left = left ∙ q.left };
-      as_found = es.1 ∙ er;
-      did = record { answered = (λ i. gather_answer (es.1 i) h b (es.0 i)) ∙ p.answered; left = left ∙ p.left };
+      as_sent = record { answered = q.answered; left = left ∙ q.left };
+      as_found = er;
+      did = record { answered = p.answered; left = left ∙ p.left };
     }

@@ -1,4 +1,3 @@
 pub mod MovingLaws
 pub mod Laws
 pub mod Returns
-pub mod LinkRowsLaws

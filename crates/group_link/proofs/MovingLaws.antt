@@ -1,7 +1,7 @@
 -- The lent table, one slot after the other: what is left of it, and of the buffer. Assumes nothing.
-use Prim.Native.Nat.{ℕ, zero, suc, ◌+◌, ◌-◌, ◌≤◌, ◌<◌, zero-le}
+use Prim.Native.Nat.{ℕ, zero, suc, ◌+◌, ◌-◌, ◌≤◌, ◌<◌}
 use mathlib.Core.Path.{◌≡◌, refl, sym, ap, ◌∙◌}
-use mathlib.Core.Bool.{Bool, true, false, cond}
+use mathlib.Core.Bool.{Bool, false, cond}
 use mathlib.Core.List.{List, [], ◌∷◌}
 use native.Mathlib.Nat.{not-suc-le-zero, le_of_suc-le-suc}
 use native.Mathlib.Numerals.{add-one}
@@ -70,9 +70,6 @@ pub record move_each_Stands (t₀ : List Record) (n : ℕ) (p : Plan) (b₀ : Li
   pub told : told_from n p (drop i t₀) (standing at b) ≡ told_all n p t₀ b₀
 
 module _ (t₀ : List Record) (n : ℕ) (p : Plan) (b₀ : List ℕ) where
-  pub move_each_begins : move_each_Stands t₀ n p b₀ 0 0 t₀ b₀
-  move_each_begins = record { within = zero-le; moved = refl; told = refl }
-
   module _ (i at : ℕ) (t : List Record) (b : List ℕ) (s : move_each_Stands t₀ n p b₀ i at t b) where
     pub move_each_turn : i < length t₀ → (r : ℕ) (u : List Record) (d : List ℕ) → Turned t (i + 1) n p b at (record_at t (i + 1)) u r d
         → move_each_Stands t₀ n p b₀ (i + 1) r u d
@@ -105,9 +102,6 @@ module _ (t₀ : List Record) (n : ℕ) (p : Plan) (b₀ : List ℕ) where
 module _ (t : List Record) (n : ℕ) (p : Plan) (b : List ℕ) (s : Bool) (e : s ≡ some_b p) where
   abbrev Moved : List Record → ℕ → List ℕ → Type 0
   Moved u r d = (u ≡ moved_all n p t) × ((r ≡ (told_all n p t b).at) × (d ≡ (told_all n p t b).buffer))
-
-  pub move_all_returns : s ≡ true → (r : ℕ) (u : List Record) (d : List ℕ) → Moved u r d → Moved u r d
-  move_all_returns h r u d m = m
 
   pub move_all_returns_2 : s ≡ false → Moved t 0 b
   move_all_returns_2 h =

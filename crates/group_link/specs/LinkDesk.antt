@@ -18,6 +18,11 @@ use Rattle.group_link.specs.declared.LinkDone.{LinkDone}
 unfoldable pub reply_by : ℕ → Reply
 reply_by k = cond (eqb k 0) Accepted (Refused k)
 
+-- these links, and nothing made, heard or taken up
+abbrev pub bare_of : ℕ → Links → Work
+bare_of k links =
+    record { refusal = k; made = false; message = no_message; links = links; fields = no_fields; fate = Dropped; up = none_up }
+
 -- what each call does to the links
 unfoldable pub work_of : Links → LinkCommand → List ℕ → List ℕ → Work
 work_of links (Change l up) bytes vs =

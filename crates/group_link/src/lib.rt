@@ -5,11 +5,11 @@
 // `move_all`. It has no test of its own: a refused call leaves the links as they were, and then nothing moves.
 #![tactic(auto)]
 
-ghost use Rattle.std.specs.Prelude.{◌≡◌, ◌/◌, ◌≤◌, min};
+ghost use Rattle.std.specs.Prelude.{◌≡◌};
 ghost use Rattle.group_table.specs.Table.{record_at, with_record};
-ghost use Rattle.link_failover.specs.Failover.{moved_of, standing, told_by, told_all, moved_all, some_b, plan_of};
+ghost use Rattle.link_failover.specs.Failover.{moved_of, standing, told_by, told_all, moved_all, some_b};
 ghost use Rattle.group_rules.specs.Rules.{Did, group_of};
-ghost use Rattle.group_link.specs.LinkDesk.{reply_by, work_of, lent_b, lent_of, done_by, call_of, answer_in};
+ghost use Rattle.group_link.specs.LinkDesk.{reply_by, work_of, bare_of, lent_b, lent_of, done_by, call_of, answer_in};
 ghost use Rattle.group_link.specs.LinkRows.{OnRows};
 
 use conn_answer::Reply;
@@ -42,12 +42,10 @@ fn move_each(table: &mut [Record], n: u32, p: Plan, out: &mut [u8]) -> usize
         × ((result ≡ (told_all n p table.old out.old).at)
         × (out.new ≡ (told_all n p table.old out.old).buffer)) }
 {
-    let mut slot: usize = 0;
-    let mut written: usize = 0;
-    while slot < table.len() {
-        let next = turn(table, slot + 1, n, p, out, written);
-        written = next;
-        slot += 1;
+    let mut written = 0;
+    // by number, not by `iter_mut`: the wrong programs of `turn` store and tell by its slot
+    for slot in 0..table.len() {
+        written = turn(table, slot + 1, n, p, out, written);
     }
     written
 }
@@ -58,11 +56,10 @@ pub fn move_all(table: &mut [Record], n: u32, p: Plan, out: &mut [u8]) -> usize
         × ((result ≡ (told_all n p table.old out.old).at)
         × (out.new ≡ (told_all n p table.old out.old).buffer)) }
 {
-    let some = link_failover::some(p);
-    if some {
-        return move_each(table, n, p, out);
+    if link_failover::some(p) {
+        move_each(table, n, p, out)
     } else {
-        return 0;
+        0
     }
 }
 
@@ -83,7 +80,8 @@ pub struct Values {
     pub values: [u64; 12],
 }
 
-// What a call does to the links, before connections move; refusal 0: none.
+// What a call does to the links, before connections move; refusal 0: none. A number, as `link_calls::Heard` and `Sent` have it, and as the
+// rule edits failover_13_first and failover_1_last quote it.
 #[derive(Clone, Copy)]
 pub struct Work {
     pub refusal: u8,
@@ -106,7 +104,7 @@ pub struct LinkDone {
     pub count: usize,
 }
 
-// A refusal's number, 0 for none, as a reply.
+// A refusal's number, 0 for none, as a reply. No `From`: `Reply` is conn_answer's.
 fn reply_of(no: u8) -> Reply
     ensures { result ≡ reply_by no }
 {
@@ -117,62 +115,52 @@ fn reply_of(no: u8) -> Reply
     }
 }
 
+// These links, and nothing made, heard or taken up.
+fn bare(refusal: u8, links: Links) -> Work
+    ensures { result ≡ bare_of refusal links }
+{
+    Work {
+        refusal,
+        made: false,
+        message: [0; 44],
+        links,
+        fields: link_calls::no_fields(),
+        fate: Fate::Dropped,
+        up: link_calls::none_up(),
+    }
+}
+
 // What the call does, of the links alone.
 fn work_on(links: Links, command: LinkCommand, bytes: &[u8], given: Values) -> Work
     ensures { result ≡ work_of links command bytes.now given.values }
 {
     match command {
         LinkCommand::Change(link, up) => {
-            let done = link_calls::change(links, link, up);
-            let after = done.after;
-            let none = link_calls::no_fields();
-            let nobody = link_calls::none_up();
-            let known = group_table::link_ok(link);
-            let no = group_table::refusal_if(known, 0, 13);
-            Work {
-                refusal: no,
-                made: false,
-                message: [0u8; 44],
-                links: after,
-                fields: none,
-                fate: Fate::Dropped,
-                up: nobody,
-            }
+            let no = group_table::refusal_if(group_table::link_ok(link), 0, 13);
+            bare(no, link_calls::change(links, link, up).after)
         }
         LinkCommand::Message(link) => {
             let h = link_calls::message(links, link, bytes);
-            let fields = h.fields;
-            let fate = h.fate;
             let message = h.reply;
-            let settled = h.settled;
-            let after = settled.after;
-            let up = settled.up;
             Work {
                 refusal: h.refusal,
                 made: h.replies,
-                message: message,
-                links: after,
-                fields: fields,
-                fate: fate,
-                up: up,
+                message,
+                links: h.settled.after,
+                fields: h.fields,
+                fate: h.fate,
+                up: h.settled.up,
             }
         }
         LinkCommand::Send(link, kind) => {
             let values = given.values;
             let s = link_calls::send(links, link, kind, values);
             let message = s.message;
-            let settled = s.settled;
-            let after = settled.after;
-            let up = settled.up;
-            let none = link_calls::no_fields();
             Work {
-                refusal: s.refusal,
                 made: s.refusal == 0,
-                message: message,
-                links: after,
-                fields: none,
-                fate: Fate::Dropped,
-                up: up,
+                message,
+                up: s.settled.up,
+                ..bare(s.refusal, s.settled.after)
             }
         }
     }
@@ -182,9 +170,8 @@ fn work_on(links: Links, command: LinkCommand, bytes: &[u8], given: Values) -> W
 fn lent_ok(s: u32, n: u32, len: usize, count: usize, room: usize) -> bool
     ensures { result ≡ lent_b s n len count room }
 {
-    let sized = group_table::sizes_ok(s, n, len, count);
     let needed = 44 * (s as usize);
-    sized & (needed <= room)
+    group_table::sizes_ok(s, n, len, count) & (needed <= room)
 }
 
 // The same, with 1 tested first.
@@ -202,55 +189,34 @@ fn tested(
     ensures { result ≡ lent_of (lent_b s n len count room) links (work_of links command bytes.now given.values) }
 {
     if lent_ok(s, n, len, count, room) {
-        return work_on(links, command, bytes, given);
+        work_on(links, command, bytes, given)
+    } else {
+        bare(1, links)
     }
-    let none = link_calls::no_fields();
-    let nobody = link_calls::none_up();
-    Work {
-        refusal: 1,
-        made: false,
-        message: [0u8; 44],
-        links: links,
-        fields: none,
-        fate: Fate::Dropped,
-        up: nobody,
-    }
-}
-
-// What moves then.
-fn plan_in(links: Links, w: Work) -> Plan
-    ensures { result ≡ plan_of links.active w.links.active }
-{
-    let after = w.links;
-    link_failover::plan_of(links, after)
 }
 
 // What the caller sees of it, where the messages have so many bytes.
 fn done(w: Work, written: usize) -> LinkDone
     ensures { result ≡ done_by w written }
 {
-    let reply = reply_of(w.refusal);
     let message = w.message;
-    let links = w.links;
-    let fields = w.fields;
-    let fate = w.fate;
-    let up = w.up;
     let answer = Answered {
-        reply: reply,
+        reply: reply_of(w.refusal),
         made: w.made,
-        message: message,
-        links: links,
+        message,
+        links: w.links,
     };
     LinkDone {
-        answer: answer,
-        fields: fields,
-        fate: fate,
-        up: up,
+        answer,
+        fields: w.fields,
+        fate: w.fate,
+        up: w.up,
         count: written / 44,
     }
 }
 
 // Makes one of the three calls. Many records of the table may change; of each its link at most.
+// S, N, memory, table and links apart, as in `group_make::make`.
 pub fn make(
     s: u32,
     n: u32,
@@ -278,7 +244,7 @@ pub fn make(
         bytes,
         given,
     );
-    let p = plan_in(links, w);
+    let p = link_failover::plan_of(links, w.links);
     let written = move_all(table, n, p, out);
     done(w, written)
 }
@@ -286,27 +252,11 @@ pub fn make(
 // Link change, link message and link send on the first rows of a replayed table, an array of 300 records of which a line of the replay format
 // lends as many as it says.
 
-// A table, and what a call on its rows answered.
+// A table, and what a call on its rows answered; as `group_make::Made`.
 #[derive(Clone, Copy)]
 pub struct LinkMade {
     pub table: [Record; 300],
     pub done: LinkDone,
-}
-
-// How many of `count` rows there are.
-fn lent(count: usize) -> usize
-    ensures { (result ≡ min count 300) × (result ≤ 300) }
-{
-    if count < 300 { count } else { 300 }
-}
-
-fn beside(table: [Record; 300], done: LinkDone) -> LinkMade
-    ensures { (result.table ≡ table) × (result.done ≡ done) }
-{
-    LinkMade {
-        table: table,
-        done: done,
-    }
 }
 
 // Makes the call on the first `count` rows, which are lent.
@@ -325,8 +275,8 @@ pub fn on_rows(
     ensures { OnRows table count s n mem.now links command bytes.now given.values out.old result
         out.new }
 {
-    let k = lent(count);
+    let k = count.min(300);
     let mut rows = table;
     let done = make(s, n, mem, &mut rows[..k], links, command, bytes, given, out);
-    beside(rows, done)
+    LinkMade { table: rows, done }
 }

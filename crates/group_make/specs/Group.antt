@@ -4,6 +4,7 @@ use Rattle.conn_record.specs.declared.Record.{Record}
 use Rattle.group_table.specs.declared.Links.{Links}
 use Rattle.group_calls.specs.Calls.{request_of, token_in}
 use Rattle.group_calls.specs.Calls as Calls
+use Rattle.group_calls.specs.declared.View.{View}
 use Rattle.group_desk.specs.Management.{management_of, manage_record}
 use Rattle.group_desk.specs.Management as Management
 use Rattle.group_rules.specs.Rules.{Call}
@@ -45,3 +46,7 @@ abbrev pub command_record : ℕ → ℕ → List ℕ → ℕ → Links → ℕ �
 command_record s n m count links holder c (On k q) b out = on_record s n m count links k c (request_of q b out)
 command_record s n m count links holder c Hear b out = hear_record s n m count links holder c b
 command_record s n m count links holder c (Manage d) b out = manage_record s n m count links holder c d
+
+-- the same of a view
+abbrev pub command_view : View → List ℕ → ℕ → Command → List ℕ → List ℕ → Shown
+command_view v m holder w b out = command_record v.s v.n m v.count v.links holder v.rec w b out

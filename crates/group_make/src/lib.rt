@@ -9,11 +9,11 @@
 ghost use Rattle.std.specs.Prelude.{◌≡◌, ◌≤◌, min};
 ghost use Rattle.group_rules.specs.Rules.{Did, group_of, answer_of};
 ghost use Rattle.group_rules.specs.Promises.{shown_by};
-ghost use Rattle.group_make.specs.Group.{call_of, token_of, slot_of_all, out_left, OutKept, command_record};
+ghost use Rattle.group_make.specs.Group.{call_of, token_of, slot_of_all, out_left, OutKept, command_view};
 ghost use Rattle.group_make.specs.Rows.{OnRows};
 
 use conn_record::Record;
-use group_calls::Request;
+use group_calls::{Request, View};
 use group_desk::Management;
 use group_table::{Answered, Links, Turned};
 
@@ -26,7 +26,7 @@ pub enum Command {
     Manage(Management),
 }
 
-// The token that a call looks for in the table; 0 for none.
+// The token that a call looks for in the table; 0 for none, no `Option`: `group_table::find` and `holder_in` say so.
 fn token_of(command: Command, bytes: &[u8]) -> u32
     ensures { result ≡ token_of command bytes.now }
 {
@@ -50,45 +50,26 @@ fn slot_of(command: Command, holder: usize) -> usize
 
 // One call, on the record of its slot: the whole of the rules but for the table.
 fn turn(
-    s: u32,
-    n: u32,
+    view: &View,
     mem: &mut [u8],
-    count: usize,
-    links: Links,
     holder: usize,
-    rec: Record,
     command: Command,
     bytes: &[u8],
     out: &mut [u8],
 ) -> Turned
     ensures { (shown_by result (out_left command out.new) mem.new
-        ≡ command_record s n mem.old count links holder rec command bytes.now out.old)
+        ≡ command_view view.now mem.old holder command bytes.now out.old)
         × OutKept command out.old out.new }
 {
     match command {
-        Command::On(slot, request) => group_calls::on(
-            s, n, mem, count, links, slot, rec, request, bytes, out,
-        ),
-        Command::Hear => group_calls::hear(s, n, mem, count, links, holder, rec, bytes),
-        Command::Manage(call) => group_desk::manage(s, n, mem, count, links, holder, rec, call),
+        Command::On(slot, request) => view.on(mem, slot, request, bytes, out),
+        Command::Hear => view.hear(mem, holder, bytes),
+        Command::Manage(call) => group_desk::manage(view, mem, holder, call),
     }
 }
 
-// The record that it leaves, and what the caller sees of it.
-fn after_of(d: Turned) -> Record
-    ensures { result ≡ d.after }
-{
-    d.after
-}
-
-fn answer_of(d: Turned) -> Answered
-    ensures { result ≡ d.answer }
-{
-    let answer = d.answer;
-    answer
-}
-
 // Makes one call. At most one record of the table changes. A call that has no use for an out buffer leaves `out` as it is.
+// S, N, memory, table and links apart, no struct: README and docs/CALLING.md name it so, and each is lent or goes on its own.
 pub fn make(
     s: u32,
     n: u32,
@@ -109,47 +90,27 @@ pub fn make(
     let holder = group_table::find(table, token);
     let slot = slot_of(command, holder);
     let rec = group_table::record_at(table, slot);
-    let d = turn(
+    let count = table.len();
+    let view = View {
         s,
         n,
-        mem,
-        table.len(),
+        count,
         links,
-        holder,
         rec,
-        command,
-        bytes,
-        out,
-    );
-    let after = after_of(d);
-    group_table::put_record(table, slot, after);
-    answer_of(d)
+    };
+    let d = turn(&view, mem, holder, command, bytes, out);
+    group_table::put_record(table, slot, d.after);
+    d.answer
 }
 
 // A call on the first rows of a replayed table: an array of 300 records, more than any S, of which a line of the replay format lends as
 // many as it says.
 
-// A table, and what a call on its rows answered.
+// A table, and what a call on its rows answered. No `Rows<T>` with `group_link::LinkMade`: the text program's definitions name both.
 #[derive(Clone, Copy)]
 pub struct Made {
     pub table: [Record; 300],
     pub answer: Answered,
-}
-
-// How many of `count` rows there are.
-fn lent(count: usize) -> usize
-    ensures { (result ≡ min count 300) × (result ≤ 300) }
-{
-    if count < 300 { count } else { 300 }
-}
-
-fn beside(table: [Record; 300], answer: Answered) -> Made
-    ensures { (result.table ≡ table) × (result.answer ≡ answer) }
-{
-    Made {
-        table: table,
-        answer: answer,
-    }
 }
 
 // Makes the call on the first `count` rows, which are lent.
@@ -168,8 +129,11 @@ pub fn on_rows(
         out.new
         × OutKept command out.old out.new }
 {
-    let k = lent(count);
+    let k = count.min(300);
     let mut rows = table;
     let answer = make(s, n, mem, &mut rows[..k], links, command, bytes, out);
-    beside(rows, answer)
+    Made {
+        table: rows,
+        answer,
+    }
 }

@@ -7,14 +7,16 @@ use Prim.Native.Nat.{ℕ, zero, suc, ◌+◌, ◌-◌, ◌*◌, ◌/◌, ◌%◌
 use native.Mathlib.Nat.{mod-eq_of_lt, div-one}
 use native.Mathlib.Numerals.{add-one}
 use native.Mathlib.Omega.{arith}
-use lib.ListN.{length, take, drop, get_or, set, replicate, length-append, length-take, length-drop, length-replicate}
-use lib.Seq.{take_at, drop_at, take-suc, take_all, take-nil, length-take-le, drop-drop, take-take, get_or-drop, ext_get_or, paste}
-use lib.Seq.{take-append-add, take-length, get_or-set_same, get_or-set_other}
-use borrow.Author.Count.{below_more}
+use lib.ListN.{length, take, drop, get_or, replicate, length-append, length-take, length-drop, length-replicate, get_or-append, get_or-replicate, get_or-eq_default}
+use lib.Seq.{take_at, drop_at, take-suc, take_all, take-nil, length-take-le, drop-drop, take-take, get_or-drop, ext_get_or}
+use lib.Seq.{take-append-add, drop-length, get_or-append_right}
+use native.Mathlib.Decide.{dec_lt}
+use Rattle.std.proofs.lemmas.List.{get_or-take}
 use lib.Dec.{ltb, leb}
 use lib.Pow.{pow_mono, pow-add}
 use borrow.Author.Tests.{le-ltb, lt-ltb, leb-true, leb-false}
 use native.Mathlib.Nat.{min-eq_left, min-eq_right}
+use borrow.Rule.Slice.PartMut.{put_mid, post_of, Post-is}
 use Rattle.layout.specs.Layout.{bits_of, number_of, spread, gather, are_bytes, number_at, bytes_at, be_of, laid_at}
 use Rattle.layout.proofs.Bits.{and_left, and_right, gather_bytes, spread_gather, number_zero, bits_length, number_bits}
 use Rattle.layout.proofs.Bits.{number_less, number_append, bits_split, spread-length, spread_append, spread_drop, gather_length}
@@ -154,14 +156,51 @@ eight x =
     ∙ (λ i. x / 256 % 256 ∷ (be_next 0 x ∙ (λ i. div-one x i % 256 ∷ [])) i)) i)) i)) i)) i)) i)) i)
 
 -- loops: one more byte, and all of them
-pub filled_next : (o t : List ℕ) (i r : ℕ) → i < length o → r ≡ get_or t i 0 → ((k : ℕ) → k < i → get_or o k 0 ≡ get_or t k 0)
-    → (k : ℕ) → k < i + 1 → get_or (set o i r) k 0 ≡ get_or t k 0
-filled_next o t i r h e f =
-    below_more (λ k. get_or (set o i r) k 0 ≡ get_or t k 0) i (λ k j. get_or-set_other o i k r 0 (λ p. omega arith) ∙ f k j) (get_or-set_same o i r 0 h ∙ e)
+-- what stands at a place of the bytes that there are, and zeros behind them
+bytes_or_zeros : (s : List ℕ) (at f n o k : ℕ) → f ≡ min at (length s) → n ≡ min o (length s - f) → k < o
+    → get_or (take n (drop f s) ++ replicate (o - n) 0) k 0 ≡ get_or (drop at s) k 0
+bytes_or_zeros s at f n o k e g h =
+    let q = take n (drop f s) in
+    let z : List ℕ = replicate (o - n) 0 in
+    let l : length q ≡ n = length-take-le n (drop f s) (omega (arith, length-drop f s)) in
+    elim (dec_lt k n) [
+      | yes w ↦
+          let same : f ≡ at = omega arith in
+          get_or-append q z 0 k (omega arith) ∙ get_or-take n (drop f s) k 0 w ∙ ap (λ (a : ℕ). get_or (drop a s) k 0) same
+      | no w ↦
+          get_or-append_right q z k 0 (omega arith)
+          ∙ get_or-replicate (o - n) (k - length q) 0 0 (omega arith)
+          ∙ sym (get_or-eq_default (drop at s) 0 (omega (arith, length-drop at s)))
+    ]
 
-pub paste_whole : (d : List ℕ) (at : ℕ) (s : List ℕ) → paste d at s (length s) ≡ take at d ++ (s ++ drop (at + length s) d)
-paste_whole d at s =
-    ap (λ (t : List ℕ). take at d ++ t ++ drop (at + length s) d) (take-length s) ∙ append_assoc (take at d) s (drop (at + length s) d)
+pub bytes_and_zeros : (s : List ℕ) (at f n o : ℕ) → f ≡ min at (length s) → n ≡ min o (length s - f) → ((i : ℕ) → get_or s i 0 < 256)
+    → take n (drop f s) ++ replicate (o - n) 0 ≡ bytes_at s at o
+bytes_and_zeros s at f n o e g b =
+    let q = take n (drop f s) in
+    let z : List ℕ = replicate (o - n) 0 in
+    let l : length (q ++ z) ≡ o =
+    length-append q z ∙ omega (arith, length-take-le n (drop f s) (omega (arith, length-drop f s)), length-replicate {A = ℕ} (o - n) 0) in
+    bytes_filled s (q ++ z) at b (λ k h. bytes_or_zeros s at f n o k e g (omega arith)) ∙ ap (bytes_at s at) l
+
+-- what `&mut o[..n]` and then `&mut o[n..]` leave of o
+pub halves : (q o z : List ℕ) (n : ℕ) → length q ≡ n → n ≤ length o
+    → z ≡ replicate (length (take (length (q ++ drop n o) - n) (drop n (q ++ drop n o)))) 0
+    → take n (q ++ drop n o) ++ (z ++ post_of n (length (q ++ drop n o) - n) (q ++ drop n o)) ≡ q ++ replicate (length o - n) 0
+halves q o z n l h e =
+    let D = drop n o in
+    let Q = q ++ D in
+    let s : length Q ≡ length o = length-append q D ∙ omega (arith, length-drop n o) in
+    let m : length (take (length Q - n) (drop n Q)) ≡ length o - n = omega (arith, length-take (length Q - n) (drop n Q), length-drop n Q) in
+    let rest : post_of n (length Q - n) Q ≡ [] = Post-is n (length Q) Q (omega arith) ∙ drop-length Q in
+    let zeros : z ≡ replicate (length o - n) 0 = e ∙ ap (λ (k : ℕ). replicate k 0) m in
+    (λ i. take_at q D n l i ++ (zeros i ++ rest i)) ∙ ap (λ (t : List ℕ). q ++ t) (append-nil (replicate (length o - n) 0))
+
+-- what `&mut l[i..i + n]` leaves of l when it comes back as q
+pub laid_mid : (l q p : List ℕ) (i n : ℕ) → q ≡ p → n ≡ length p → i + n ≤ length l → put_mid i (i + n - i) l q ≡ laid_at l i p
+laid_mid l q p i n e h k =
+    ap (λ (t : List ℕ). take i l ++ (t ++ post_of i (i + n - i) l)) e
+    ∙ ap (λ (t : List ℕ). take i l ++ (p ++ t)) (Post-is i (i + n) l (omega arith) ∙ ap (λ (m : ℕ). drop (i + m) l) h)
+    ∙ sym (laid_in l p i (omega arith))
 
 pub number_min : (l : List ℕ) (i n : ℕ) → number_at l i (min n (length l - i)) ≡ number_at l i n
 number_min l i n = go (leb n (length l - i)) refl

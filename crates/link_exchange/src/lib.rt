@@ -9,7 +9,7 @@ ghost use Rattle.link_exchange.specs.Fates.{arriving_of, fate_at, fate_number, f
 
 use link_message::Kind;
 
-#[derive(Clone, Copy)]
+#[derive(Clone, Copy, PartialEq)]
 pub enum Role {
     Client,
     Server,
@@ -69,7 +69,7 @@ pub struct Said {
     pub mtu: u8,
 }
 
-#[derive(Clone, Copy)]
+#[derive(Clone, Copy, PartialEq)]
 pub enum Fate {
     Taken,
     Queued,
@@ -77,31 +77,25 @@ pub enum Fate {
     Dropped,
 }
 
-// Exchange against arriving message; columns none, add, delete, rkey. 0: taken, 1: queued, 2: denied, 3: dropped.
-const FATES: [u8; 44] = [
-    3, // 01 request
-    3, 3, 1, 0, // 02 request from client
-    3, 1, 1, 0, // 02 request from server
-    3, 3, 0, 0, // 04 request without A from client
-    1, 1, 1, 0, // 04 request without A from server
-    3, 3, 0, 0, // 04 request with A
-    0, 0, 0, 0, // 06, 08 request from client
-    2, // in an add: denied
-    2, 0, // in an rkey: no collision
-    0, // 06, 08 request from server
-    3, 3, 0, 0, // 09 request
-    3, 3, 0, 0, // 07
-    0, 0, 0, 3, // all else
-    3, 3, 3,
+// Exchange against arriving message; columns none, add, delete, rkey.
+const FATES: [[Fate; 4]; 11] = [
+    [Fate::Dropped, Fate::Dropped, Fate::Dropped, Fate::Queued], // 01 request
+    [Fate::Taken, Fate::Dropped, Fate::Queued, Fate::Queued], // 02 request from client
+    [Fate::Taken, Fate::Dropped, Fate::Dropped, Fate::Taken], // 02 request from server
+    [Fate::Taken, Fate::Queued, Fate::Queued, Fate::Queued], // 04 request without A from client
+    [Fate::Taken, Fate::Dropped, Fate::Dropped, Fate::Taken], // 04 request without A from server
+    [Fate::Taken, Fate::Taken, Fate::Taken, Fate::Taken], // 04 request with A
+    [Fate::Taken, Fate::Denied, Fate::Denied, Fate::Taken], // 06, 08 request from client
+    [Fate::Taken, Fate::Dropped, Fate::Dropped, Fate::Taken], // 06, 08 request from server
+    [Fate::Taken, Fate::Dropped, Fate::Dropped, Fate::Taken], // 09 request
+    [Fate::Taken, Fate::Taken, Fate::Taken, Fate::Taken], // 07
+    [Fate::Dropped, Fate::Dropped, Fate::Dropped, Fate::Dropped], // all else
 ];
 
 pub fn is_client(role: Role) -> bool
     ensures { result ≡ client_b role }
 {
-    match role {
-        Role::Client => true,
-        Role::Server => false,
-    }
+    role == Role::Client
 }
 
 // Where a kind has Z, A, its link, num and mtu; 12: nowhere.
@@ -123,12 +117,14 @@ fn places_of(kind: Kind) -> Places
     }
 }
 
+#[tactic(auto, unfolding(crate::specs::Exchange::flag_at))]
 fn flag_at(vs: [u64; 12], i: usize) -> bool
     ensures { result ≡ flag_at vs i }
 {
     if i < 12 { vs[i] == 1 } else { false }
 }
 
+#[tactic(auto, unfolding(crate::specs::Exchange::byte_at))]
 fn byte_at(vs: [u64; 12], i: usize) -> u8
     ensures { result ≡ byte_at vs i }
 {
@@ -136,28 +132,22 @@ fn byte_at(vs: [u64; 12], i: usize) -> u8
 }
 
 // What a message says that is heard, or sent by us.
+#[tactic(auto, unfolding(crate::specs::Exchange::said_of))]
 pub fn what_is_said(role: Role, heard: bool, kind: Kind, vs: [u64; 12]) -> Said
     ensures { result ≡ said_of role heard kind vs }
 {
     let ours = is_client(role);
-    let code = link_message::code_of(kind);
     let p = places_of(kind);
-    let reply = flag_at(vs, 0);
-    let z = flag_at(vs, p.0);
-    let a = flag_at(vs, p.1);
-    let link = byte_at(vs, p.2);
-    let num = byte_at(vs, p.3);
-    let mtu = byte_at(vs, p.4);
     Said {
-        kind: code,
-        heard: heard,
+        kind: link_message::code_of(kind),
+        heard,
         client: (heard & !ours) | (!heard & ours),
-        reply: reply,
-        z: z,
-        a: a,
-        link: link,
-        num: num,
-        mtu: mtu,
+        reply: flag_at(vs, 0),
+        z: flag_at(vs, p.0),
+        a: flag_at(vs, p.1),
+        link: byte_at(vs, p.2),
+        num: byte_at(vs, p.3),
+        mtu: byte_at(vs, p.4),
     }
 }
 
@@ -172,98 +162,90 @@ pub fn no_exchange() -> Exchange
     }
 }
 
-fn either(b: bool, x: u8, y: u8) -> u8
-    ensures { result ≡ cond b x y }
-{
-    if b { x } else { y }
-}
-
-fn either_exchange(b: bool, x: Exchange, y: Exchange) -> Exchange
-    ensures { result ≡ cond b x y }
-{
-    if b { x } else { y }
-}
-
-fn either_touch(b: bool, x: Touch, y: Touch) -> Touch
-    ensures { result ≡ cond b x y }
-{
-    if b { x } else { y }
-}
-
-// 0: none, 1: add, 2: delete, 3: rkey.
+// 0: none, 1: add, 2: delete, 3: rkey. A number and no enum: it is the column of FATES, and `sort_of` counts it.
+#[tactic(auto, unfolding(crate::specs::Exchange::sort_of))]
 pub fn sort(x: Exchange) -> u8
     ensures { result ≡ sort_of x }
 {
-    let after_4 = either(x.stage == 5, 2, 3);
-    let running = either(x.stage <= 4, 1, after_4);
-    either(x.stage == 0, 0, running)
+    match x.stage {
+        0 => 0,
+        1..=4 => 1,
+        5 => 2,
+        _ => 3,
+    }
 }
 
 // Whether a link is being added.
+#[tactic(auto, unfolding(crate::specs::Exchange::adding_b))]
 pub fn adding(x: Exchange, link: u8) -> bool
     ensures { result ≡ adding_b x link }
 {
-    let s = sort(x);
-    (s == 1) & (link == x.w)
+    (sort(x) == 1) & (link == x.w)
 }
 
 // Whether a message is due that is heard or sent over a link.
+#[tactic(auto, unfolding(crate::specs::Exchange::due_b, crate::specs::Exchange::stages))]
 pub fn due(x: Exchange, link: u8, m: Said) -> bool
     ensures { result ≡ due_b x link m }
 {
     let over_v = link == x.v;
     let over_w = link == x.w;
     let is_w = m.link == x.w;
-    let at_1 = (x.stage == 1) & ((m.kind == 2) & (m.reply & (m.client & (over_v & (m.z | is_w)))));
-    let at_2 = (x.stage == 2) & ((m.kind == 3) & (!m.reply & (!m.client & (over_v & is_w))));
-    let or_2 = (x.stage == 2) & ((m.kind == 1) & (!m.reply & (!m.client & (over_w & is_w))));
-    let at_3 = (x.stage == 3) & ((m.kind == 3) & (m.reply & (m.client & (over_v & is_w))));
-    let at_4 = (x.stage == 4) & ((m.kind == 1) & (m.reply & (m.client & (over_w & is_w))));
-    let at_5 = (x.stage == 5) & ((m.kind == 4) & (m.reply & (m.heard & (over_v & (!m.a & is_w)))));
-    let at_6 = (x.stage == 6) & ((m.kind == 6) & (m.reply & (m.heard & (over_v & true))));
-    let at_7 = (x.stage == 7) & ((m.kind == 6) & (m.reply & (m.heard & (over_v & true))));
-    let at_8 = (x.stage == 8) & ((m.kind == 8) & (!m.reply & (!m.heard & (over_v & true))));
-    let at_9 = (x.stage == 9) & ((m.kind == 8) & (m.reply & (m.heard & (over_v & true))));
-    let at_10 = (x.stage == 10) & ((m.kind == 8) & (m.reply & (m.heard & (over_v & true))));
-    let at_11 = (x.stage == 11) & ((m.kind == 9) & (m.reply & (m.heard & (over_v & true))));
-    at_1 | (at_2
-        | (or_2
-            | (at_3
-                | (at_4 | (at_5 | (at_6 | (at_7 | (at_8 | (at_9 | (at_10 | (at_11 | false)))))))))))
+    match (x.stage, m.kind) {
+        (1, 2) => m.reply & m.client & over_v & (m.z | is_w),
+        (2, 3) => !m.reply & !m.client & over_v & is_w,
+        (2, 1) => !m.reply & !m.client & over_w & is_w,
+        (3, 3) => m.reply & m.client & over_v & is_w,
+        (4, 1) => m.reply & m.client & over_w & is_w,
+        (5, 4) => m.reply & m.heard & over_v & !m.a & is_w,
+        (6 | 7, 6) | (9 | 10, 8) | (11, 9) => m.reply & m.heard & over_v,
+        (8, 8) => !m.reply & !m.heard & over_v,
+        _ => false,
+    }
 }
 
 // The stage that a due message brings.
+#[tactic(auto, unfolding(crate::specs::Exchange::next_stage))]
 fn next_stage(x: Exchange, m: Said) -> u8
     ensures { result ≡ next_stage x m }
 {
-    let after_10 = either(x.stage == 10, either(m.z, 0, 8), 0);
-    let after_8 = either(x.stage == 8, either(m.num <= 3, 9, 10), after_10);
-    let after_7 = either(x.stage == 7, either(m.z, 0, 8), after_8);
-    let after_3 = either(x.stage == 3, 2, after_7);
-    let after_2 = either(x.stage == 2, either(m.kind == 3, 3, 4), after_3);
-    either(x.stage == 1, either(m.z, 0, 2), after_2)
+    match x.stage {
+        1 => if m.z { 0 } else { 2 },
+        2 => if m.kind == 3 { 3 } else { 4 },
+        3 => 2,
+        7 | 10 => if m.z { 0 } else { 8 },
+        8 => if m.num <= 3 { 9 } else { 10 },
+        _ => 0,
+    }
 }
 
 // The exchange that a due message leaves.
+#[tactic(auto, unfolding(crate::specs::Exchange::went_on))]
 pub fn went_on(x: Exchange, m: Said) -> Exchange
     ensures { result ≡ went_on x m }
 {
-    let next = next_stage(x, m);
-    let on = Exchange {
-        stage: next,
-        v: x.v,
-        w: x.w,
-    };
-    let z = no_exchange();
-    either_exchange(next == 0, z, on)
+    let stage = next_stage(x, m);
+    if stage == 0 {
+        no_exchange()
+    } else {
+        Exchange {
+            stage,
+            v: x.v,
+            w: x.w,
+        }
+    }
 }
 
 // What a due message does to the links.
+#[tactic(auto, unfolding(crate::specs::Exchange::due_touch))]
 pub fn due_touch(x: Exchange) -> Touch
     ensures { result ≡ due_touch x }
 {
-    let not_4 = either_touch(x.stage == 5, Touch::Down(x.w), Touch::Nothing);
-    either_touch(x.stage == 4, Touch::Up(x.w), not_4)
+    match x.stage {
+        4 => Touch::Up(x.w),
+        5 => Touch::Down(x.w),
+        _ => Touch::Nothing,
+    }
 }
 
 fn no_waiting() -> Waiting
@@ -275,16 +257,17 @@ fn no_waiting() -> Waiting
     }
 }
 
+#[tactic(auto, unfolding(crate::specs::Exchange::empty_queue))]
 pub fn empty_queue() -> Queue
     ensures { result ≡ empty_queue }
 {
-    let z = no_waiting();
     Queue {
         count: 0,
-        places: [z, z, z, z],
+        places: [no_waiting(); 4],
     }
 }
 
+#[tactic(auto, unfolding(crate::specs::Exchange::full_b))]
 pub fn is_full(q: Queue) -> bool
     ensures { result ≡ full_b q }
 {
@@ -292,66 +275,48 @@ pub fn is_full(q: Queue) -> bool
 }
 
 // The queue with one more message; a full one stays.
+#[tactic(auto, unfolding(crate::specs::Exchange::queued, crate::specs::Exchange::full_b))]
 pub fn queue_up(q: Queue, m: Waiting) -> Queue
     ensures { result ≡ queued q m }
 {
     if 4 <= q.count {
-        q
-    } else {
-        let mut places = q.places;
-        let at = q.count as usize;
-        places[at] = m;
-        Queue {
-            count: q.count + 1,
-            places: places,
-        }
+        return q;
+    }
+    let mut places = q.places;
+    places[q.count as usize] = m;
+    Queue {
+        count: q.count + 1,
+        places,
     }
 }
 
+#[tactic(auto, unfolding(crate::specs::Exchange::oldest))]
 pub fn oldest_of(q: Queue) -> Waiting
     ensures { result ≡ oldest q }
 {
-    let places = q.places;
-    places[0]
-}
-
-// What is left of a count, of which above 4 counts as 4.
-fn one_less(count: u8) -> u8
-    ensures { result ≡ min count 4 - 1 }
-{
-    if 4 < count {
-        3
-    } else if 0 < count {
-        count - 1
-    } else {
-        0
-    }
+    q.places[0]
 }
 
 // The queue once its oldest is taken up.
+#[tactic(auto, unfolding(crate::specs::Exchange::without_oldest))]
 pub fn without_oldest(q: Queue) -> Queue
     ensures { result ≡ without_oldest q }
 {
-    let p = q.places;
-    let second = p[1];
-    let third = p[2];
-    let fourth = p[3];
-    let z = no_waiting();
-    let count = one_less(q.count);
     Queue {
-        count: count,
-        places: [second, third, fourth, z],
+        count: q.count.min(4).saturating_sub(1),
+        places: [q.places[1], q.places[2], q.places[3], no_waiting()],
     }
 }
 
+#[tactic(auto, unfolding(crate::specs::Exchange::runs_over))]
 fn runs_over(x: Exchange, link: u8) -> bool
     ensures { result ≡ runs_over x link }
 {
-    let added = adding(x, link);
-    !(x.stage == 0) & ((link == x.v) | added)
+    !(x.stage == 0) & ((link == x.v) | adding(x, link))
 }
 
 // Whether what a call does to the links ends the exchange and empties the queue.
+#[tactic(auto, unfolding(crate::specs::Exchange::ends_b))]
 pub fn ends(x: Exchange, t: Touch) -> bool
     ensures { result ≡ ends_b x t }
 {
@@ -363,28 +328,44 @@ pub fn ends(x: Exchange, t: Touch) -> bool
     }
 }
 
-// The table's line of a message.
+// The table's line of a message: a number and no enum, as `arriving_of` counts the lines of FATES.
+#[tactic(auto, unfolding(crate::specs::Fates::arriving_of))]
 pub fn arriving(m: Said) -> u8
     ensures { result ≡ arriving_of m }
 {
-    let at_9 = either(m.kind == 9, 8, 10);
-    let at_6 = either((m.kind == 6) | (m.kind == 8), either(m.client, 6, 7), at_9);
-    let at_4 = either(m.kind == 4, either(m.a, 5, either(m.client, 3, 4)), at_6);
-    let at_2 = either(m.kind == 2, either(m.client, 1, 2), at_4);
-    let at_1 = either(m.kind == 1, 0, at_2);
-    let request = either(m.reply, 10, at_1);
-    either(m.kind == 7, 9, request)
+    if m.kind == 7 {
+        9
+    } else if m.reply {
+        10
+    } else {
+        match m.kind {
+            1 => 0,
+            2 => if m.client { 1 } else { 2 },
+            4 => if m.a {
+                5
+            } else if m.client {
+                3
+            } else {
+                4
+            },
+            6 | 8 => if m.client { 6 } else { 7 },
+            9 => 8,
+            _ => 10,
+        }
+    }
 }
 
 // The table's entry, of a message and a sort.
-fn entry(k: u8, sort: u8) -> u8
+#[tactic(auto, unfolding(crate::specs::Fates::fate_at, crate::specs::Fates::fates))]
+fn entry(k: u8, sort: u8) -> Fate
     requires { (k < 11) × (sort < 4) }
-    ensures { result ≡ fate_number (fate_at k sort) }
+    ensures { result ≡ fate_at k sort }
 {
-    let at = (k as usize) * 4 + (sort as usize);
-    FATES[at]
+    FATES[k as usize][sort as usize]
 }
 
+// The fate of a number, as the definitions count them. Kept for its promise (`fate_named`): this crate's callers have the enum.
+#[tactic(auto, unfolding(crate::specs::Fates::fate_named))]
 pub fn fate_named(k: u8) -> Fate
     ensures { result ≡ fate_named k }
 {
@@ -396,25 +377,31 @@ pub fn fate_named(k: u8) -> Fate
     }
 }
 
+#[tactic(auto, unfolding(crate::specs::Fates::bad_mtu))]
 fn bad_mtu(m: Said) -> bool
     ensures { result ≡ bad_mtu m }
 {
-    let k = arriving(m);
-    (k == 2) & !((1 <= m.mtu) & (m.mtu <= 5))
+    (arriving(m) == 2) & !((1 <= m.mtu) & (m.mtu <= 5))
 }
 
-// The number of an arriving message's fate.
-pub fn fate_of(x: Exchange, link: u8, m: Said) -> u8
-    ensures { result ≡ fate_number (fate_of x link m) }
+// An arriving message's fate.
+#[tactic(auto, using(crate::proofs::Table::arriving_less, crate::proofs::Table::sort_less), unfolding(crate::specs::Fates::fate_of))]
+pub fn fate_of(x: Exchange, link: u8, m: Said) -> Fate
+    ensures { result ≡ fate_of x link m }
 {
-    let is_due = due(x, link, m);
-    let bad = bad_mtu(m);
-    let f = entry(arriving(m), sort(x));
-    let not_due = either(bad & (f == 0), 2, f);
-    either(is_due, 0, not_due)
+    if due(x, link, m) {
+        return Fate::Taken;
+    }
+    let fate = entry(arriving(m), sort(x));
+    if bad_mtu(m) & (fate == Fate::Taken) {
+        Fate::Denied
+    } else {
+        fate
+    }
 }
 
 // 14's test, of a message that acts on its link.
+#[tactic(auto, unfolding(crate::specs::Fates::outside_b, crate::specs::Fates::acts_b))]
 pub fn outside(m: Said) -> bool
     ensures { result ≡ outside_b m }
 {
@@ -424,75 +411,71 @@ pub fn outside(m: Said) -> bool
     acts & !((1 <= m.link) & (m.link <= 4))
 }
 
-// The exchange that an arriving message leaves that is not due; f: its fate's number.
-pub fn taken_exchange(x: Exchange, link: u8, m: Said, f: u8) -> Exchange
-    ensures { result ≡ taken_exchange x link m f }
+// The exchange that an arriving message leaves that is not due; f: its fate.
+#[tactic(auto, unfolding(crate::specs::Fates::taken_exchange))]
+pub fn taken_exchange(x: Exchange, link: u8, m: Said, f: Fate) -> Exchange
+    ensures { result ≡ taken_exchange x link m (fate_number f) }
 {
-    let begun = Exchange {
-        stage: 1,
-        v: link,
-        w: m.link,
-    };
-    let k = arriving(m);
-    either_exchange((k == 2) & (f == 0), begun, x)
+    if (arriving(m) == 2) & (f == Fate::Taken) {
+        Exchange {
+            stage: 1,
+            v: link,
+            w: m.link,
+        }
+    } else {
+        x
+    }
 }
 
 // What it does to the links.
-pub fn taken_touch(m: Said, f: u8) -> Touch
-    ensures { result ≡ taken_touch m f }
+#[tactic(auto, unfolding(crate::specs::Fates::taken_touch))]
+pub fn taken_touch(m: Said, f: Fate) -> Touch
+    ensures { result ≡ taken_touch m (fate_number f) }
 {
-    let k = arriving(m);
-    let not_4 = either_touch((k == 5) & (f == 0), Touch::All, Touch::Nothing);
-    either_touch((k == 4) & (f == 0), Touch::Down(m.link), not_4)
+    if f != Fate::Taken {
+        return Touch::Nothing;
+    }
+    match arriving(m) {
+        4 => Touch::Down(m.link),
+        5 => Touch::All,
+        _ => Touch::Nothing,
+    }
 }
 
 // 15's test: whether a message that is not due may be sent.
+#[tactic(auto, unfolding(crate::specs::Fates::may_send))]
 pub fn may_send(x: Exchange, m: Said) -> bool
     ensures { result ≡ may_send x m }
 {
-    let s = sort(x);
     let idle = (m.kind == 2) | ((m.kind == 4) | ((m.kind == 6) | (m.kind == 9)));
     !m.reply
         & ((m.kind == 7)
             | (((m.kind == 4) & (m.a | m.client))
-                | (((m.kind == 2) & (m.client & !(s == 1))) | ((x.stage == 0) & idle))))
+                | (((m.kind == 2) & (m.client & (sort(x) != 1))) | ((x.stage == 0) & idle))))
 }
 
 // The exchange that it leaves.
+#[tactic(auto, unfolding(crate::specs::Fates::sent_exchange))]
 pub fn sent_exchange(x: Exchange, link: u8, m: Said) -> Exchange
     ensures { result ≡ sent_exchange x link m }
 {
-    let named = m.link;
-    let add = Exchange {
-        stage: 1,
-        v: link,
-        w: named,
+    let (stage, w) = match m.kind {
+        2 if !m.client => (1, m.link),
+        4 if !(m.a | m.client) => (5, m.link),
+        6 => (if m.num <= 2 { 6 } else { 7 }, 0),
+        9 => (11, 0),
+        _ => return x,
     };
-    let delete = Exchange {
-        stage: 5,
-        v: link,
-        w: named,
-    };
-    let stage = either(m.num <= 2, 6, 7);
-    let confirm = Exchange {
-        stage: stage,
-        v: link,
-        w: 0,
-    };
-    let keys = Exchange {
-        stage: 11,
-        v: link,
-        w: 0,
-    };
-    let not_6 = either_exchange(m.kind == 9, keys, x);
-    let not_4 = either_exchange(m.kind == 6, confirm, not_6);
-    let not_2 = either_exchange((m.kind == 4) & !(m.a | m.client), delete, not_4);
-    either_exchange((m.kind == 2) & !m.client, add, not_2)
+    Exchange { stage, v: link, w }
 }
 
 // What it does to the links.
+#[tactic(auto, unfolding(crate::specs::Fates::sent_touch))]
 pub fn sent_touch(m: Said) -> Touch
     ensures { result ≡ sent_touch m }
 {
-    either_touch((m.kind == 4) & m.a, Touch::All, Touch::Nothing)
+    match m.kind {
+        4 if m.a => Touch::All,
+        _ => Touch::Nothing,
+    }
 }

@@ -17,66 +17,63 @@ pub struct Plan {
     pub target: u8,
 }
 
+#[tactic(auto, unfolding(crate::specs::Failover::target_of))]
 fn lowest_active(links: Links) -> u8
     ensures { result ≡ target_of links.active }
 {
-    let on_1 = group_table::link_active(links, 1);
-    let on_2 = group_table::link_active(links, 2);
-    let on_3 = group_table::link_active(links, 3);
-    let on_4 = group_table::link_active(links, 4);
-    let from_4 = group_table::refusal_if(on_4, 4, 0);
-    let from_3 = group_table::refusal_if(on_3, 3, from_4);
-    let from_2 = group_table::refusal_if(on_2, 2, from_3);
-    group_table::refusal_if(on_1, 1, from_2)
+    if group_table::link_active(links, 1) {
+        1
+    } else if group_table::link_active(links, 2) {
+        2
+    } else if group_table::link_active(links, 3) {
+        3
+    } else if group_table::link_active(links, 4) {
+        4
+    } else {
+        0
+    }
 }
 
 // What moves, of the links before a call and those that it leaves.
+#[tactic(auto, unfolding(crate::specs::Failover::plan_of))]
 pub fn plan_of(before: Links, after: Links) -> Plan
     ensures { result ≡ plan_of before.active after.active }
 {
-    let b = before.active;
-    let a = after.active;
-    let to = lowest_active(after);
+    let (b, a) = (before.active, after.active);
     Plan {
         before: b,
         after: a,
-        target: to,
+        target: lowest_active(after),
     }
 }
 
 // Whether the link was active before and is down after.
+#[tactic(auto, unfolding(crate::specs::Failover::gone_b, group_table::specs::Table::active_b))]
 fn gone(p: Plan, link: u8) -> bool
     ensures { result ≡ gone_b p link }
 {
-    if link < 1 {
-        return false;
+    match group_table::link_index(link) {
+        Some(k) => p.before[k] & !p.after[k],
+        None => false,
     }
-    if conn_record::MOST_LINK < link {
-        return false;
-    }
-    let k = link as usize - 1;
-    p.before[k] & !p.after[k]
 }
 
 // Whether the connection moves.
+#[tactic(auto, unfolding(crate::specs::Failover::moves_b))]
 pub fn moves(n: u32, p: Plan, rec: Record) -> bool
     ensures { result ≡ moves_b n p rec }
 {
-    let away = gone(p, rec.id.link);
-    if (0 < p.target) & (rec.id.opened & away) {
-        conn_record::coherent(n, rec)
-    } else {
-        false
-    }
+    0 < p.target && rec.id.opened && gone(p, rec.id.link) && conn_record::coherent(n, rec)
 }
 
 // The record that is left: on the target link where it moves.
 pub fn linked(goes: bool, p: Plan, rec: Record) -> Record
     ensures { result ≡ cond goes (link_to rec p.target) rec }
 {
-    let on = group_table::refusal_if(goes, p.target, rec.id.link);
     let mut next = rec;
-    next.id.link = on;
+    if goes {
+        next.id.link = p.target;
+    }
     next
 }
 
@@ -84,38 +81,34 @@ pub fn linked(goes: bool, p: Plan, rec: Record) -> Record
 fn sequence_before(s: u16) -> u16
     ensures { result ≡ sequence_before s }
 {
-    ((s as u32 + 65535) % 65536) as u16
+    s.wrapping_sub(1)
 }
 
 // The message with F: the last number sent, and the record stays as it is.
+#[tactic(auto, unfolding(crate::specs::Failover::failover_of))]
 fn failover_of(rec: Record) -> Message
     ensures { result ≡ failover_of rec }
 {
-    let m = conn_answer::message_of(rec);
-    let s = sequence_before(rec.outbound.next);
-    let mut next = m;
-    next.sequence = s;
+    let mut next = conn_answer::message_of(rec);
+    next.sequence = sequence_before(rec.outbound.next);
     next.flags.failover = true;
     next
 }
 
 // The message of a record that moves at byte `at` of the buffer, where one is made and the buffer holds it; where the next one goes.
+#[tactic(auto, unfolding(crate::specs::Failover::told_if, crate::specs::Failover::writes_b))]
 pub fn tell(goes: bool, rec: Record, out: &mut [u8], at: usize) -> usize
     ensures { (result ≡ (told_if goes rec (standing at out.old)).at)
         × (out.new ≡ (told_if goes rec (standing at out.old)).buffer) }
 {
-    if goes & !rec.marks.abort {
-        if 44 <= out.len() {
-            if at <= out.len() - 44 {
-                let bytes = cdc::encode(failover_of(rec));
-                layout::put_bytes(out, at, &bytes);
-                return at + 44;
-            }
-        }
+    if goes && !rec.marks.abort && 44 <= out.len() && at <= out.len() - 44 {
+        layout::put_bytes(out, at, &cdc::encode(failover_of(rec)));
+        return at + 44;
     }
     at
 }
 
+#[tactic(auto, unfolding(crate::specs::Failover::any_gone))]
 fn any_gone(p: Plan) -> bool
     ensures { result ≡ any_gone p }
 {
@@ -123,9 +116,9 @@ fn any_gone(p: Plan) -> bool
 }
 
 // Whether anything can move.
+#[tactic(auto, unfolding(crate::specs::Failover::some_b))]
 pub fn some(p: Plan) -> bool
     ensures { result ≡ some_b p }
 {
-    let away = any_gone(p);
-    (0 < p.target) & away
+    (0 < p.target) & any_gone(p)
 }

@@ -1,25 +1,24 @@
 -- Rows written one after the other: each adds its value to the number of its bytes.
 -- Assumes nothing.
-use mathlib.Core.Path.{◌≡◌, ◌∙◌, refl, ap, sym, subst}
-use mathlib.Core.Bool.{Bool, true, false, ◌&&◌}
+use mathlib.Core.Path.{◌≡◌, ◌∙◌, refl, ap, sym}
+use mathlib.Core.Bool.{Bool, true, ◌&&◌}
 use mathlib.Core.List.{List, [], ◌∷◌, ◌++◌, append_assoc}
 use Prim.Native.Nat.{ℕ, zero, suc, ◌+◌, ◌-◌, ◌*◌, ◌/◌, ◌%◌, ◌^◌, ◌≤◌, ◌<◌}
 use native.Mathlib.Nat.{mod-eq_of_lt, mod-lt, zero-mod, add-mul, mul_assoc, div-add-mod', div-lt_iff_lt-mul, mul-le-mul_right}
 use native.Mathlib.Omega.{arith}
 use lib.ListN.{length, take, drop, get_or, set, replicate, length-append, length-take, length-drop, take-append-drop, get_or-eq_default}
-use lib.Seq.{take_at, take-nil, length-take-le, drop-drop, take_all, set_at}
+use lib.Seq.{take-nil, length-take-le, drop-drop, take_all, set_at}
 use lib.Dec.{leb, ltb}
-use lib.Pow.{pow_pos, pow-add, pow_mono, mod-pow-add}
+use lib.Pow.{pow_pos, pow-add, mod-pow-add}
 use borrow.Author.Tests.{leb-true, ltb-true}
-use Rattle.layout.specs.Layout.{bits_of, number_of, spread, gather, Row, Field, fits, lay_out, are_bytes, written_of, number_at, be_of, laid_at}
-use Rattle.layout.specs.Layout.Row.{fixed, reserved, number}
-use Rattle.layout.proofs.Bits.{and_left, and_right, bits_length, number_bits, number_one, number_append, spread-length, spread_append, gather_length, gather_bytes, gather_spread, spread_gather}
+use Rattle.layout.specs.Layout.{bits_of, number_of, spread, gather, lay_out, are_bytes, written_of, number_at, be_of, laid_at}
+use Rattle.layout.proofs.Bits.{and_left, and_right, bits_length, number_bits, number_one, number_append, spread-length, spread_append, gather_bytes, gather_spread, spread_gather}
 use Rattle.layout.proofs.Places.{number_at_lem, number_bound, laid_in, be_length, be_bytes, spread_be, append_bytes}
 use Rattle.link_message.specs.declared.Kind.{Kind}
 use Rattle.link_message.specs.declared.Kind.TheVariants.{ConfirmLink, AddLink, AddLinkContinuation, DeleteLink, ConfirmRkey, TestLink, ConfirmRkeyContinuation, DeleteRkey}
 use Rattle.link_message.specs.declared.Place.{Place}
-use Rattle.link_message.specs.Layouts.{code_of, mark, table_of, count_of, no_place, most_rows, filled, value_at, values_in, reduced, third_first, in_message, end_of, bits_of_all, laid_rows, rows_of, nums, encode_of, within_b, apart_from}
-use Rattle.link_message.proofs.Rows.{Made, made, sum_of}
+use Rattle.link_message.specs.Layouts.{code_of, mark, table_of, count_of, no_place, most_rows, filled, value_at, values_in, reduced, third_first, in_message, end_of, bits_of_all, laid_rows, rows_of, nums, encode_of, within_b}
+use Rattle.link_message.proofs.Rows.{made, sum_of}
 use Rattle.link_message.proofs.RoundTrip.{sound, fit_in, written}
 use Rattle.link_message.proofs.Table.{count_is}
 

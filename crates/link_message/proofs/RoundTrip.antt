@@ -1,15 +1,14 @@
 -- The claims of reading and writing, once over all kinds and rows.
 -- Assumes nothing.
-use mathlib.Core.Path.{◌≡◌, ◌∙◌, refl, ap, sym, subst}
+use mathlib.Core.Path.{◌≡◌, ◌∙◌, refl, ap, sym}
 use mathlib.Core.Bool.{Bool, true, false, ◌&&◌}
-use mathlib.Core.List.{List, [], ◌∷◌, ◌++◌}
-use Prim.Native.Nat.{ℕ, zero, suc, ◌+◌, ◌-◌, ◌*◌, ◌/◌, ◌%◌, ◌^◌, ◌≤◌, ◌<◌}
+use mathlib.Core.List.{List, [], ◌∷◌}
+use Prim.Native.Nat.{ℕ, ◌%◌, ◌^◌}
 use native.Mathlib.Omega.{arith}
-use lib.ListN.{length, take, drop, get_or}
+use lib.ListN.{length, drop, get_or}
 use lib.Dec.{eqb, ltb}
 use borrow.Author.Tests.{eqb-true, eq-eqb}
-use Rattle.layout.specs.Layout as Layout
-use Rattle.layout.specs.Layout.{spread, Row, Field, width_of, fits, cut, as_given, reserved_zero, given_fit, written_of, fields_of, are_bytes, number_at}
+use Rattle.layout.specs.Layout.{spread, Row, Field, width_of, fits, as_given, given_fit, written_of, fields_of, number_at}
 use Rattle.layout.specs.Layout.Field.{num, str}
 use Rattle.layout.proofs.Bits.{and_left, and_right, gather_length}
 use Rattle.layout.proofs.Laws as L
@@ -17,7 +16,7 @@ use Rattle.layout.proofs.At.{number_from, number_from_lem, cut_at, cut_at_lem, g
 use Rattle.link_message.specs.declared.Kind.{Kind}
 use Rattle.link_message.specs.declared.Kind.TheVariants.{ConfirmLink, AddLink, AddLinkContinuation, DeleteLink, ConfirmRkey, TestLink, ConfirmRkeyContinuation, DeleteRkey}
 use Rattle.link_message.specs.declared.Place.{Place}
-use Rattle.link_message.specs.Layouts.{code_of, mark, table_of, values_in, reduced, third_first, in_message, end_of, laid_rows, rows_of, nums, encode_of, within_b, apart_from, Sound, fit_b, WellWritten, Written, ReadsBack, WrittenAgain}
+use Rattle.link_message.specs.Layouts.{code_of, mark, table_of, values_in, reduced, third_first, in_message, end_of, laid_rows, rows_of, nums, encode_of, within_b, apart_from, Sound, fit_b, Written, ReadsBack, WrittenAgain}
 use Rattle.link_message.proofs.Rows.{width, given_fit_lem, rows_fit, reduced_fit, fit_reduced, values_fit, cut_values}
 
 -- the table, computed

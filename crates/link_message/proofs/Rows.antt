@@ -1,18 +1,17 @@
 -- Rows by their places, on the crate layout: laid with what is reserved between them, cut, and the number that they make.
 -- Assumes nothing.
-use mathlib.Core.Path.{◌≡◌, ◌∙◌, refl, ap, sym, subst}
-use mathlib.Core.Bool.{Bool, true, false, ◌&&◌}
+use mathlib.Core.Path.{◌≡◌, ◌∙◌, refl, ap}
+use mathlib.Core.Bool.{true, false, ◌&&◌}
 use mathlib.Core.List.{List, [], ◌∷◌, ◌++◌}
-use Prim.Native.Nat.{ℕ, zero, suc, ◌+◌, ◌-◌, ◌*◌, ◌/◌, ◌%◌, ◌^◌, ◌≤◌, ◌<◌}
+use Prim.Native.Nat.{ℕ, ◌+◌, ◌-◌, ◌*◌, ◌/◌, ◌%◌, ◌^◌, ◌≤◌}
 use native.Mathlib.Nat.{mod-eq_of_lt, mod-lt}
 use native.Mathlib.Omega.{arith}
-use lib.ListN.{length, take, drop, get_or, length-append}
+use lib.ListN.{length, drop, get_or, length-append}
 use lib.Dec.{leb, ltb}
 use lib.Pow.{pow_pos}
 use borrow.Author.Tests.{leb-true, ltb-true, lt-ltb}
-use Rattle.layout.specs.Layout.{bits_of, number_of, spread, Row, Field, width_of, fits, lay_out, given_fit, number_at}
-use Rattle.layout.specs.Layout.Row.{fixed, reserved, number}
-use Rattle.layout.specs.Layout.Field.{num, str}
+use Rattle.layout.specs.Layout.{bits_of, number_of, spread, width_of, fits, lay_out, given_fit, number_at}
+use Rattle.layout.specs.Layout.Field.{num}
 use Rattle.layout.proofs.Bits.{and_left, and_right, bits_length, number_bits, number_append}
 use Rattle.layout.proofs.At.{number_from, cut_at, number_within}
 use Rattle.link_message.specs.declared.Place.{Place}

@@ -1,12 +1,9 @@
 -- The code's tables, each at all of its entries by one computation.
 -- Assumes nothing.
-use mathlib.Core.Path.{◌≡◌, ◌∙◌, refl, ap, subst, sym}
-use mathlib.Core.Bool.{Bool, true, false, ◌&&◌}
-use mathlib.Core.List.{List, [], ◌∷◌, ◌++◌, map}
-use Prim.Native.Nat.{ℕ, zero, suc, ◌+◌, ◌^◌, ◌≤◌, ◌<◌}
-use native.Mathlib.Nat.{add-zero, zero-add, add-suc, suc-add, le_of_suc-le-suc, not-suc-le-zero}
+use mathlib.Core.Path.{◌≡◌, ◌∙◌, refl, ap, sym}
+use mathlib.Core.List.{List, [], ◌++◌, map}
+use Prim.Native.Nat.{ℕ, ◌+◌, ◌≤◌, ◌<◌}
 use native.Mathlib.Omega.{arith}
-use lib.Dec.{T, eqb, eqb→eq}
 use lib.ListN.{length, get_or, drop, get_or-append, get_or-map}
 use lib.Seq.{get_or-drop}
 use Rattle.link_message.specs.declared.Kind.{Kind}
@@ -14,29 +11,6 @@ use Rattle.link_message.specs.declared.Kind.TheVariants.{ConfirmLink, AddLink, A
 use Rattle.link_message.specs.declared.Place.{Place}
 use Rattle.link_message.specs.declared.Row.{Row}
 use Rattle.link_message.specs.Layouts.{place, table_of, start_row, count_of, no_place, most_rows}
-
-left : (a b : Bool) → T (a && b) → T a
-left true b t = tt
-left false b t = t
-
-right : (a b : Bool) → T (a && b) → T b
-right true b t = t
-right false b t = absurd t
-
--- each entry of a table is 2 to its place, counted from i
-abbrev pub powers_from : ℕ → List ℕ → Bool
-powers_from i [] = true
-powers_from i (x ∷ xs) = eqb x (2 ^ i) && powers_from (suc i) xs
-
-entry : (xs : List ℕ) (i : ℕ) → T (powers_from i xs) → (k : ℕ) → k < length xs → get_or xs k 0 ≡ 2 ^ (i + k)
-entry [] i t k h = absurd (not-suc-le-zero h)
-entry (x ∷ xs) i t zero h = rw add-zero (eqb→eq _ _ (left (eqb x (2 ^ i)) (powers_from (suc i) xs) t))
-entry (x ∷ xs) i t (suc k) h =
-    subst (λ (m : ℕ). get_or xs k 0 ≡ 2 ^ m) (suc-add i k ∙ sym (add-suc i k))
-    (entry xs (suc i) (right (eqb x (2 ^ i)) (powers_from (suc i) xs) t) k (le_of_suc-le-suc h))
-
-pub powers_right : (table : List ℕ) (k : ℕ) → T (powers_from 0 table) → k < length table → get_or table k 0 ≡ 2 ^ k
-powers_right table k t h = subst (λ (m : ℕ). get_or table k 0 ≡ 2 ^ m) (zero-add k) (entry table 0 t k h)
 
 -- the counts of rows
 pub count_is : (k : Kind) → length (table_of k) ≡ count_of k

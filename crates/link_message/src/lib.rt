@@ -30,11 +30,11 @@ const CLASSES: [u8; 256] = [
     0,
 ];
 
+// A number and no enum: the contract says `class_of`'s number, and the claims of document 01 stand on it.
 pub fn class(first: u8) -> u8
     ensures { result ≡ class_of first }
 {
-    let at = first as usize;
-    CLASSES[at]
+    CLASSES[first as usize]
 }
 
 #[derive(Clone, Copy)]
@@ -132,74 +132,6 @@ const ROWS: [Row; 71] = [
     Row(36, 4, 0, 32), // key8
 ];
 
-// 2 to the power of each place.
-const POWERS: [u64; 64] = [
-    1,
-    2,
-    4,
-    8,
-    16,
-    32,
-    64,
-    128,
-    256,
-    512,
-    1024,
-    2048,
-    4096,
-    8192,
-    16384,
-    32768,
-    65536,
-    131072,
-    262144,
-    524288,
-    1048576,
-    2097152,
-    4194304,
-    8388608,
-    16777216,
-    33554432,
-    67108864,
-    134217728,
-    268435456,
-    536870912,
-    1073741824,
-    2147483648,
-    4294967296,
-    8589934592,
-    17179869184,
-    34359738368,
-    68719476736,
-    137438953472,
-    274877906944,
-    549755813888,
-    1099511627776,
-    2199023255552,
-    4398046511104,
-    8796093022208,
-    17592186044416,
-    35184372088832,
-    70368744177664,
-    140737488355328,
-    281474976710656,
-    562949953421312,
-    1125899906842624,
-    2251799813685248,
-    4503599627370496,
-    9007199254740992,
-    18014398509481984,
-    36028797018963968,
-    72057594037927936,
-    144115188075855872,
-    288230376151711744,
-    576460752303423488,
-    1152921504606846976,
-    2305843009213693952,
-    4611686018427387904,
-    9223372036854775808,
-];
-
 // The value of byte 0.
 pub fn code_of(kind: Kind) -> u8
     ensures { result ≡ code_of kind }
@@ -216,7 +148,8 @@ pub fn code_of(kind: Kind) -> u8
     }
 }
 
-// The kind of a byte 0; where it is none, the last.
+// The kind of a byte 0; where it is none, the last. No TryFrom: `kind_of` is promised of every byte.
+#[tactic(auto, unfolding(crate::specs::Layouts::kind_of))]
 pub fn kind_of(first: u8) -> Kind
     ensures { result ≡ kind_of first }
 {
@@ -233,6 +166,7 @@ pub fn kind_of(first: u8) -> Kind
 }
 
 // Whether a byte 0 is that of a kind, by the table of classes.
+#[tactic(auto, unfolding(crate::specs::Layouts::named_b))]
 pub fn is_named(first: u8) -> bool
     ensures { result ≡ named_b first }
 {
@@ -271,71 +205,25 @@ pub fn count(kind: Kind) -> usize
     }
 }
 
-fn wide(x: u8) -> usize
-    ensures { result ≡ x }
-{
-    x as usize
-}
-
 // A kind's row.
 fn place_of(kind: Kind, i: usize) -> Place
     requires { i < count_of kind }
     ensures { result ≡ get_or (table_of kind) i no_place }
 {
-    let at = start(kind) + i;
-    let row = ROWS[at];
-    let first = wide(row.0);
-    let bytes = wide(row.1);
-    let low = wide(row.2);
-    let bits = wide(row.3);
-    Place(first, bytes, low, bits)
+    let row = ROWS[start(kind) + i];
+    Place(
+        row.0 as usize,
+        row.1 as usize,
+        row.2 as usize,
+        row.3 as usize,
+    )
 }
 
-fn power(n: usize) -> u64
-    requires { n < 64 }
-    ensures { result ≡ 2 ^ n }
-{
-    if n == 0 {
-        return 1;
-    }
-    if n == 7 {
-        return 128;
-    }
-    if n == 6 {
-        return 64;
-    }
-    if n == 5 {
-        return 32;
-    }
-    if n == 4 {
-        return 16;
-    }
-    POWERS[n]
-}
-
-// The low bits of a number. (The table of powers is long, and the rows have few widths.)
+// The low bits of a number.
 fn low(x: u64, bits: usize) -> u64
     ensures { result ≡ x % 2 ^ bits }
 {
-    if bits == 1 {
-        return x % 2;
-    }
-    if bits == 8 {
-        return x % 256;
-    }
-    if bits == 32 {
-        return x % 4294967296;
-    }
-    if bits == 24 {
-        return x % 16777216;
-    }
-    if bits == 48 {
-        return x % 281474976710656;
-    }
-    if bits == 4 {
-        return x % 16;
-    }
-    if bits < 64 { x % power(bits) } else { x }
+    if bits < 64 { x & ((1 << bits) - 1) } else { x }
 }
 
 // What a row says.
@@ -343,19 +231,16 @@ fn value(s: &[u8], p: Place) -> u64
     requires { (p.1 ≤ 8) × (p.2 < 64) }
     ensures { result ≡ value_at s.now p }
 {
-    low(layout::number(s, p.0, p.1) / power(p.2), p.3)
+    low(layout::number(s, p.0, p.1) >> p.2, p.3)
 }
 
 // The values of a kind's rows; zeros behind them.
 pub fn read(kind: Kind, s: &[u8]) -> [u64; 12]
     ensures { result ≡ read_of kind s.now }
 {
-    let n = count(kind);
     let mut values = [0u64; 12];
-    let mut i: usize = 0;
-    while i < n {
+    for i in 0..count(kind) {
         values[i] = value(s, place_of(kind, i));
-        i += 1;
     }
     values
 }
@@ -364,13 +249,9 @@ pub fn read(kind: Kind, s: &[u8]) -> [u64; 12]
 pub fn reduce(kind: Kind, vs: [u64; 12]) -> [u64; 12]
     ensures { result ≡ reduced_of kind vs }
 {
-    let n = count(kind);
     let mut values = [0u64; 12];
-    let mut i: usize = 0;
-    while i < n {
-        let p = place_of(kind, i);
-        values[i] = low(vs[i], p.3);
-        i += 1;
+    for i in 0..count(kind) {
+        values[i] = low(vs[i], place_of(kind, i).3);
     }
     values
 }
@@ -388,16 +269,13 @@ fn add(out: &mut [u8; 44], at: usize, n: usize, x: u64)
 pub fn write(kind: Kind, vs: [u64; 12]) -> [u8; 44]
     ensures { result ≡ encode_of kind vs }
 {
-    let n = count(kind);
     let mut out = [0u8; 44];
     out[0] = code_of(kind);
     out[1] = 44;
-    let mut i: usize = 0;
-    while i < n {
+    for i in 0..count(kind) {
         let p = place_of(kind, i);
-        let x = low(vs[i], p.3) * power(p.2);
+        let x = low(vs[i], p.3) << p.2;
         add(&mut out, p.0, p.1, x);
-        i += 1;
     }
     out
 }

@@ -1,9 +1,11 @@
 -- The links' states, refusals 1, 2, 3 and 6, and the abort mark: what each definition gives. Assumes nothing.
-use Prim.Native.Nat.{ℕ, ◌<◌, ◌≤◌}
+use Prim.Native.Nat.{ℕ, zero, suc}
 use mathlib.Core.Path.{◌≡◌, refl, sym, ap, ◌∙◌}
 use mathlib.Core.Bool.{Bool, true, false, ◌&&◌, ◌||◌, cond}
 use mathlib.Core.List.{List}
+use native.Mathlib.Omega.{arith}
 use lib.Dec.{eqb}
+use Rattle.std.specs.Prelude.{Option, None, Some}
 use lib.ListN.{length, get_or}
 use mir.Val.{Val}
 use denote.Laws.{Is}
@@ -14,9 +16,8 @@ use Rattle.conn_answer.specs.declared.Outcome.{Outcome}
 use Rattle.conn_record.specs.Connection.{refusal_of, zero_record}
 use Rattle.group_table.specs.declared.Links.{Links}
 use Rattle.group_table.specs.Table.{sizes_b, slot_b, index_of, record_at, active_b, refused_by, kept_by_of, turned_by, settled_by}
-use Rattle.group_table.proofs.SlotsLaws.{record_at_returns, record_at_returns_2}
 use Rattle.plan.specs.declared.LinkStates.{LinkStates}
-use Rattle.plan.specs.Direct.{held_of, refusal_at, marks_left}
+use Rattle.plan.specs.Direct.{held_of, refusal_at, refusal_in, marks_left}
 use Rattle.plan.specs.contracts.LinkStates.{the_row}
 
 -- four links, which a value of the type has
@@ -44,30 +45,28 @@ module _ (s n : ℕ) (active : List Bool) (k : ℕ) (c : Record) {b : Bool} (e :
   unfolding held_of
   held_none h = simp (← e, h)
 
--- what the proofs of `held_at` and `refusal_at` cite
-pub held_at_returns : (s n : ℕ) (t : List Record) (links : LinkStates) (k : ℕ) (i : ℕ) → i ≡ index_of k (length t) → i < length t
-    → (j : ℕ) → j ≡ held_of s n links.active k (get_or t i zero_record) → j ≡ held_of s n links.active k (record_at t k)
-held_at_returns s n t links k i e h j f = f ∙ ap (held_of s n links.active k) (record_at_returns t k i e h)
+-- a refusal's number, or none
+pub refusal_some : (j : ℕ) → (j ≡ 0 → ⊥) → Some j ≡ refusal_in j
+refusal_some zero z = absurd (z refl)
+refusal_some (suc j) z = refl
 
-pub held_at_returns_2 : (s n : ℕ) (t : List Record) (links : LinkStates) (k : ℕ)
-    → (i : ℕ) → i ≡ index_of k (length t) → length t ≤ i → 2 ≡ held_of s n links.active k (record_at t k)
-held_at_returns_2 s n t links k i e h =
-    sym (held_shut s n links.active k) ∙ ap (held_of s n links.active k) (record_at_returns_2 t k i e h zero_record refl)
+pub was_none : (j : ℕ) → refusal_in j ≡ None → j ≡ 0
+was_none zero e = refl
+was_none (suc j) e = cc
 
-module _ (s n len : ℕ) (t : List Record) (links : LinkStates) (k : ℕ) where
-  sized_is : (b : Bool) → sizes_b s n len (length t) ≡ b
-      → refusal_at s n len t links.active k ≡ cond b (held_of s n links.active k (record_at t k)) 1
+pub was_some : (j x : ℕ) → refusal_in j ≡ Some x → (x ≡ j) × (j ≡ 0 → ⊥)
+was_some zero x e = cc
+was_some (suc j) x e = (cc, λ z. absurd (omega (arith, z)))
+
+-- 1 before them
+module _ (s n len : ℕ) (t : List Record) (active : List Bool) (k : ℕ) {b : Bool} (e : b ≡ sizes_b s n len (length t)) where
+  pub sized : b ≡ true → held_of s n active k (record_at t k) ≡ refusal_at s n len t active k
   unfolding refusal_at
-  sized_is b e = ap (λ (x : Bool). cond x (held_of s n links.active k (record_at t k)) 1) e
+  sized h = simp (← e, h)
 
-  pub refusal_at_returns : (b : Bool) → b ≡ sizes_b s n len (length t) → b ≡ true
-      → (j : ℕ) → j ≡ held_of s n links.active k (record_at t k) → j ≡ refusal_at s n len t links.active k
-  refusal_at_returns true e h j f = f ∙ sym (sized_is true (sym e))
-  refusal_at_returns false e h j f = cc
-
-  pub refusal_at_returns_2 : (b : Bool) → b ≡ sizes_b s n len (length t) → b ≡ false → 1 ≡ refusal_at s n len t links.active k
-  refusal_at_returns_2 false e h = sym (sized_is false (sym e))
-  refusal_at_returns_2 true e h = cc
+  pub unsized : b ≡ false → 1 ≡ refusal_at s n len t active k
+  unfolding refusal_at
+  unsized h = simp (← e, h)
 
 -- no call on a record changes the links
 pub links_stay : (j : ℕ) (ls : Links) (c : Record) (o : Outcome) → (settled_by j ls c o).answer.links ≡ ls

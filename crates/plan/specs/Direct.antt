@@ -1,5 +1,5 @@
 -- What the calls that change a record where it lies share: refusals 1, 2, 3 and 6, and the abort mark. Assumes nothing.
-use Rattle.std.specs.Prelude.{ℕ, Bool, ◌&&◌, ◌||◌, cond, false, List, length}
+use Rattle.std.specs.Prelude.{ℕ, zero, suc, Option, None, Some, Bool, ◌&&◌, ◌||◌, cond, false, List, length}
 use Rattle.closing.specs.declared.Marks.{Marks}
 use Rattle.conn_record.specs.declared.Record.{Record}
 use Rattle.conn_record.specs.Connection.{refusal_of}
@@ -8,6 +8,11 @@ use Rattle.group_table.specs.Table.{sizes_b, slot_b, record_at, active_b}
 -- a call on slot k, whose record is c, tests 2, then 3 and 6; 0: none of them
 unfoldable pub held_of : ℕ → ℕ → List Bool → ℕ → Record → ℕ
 held_of s n active k c = cond (slot_b s k && c.id.opened) (refusal_of n (active_b active c.id.link) c false) 2
+
+-- a refusal's number, or none
+abbrev pub refusal_in : ℕ → Option ℕ
+refusal_in zero = None
+refusal_in (suc j) = Some (suc j)
 
 -- and 1 before them
 unfoldable pub refusal_at : ℕ → ℕ → ℕ → List Record → List Bool → ℕ → ℕ

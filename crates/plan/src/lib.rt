@@ -7,8 +7,8 @@
 ghost use Rattle.std.specs.Prelude.{◌≡◌, cond};
 ghost use Rattle.conn_record.specs.Connection.{no_place};
 ghost use Rattle.conn_answer.specs.Outcome.{sequence_after};
-ghost use Rattle.group_table.specs.Table.{active_b, index_of, record_at};
-ghost use Rattle.plan.specs.Direct.{held_of, refusal_at, marks_left};
+ghost use Rattle.group_table.specs.Table.{active_b};
+ghost use Rattle.plan.specs.Direct.{held_of, refusal_at, refusal_in, marks_left};
 
 use closing::Marks;
 use conn_record::{Record, Urgent};
@@ -35,48 +35,35 @@ pub fn link_active(links: LinkStates, link: u8) -> bool
     links.active[k]
 }
 
-// What a call on a slot with the record rec tests, after 1: 2, then 3, then 6; 0 for none.
-fn held(s: u32, n: u32, links: LinkStates, slot: u32, rec: Record) -> u8
-    ensures { result ≡ held_of s n links.active slot rec }
+// What a call on a slot with the record rec is refused by, after 1: 2, then 3, then 6.
+fn held(s: u32, n: u32, links: LinkStates, slot: u32, rec: Record) -> Option<u8>
+    ensures { result ≡ refusal_in (held_of s n links.active slot rec) }
 {
-    if group_table::slot_ok(s, slot) & rec.id.opened {
-        let active = link_active(links, rec.id.link);
-        conn_record::refusal(n, active, rec, false)
-    } else {
-        2
+    if !(group_table::slot_ok(s, slot) & rec.id.opened) {
+        return Some(2);
+    }
+    match conn_record::refusal(n, link_active(links, rec.id.link), rec, false) {
+        0 => None,
+        j => Some(j),
     }
 }
 
-// Where the slot's record stands in a table of `count` records; `count` for a slot outside it.
-pub fn place_of(slot: u32, count: usize) -> usize
-    ensures { result ≡ index_of slot count }
+// And 1 before it. A slot outside the table shows all zeros, and so is closed.
+pub fn refusal_at(
+    s: u32,
+    n: u32,
+    len: usize,
+    table: &[Record],
+    links: LinkStates,
+    slot: u32,
+) -> Option<u8>
+    ensures { result ≡ refusal_in (refusal_at s n len table.now links.active slot) }
 {
-    group_table::index(slot as usize, count)
-}
-
-// The same of the slot's record; one outside the table is closed.
-fn held_at(s: u32, n: u32, table: &[Record], links: LinkStates, slot: u32) -> u8
-    ensures { result ≡ held_of s n links.active slot (record_at table.now slot) }
-{
-    let i = place_of(slot, table.len());
-    if i < table.len() {
-        let rec = table[i];
-        return held(s, n, links, slot, rec);
-    } else {
-        return 2;
+    if !group_table::sizes_ok(s, n, len, table.len()) {
+        return Some(1);
     }
-}
-
-// And 1 before it.
-pub fn refusal_at(s: u32, n: u32, len: usize, table: &[Record], links: LinkStates, slot: u32) -> u8
-    ensures { result ≡ refusal_at s n len table.now links.active slot }
-{
-    let sized = group_table::sizes_ok(s, n, len, table.len());
-    if sized {
-        return held_at(s, n, table, links, slot);
-    } else {
-        return 1;
-    }
+    let rec = group_table::record_at(table, slot as usize);
+    held(s, n, links, slot, rec)
 }
 
 // T after a call: C where a message told the peer.
@@ -90,11 +77,7 @@ pub fn told_left(t: Cursor, c: Cursor, made: bool) -> Cursor
 pub fn next_left(s: u16, made: bool) -> u16
     ensures { result ≡ cond made (sequence_after s) s }
 {
-    if made {
-        ((s as u32 + 1) % 65536) as u16
-    } else {
-        s
-    }
+    if made { s.wrapping_add(1) } else { s }
 }
 
 // The marks after a call that sends A, or one that does not.

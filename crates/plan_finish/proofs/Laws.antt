@@ -1,4 +1,4 @@
--- What the proofs of `plan_at`, `told_at`, `put`, `shut`, `leave`, `finish_on` and `finish` cite. Assumes nothing.
+-- What the proofs of `finish_on` and `finish` cite. Assumes nothing.
 use borrow.Author.Tests.{lt-ltb, le-ltb}
 use Prim.Native.Nat.{ℕ, ◌<◌, ◌≤◌}
 use mathlib.Core.Path.{◌≡◌, refl, sym, ap, ◌∙◌, subst}
@@ -25,52 +25,6 @@ use Rattle.plan_finish.specs.declared.Finished.{Finished}
 use Rattle.plan_finish.specs.Finishing.{refused_answer, plan_of, marked_record, leaves_of, silently, telling, finished_by, record_left}
 use Rattle.plan_finish.specs.DirectFinish.{request_of, LeftBy, Finishes, FinishMade}
 use Rattle.plan_finish.proofs.Plans.{finishes_refused, finishes_plan, no_out}
-
--- THE RECORD THAT THE SLOT SHOWS
-pub plan_at_returns : (what : Ending) (n : ℕ) (t : List Record) (k r : ℕ) → r ≡ index_of k (length t) → r < length t
-    → (q : Finishing) → q ≡ plan_of what n (get_or t r zero_record) → q ≡ plan_of what n (record_at t k)
-plan_at_returns what n t k r e h q eq = eq ∙ ap (plan_of what n) (record_at_returns t k r e h)
-
-pub plan_at_returns_2 : (what : Ending) (n : ℕ) (t : List Record) (k r : ℕ) → r ≡ index_of k (length t) → length t ≤ r
-    → (z : Record) → z ≡ zero_record → (q : Finishing) → q ≡ plan_of what n z → q ≡ plan_of what n (record_at t k)
-plan_at_returns_2 what n t k r e h z ez q eq = eq ∙ ap (plan_of what n) (record_at_returns_2 t k r e h z ez)
-
-pub told_at_returns : (t : List Record) (k : ℕ) (p : Finishing) (r : ℕ) → r ≡ index_of k (length t) → r < length t
-    → (f : Finished) → f ≡ telling (get_or t r zero_record) p → f ≡ telling (record_at t k) p
-told_at_returns t k p r e h f ef = ef ∙ ap (λ (c : Record). telling c p) (record_at_returns t k r e h)
-
-pub told_at_returns_2 : (t : List Record) (k : ℕ) (p : Finishing) (r : ℕ) → r ≡ index_of k (length t) → length t ≤ r
-    → (z : Record) → z ≡ zero_record → (f : Finished) → f ≡ telling z p → f ≡ telling (record_at t k) p
-told_at_returns_2 t k p r e h z ez f ef = ef ∙ ap (λ (c : Record). telling c p) (record_at_returns_2 t k r e h z ez)
-
--- WHAT IS LEFT IN IT
-module _ (t : List Record) (k : ℕ) where
-  pub put_returns : (m : Marks) (r : ℕ) → r ≡ index_of k (length t) → r < length t
-      → (c : Record) → c ≡ marked_record (get_or t r zero_record) m → set t r c ≡ with_record t k (marked_record (record_at t k) m)
-  put_returns m r e h c ec =
-      put_record_returns t k c r e h
-      ∙ ap (with_record t k) (ec ∙ ap (λ (x : Record). marked_record x m) (record_at_returns t k r e h))
-
-  pub put_returns_2 : (m : Marks) (r : ℕ) → r ≡ index_of k (length t) → length t ≤ r
-      → t ≡ with_record t k (marked_record (record_at t k) m)
-  put_returns_2 m r e h = put_record_returns_2 t k (marked_record (record_at t k) m) r e h
-
-  pub shut_returns : (r : ℕ) → r ≡ index_of k (length t) → r < length t
-      → (z : Record) → z ≡ zero_record → set t r z ≡ with_record t k zero_record
-  shut_returns r e h z ez = put_record_returns t k z r e h ∙ ap (with_record t k) ez
-
-  pub shut_returns_2 : (r : ℕ) → r ≡ index_of k (length t) → length t ≤ r → t ≡ with_record t k zero_record
-  shut_returns_2 r e h = put_record_returns_2 t k zero_record r e h
-
-  pub leave_returns : (m : Marks) (closes : Bool) → closes ≡ true → Unit {0} → (u : List Record) → u ≡ with_record t k zero_record
-      → u ≡ with_record t k (leaves_of (record_at t k) m closes)
-  leave_returns m true h v u eu = eu
-  leave_returns m false h v u eu = cc
-
-  pub leave_returns_2 : (m : Marks) (closes : Bool) → closes ≡ false → Unit {0} → (u : List Record)
-      → u ≡ with_record t k (marked_record (record_at t k) m) → u ≡ with_record t k (leaves_of (record_at t k) m closes)
-  leave_returns_2 m false h v u eu = eu
-  leave_returns_2 m true h v u eu = cc
 
 -- BY THE PLAN
 module _ (what : Ending) (n : ℕ) (t : List Record) (k : ℕ) (p : Finishing) (ep : p ≡ plan_of what n (record_at t k)) (j : ℕ)
@@ -101,16 +55,6 @@ module _ (what : Ending) (n : ℕ) (t : List Record) (k : ℕ) (p : Finishing) (
     on_told h f ef closes ec u eu =
         moved f u (ef ∙ sym (simp (passes h)))
         (eu ∙ ap (λ (b : Bool). with_record t k (leaves_of rec p.marks b)) ec ∙ ap (with_record t k) (sym (simp (passes h))))
-
-pub finish_on_returns : (what : Ending) (n : ℕ) (t : List Record) (k : ℕ) (p : Finishing) → p ≡ plan_of what n (record_at t k)
-    → (j : ℕ) → j ≡ p.said.refusal → 0 < j → (f : Finished) → f ≡ silently p.said → LeftBy what n t k f t
-finish_on_returns what n t k p ep j ej h f ef = on_refused what n t k p ep j ej h f ef
-
-pub finish_on_returns_2 : (what : Ending) (n : ℕ) (t : List Record) (k : ℕ) (p : Finishing) → p ≡ plan_of what n (record_at t k)
-    → (j : ℕ) → j ≡ p.said.refusal → j ≤ 0 → (f : Finished) → f ≡ telling (record_at t k) p
-    → (closes : Bool) → closes ≡ p.closes → Unit {0} → (u : List Record)
-    → u ≡ with_record t k (leaves_of (record_at t k) p.marks closes) → LeftBy what n t k f u
-finish_on_returns_2 what n t k p ep j ej h f ef closes ec v u eu = on_told what n t k p ep j ej h f ef closes ec u eu
 
 -- THE WHOLE CALL
 module _ (what : Ending) (s n : ℕ) (m : List ℕ) (t : List Record) (states : LinkStates) (k j : ℕ)
@@ -147,19 +91,6 @@ module _ (what : Ending) (s n : ℕ) (m : List ℕ) (t : List Record) (states : 
 
     pub all_planned : j ≡ 0 → (f : Finished) (u : List Record) → LeftBy what n t k f u → Done f u
     all_planned z f u l = λ ls ea. planned_in ls ea z f u l
-
-pub finish_returns : (what : Ending) (s n : ℕ) (m : List ℕ) (t : List Record) (states : LinkStates) (k : ℕ)
-    → (j : ℕ) → j ≡ refusal_at s n (length m) t states.active k → 0 < j
-    → (a : FinishAnswer) → a ≡ refused_answer j → (f : Finished) → f ≡ silently a
-    → InEveryGroup states.active (λ (ls : Links). Finishes (request_of what) (group_of s n t ls m) k f (group_of s n t ls m))
-finish_returns what s n m t states k j ej h a ea f ef =
-    all_refused what s n m t states k j ej (λ z. absurd (omega (arith, h, z))) f (ef ∙ ap silently ea)
-
-pub finish_returns_2 : (what : Ending) (s n : ℕ) (m : List ℕ) (t : List Record) (states : LinkStates) (k : ℕ)
-    → (j : ℕ) → j ≡ refusal_at s n (length m) t states.active k → j ≤ 0
-    → (f : Finished) (u : List Record) → LeftBy what n t k f u
-    → InEveryGroup states.active (λ (ls : Links). Finishes (request_of what) (group_of s n t ls m) k f (group_of s n u ls m))
-finish_returns_2 what s n m t states k j ej h f u l = all_planned what s n m t states k j ej (omega (arith, h)) f u l
 
 -- the same with the message in a buffer
 pub finish_made : (what : Ending) (s n : ℕ) (m : List ℕ) (t : List Record) (states : LinkStates) (k : ℕ) (b : List ℕ)

@@ -7,7 +7,6 @@
 #![tactic(auto)]
 
 ghost use Rattle.std.specs.Prelude.{◌≡◌, cond, ltb};
-ghost use Rattle.conn_record.specs.Connection.{zero_record};
 ghost use Rattle.conn_answer.specs.Outcome.{told_in, used_in};
 ghost use Rattle.conn_receive.specs.Receive.{unread_of};
 ghost use Rattle.group_table.specs.declared.Links.{Links};
@@ -68,13 +67,8 @@ fn refused(j: u8) -> FinishAnswer
 fn stays(j: u8, m: Marks) -> Finishing
     ensures { result ≡ refused_plan j m }
 {
-    let said = FinishAnswer {
-        refusal: j,
-        made: false,
-        reset: false,
-    };
     Finishing {
-        said: said,
+        said: refused(j),
         marks: m,
         closes: false,
     }
@@ -151,20 +145,6 @@ fn plan(what: Ending, n: u32, rec: Record) -> Finishing
     }
 }
 
-// The plan of the slot's record; a slot outside the table is refused before.
-fn plan_at(what: Ending, n: u32, table: &[Record], slot: u32) -> Finishing
-    ensures { result ≡ plan_of what n (record_at table.now slot) }
-{
-    let i = plan::place_of(slot, table.len());
-    if i < table.len() {
-        let rec = table[i];
-        return plan(what, n, rec);
-    } else {
-        let none = conn_record::zero_record();
-        return plan(what, n, none);
-    }
-}
-
 fn silent(said: FinishAnswer) -> Finished
     ensures { result ≡ silently said }
 {
@@ -184,19 +164,6 @@ fn told(rec: Record, t: Finishing) -> Finished
     Finished {
         said: said,
         message: bytes,
-    }
-}
-
-fn told_at(table: &[Record], slot: u32, t: Finishing) -> Finished
-    ensures { result ≡ telling (record_at table.now slot) t }
-{
-    let i = plan::place_of(slot, table.len());
-    if i < table.len() {
-        let rec = table[i];
-        return told(rec, t);
-    } else {
-        let none = conn_record::zero_record();
-        return told(none, t);
     }
 }
 
@@ -231,73 +198,29 @@ fn left(rec: Record, marks: Marks) -> Record
     next
 }
 
-fn put(table: &mut [Record], slot: u32, marks: Marks)
-    ensures { table.new ≡ with_record table.old slot (marked_record (record_at table.old slot) marks) }
-{
-    let i = plan::place_of(slot, table.len());
-    if i < table.len() {
-        let rec = table[i];
-        let next = left(rec, marks);
-        table[i] = next;
-        return;
-    } else {
-        return;
-    }
-}
-
-fn shut(table: &mut [Record], slot: u32)
-    ensures { table.new ≡ with_record table.old slot zero_record }
-{
-    let i = plan::place_of(slot, table.len());
-    if i < table.len() {
-        let none = conn_record::zero_record();
-        table[i] = none;
-        return;
-    } else {
-        return;
-    }
-}
-
 // What a call leaves in its slot: nothing, or the record with these marks.
 fn leave(table: &mut [Record], slot: u32, marks: Marks, closes: bool)
     ensures { table.new ≡ with_record table.old slot (leaves_of (record_at table.old slot) marks closes) }
 {
     if closes {
-        shut(table, slot);
-        return;
-    } else {
-        put(table, slot, marks);
+        group_table::put_record(table, slot as usize, conn_record::zero_record());
         return;
     }
-}
-
-// The refusal's number, or 0; whether the slot is closed.
-fn refusal_of(t: Finishing) -> u8
-    ensures { result ≡ t.said.refusal }
-{
-    t.said.refusal
-}
-
-fn closes_of(t: Finishing) -> bool
-    ensures { result ≡ t.closes }
-{
-    t.closes
+    let rec = group_table::record_at(table, slot as usize);
+    group_table::put_record(table, slot as usize, left(rec, marks));
 }
 
 // One of the three that 1, 2, 3 and 6 do not refuse.
 fn finish_on(what: Ending, n: u32, table: &mut [Record], slot: u32) -> Finished
     ensures { LeftBy what n table.old slot result table.new }
 {
-    let t = plan_at(what, n, table, slot);
-    let j = refusal_of(t);
-    if 0 < j {
+    let t = plan(what, n, group_table::record_at(table, slot as usize));
+    if 0 < t.said.refusal {
         return silent(t.said);
-    } else {
-        let f = told_at(table, slot, t);
-        let closes = closes_of(t);
-        leave(table, slot, t.marks, closes);
-        return f;
     }
+    let f = told(group_table::record_at(table, slot as usize), t);
+    leave(table, slot, t.marks, t.closes);
+    f
 }
 
 // Any of the three. What refuses comes first, so that the compiler knows in what follows all that the tests have shown.
@@ -314,12 +237,9 @@ pub fn finish(
         Finishes (request_of what) (group_of s n table.old ls mem.now) slot result
         (group_of s n table.new ls mem.now)) }
 {
-    let j = plan::refusal_at(s, n, mem.len(), table, links, slot);
-    if 0 < j {
-        let said = refused(j);
-        return silent(said);
-    } else {
-        return finish_on(what, n, table, slot);
+    match plan::refusal_at(s, n, mem.len(), table, links, slot) {
+        Some(j) => silent(refused(j)),
+        None => finish_on(what, n, table, slot),
     }
 }
 

@@ -19,15 +19,6 @@ module _ (x y z : Placing) (n k : ℕ) where
   pub with_last : x.len ≤ k → n ≤ k → z ≡ with
   with_last h i = simp (le-ltb k x.len h, le-ltb k n i)
 
-pub bound_room : (h k left : ℕ) → k < h → h - k < left → h - k ≡ bound_of h k left
-bound_room h k left i j = let e : min left (h - k) ≡ h - k = omega arith in simp (lt-ltb k h i, e)
-
-pub bound_left : (h k left : ℕ) → k < h → left ≤ h - k → left ≡ bound_of h k left
-bound_left h k left i j = let e : min left (h - k) ≡ left = omega arith in simp (lt-ltb k h i, e)
-
-pub bound_none : (h k left : ℕ) → h ≤ k → left ≡ bound_of h k left
-bound_none h k left i = simp (le-ltb k h i)
-
 module _ (h k : ℕ) (p : Placing) (ahead left len address : ℕ) (ea : ahead ≡ k - p.start) (el : left ≡ p.len - ahead)
     (en : len ≡ bound_of h k left) (ed : address ≡ (p.address + ahead) % 2 ^ 64)
   where

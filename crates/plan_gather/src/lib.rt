@@ -2,13 +2,13 @@
 // 02, 2026-08). It needs no record: what a piece is stands in the answer and in the head's length.
 #![tactic(auto)]
 
-ghost use Rattle.std.specs.Prelude.{◌≡◌, ◌-◌, ◌≤◌, min};
+ghost use Rattle.std.specs.Prelude.{◌≡◌};
 ghost use Rattle.plan_gather.specs.Cutting.{placing_with, bound_of, cut_at, piece_in, piece_or_none, in_pieces};
 
 use conn_answer::Placing;
 use plan_send::SendAnswer;
 
-// The buffers of a piece.
+// The buffers of a piece, numbers in the C struct.
 const HEAD: u32 = 0;
 
 const BODY: u32 = 1;
@@ -45,19 +45,6 @@ pub struct GatherAnswer {
     pub last: Placing,
 }
 
-// What is left of a, once b is taken off; 0 where b is more.
-fn less(a: u32, b: u32) -> u32
-    ensures { (result ≡ a - b) × (result ≤ a) }
-{
-    if a <= b { 0 } else { a - b }
-}
-
-fn least(a: u32, b: u32) -> u32
-    ensures { result ≡ min a b }
-{
-    if a <= b { a } else { b }
-}
-
 // The placing that has byte k of the joined bytes; after all of them, the last.
 fn placing_with(a: Joined, k: u32) -> Placing
     ensures { result ≡ placing_with a k }
@@ -77,23 +64,20 @@ fn in_buffer(head: usize, k: u32, left: u32) -> u32
 {
     let at = k as usize;
     if at < head {
-        let room = head - at;
-        if room < left as usize {
-            return room as u32;
-        }
-        return left;
+        (left as usize).min(head - at) as u32
+    } else {
+        left
     }
-    left
 }
 
 // The part of a placing from byte k on, up to the end of byte k's buffer.
 fn cut(head: usize, k: u32, p: Placing) -> GatherPiece
     ensures { result ≡ cut_at head k p }
 {
-    let ahead = less(k, p.start);
-    let left = less(p.len, ahead);
+    let ahead = k.saturating_sub(p.start);
+    let left = p.len.saturating_sub(ahead);
     let len = in_buffer(head, k, left);
-    let address = std::num::wrapping_add_u64(p.address, ahead as u64);
+    let address = p.address.wrapping_add(ahead as u64);
     if (k as usize) < head {
         return GatherPiece {
             buffer: HEAD,
@@ -117,7 +101,7 @@ fn piece(a: Joined, head: usize, k: u32) -> GatherPiece
     ensures { result ≡ piece_in a head k }
 {
     let n = a.sent.taken;
-    let at = least(k, n);
+    let at = k.min(n);
     let p = placing_with(a, at);
     cut(head, at, p)
 }
@@ -138,15 +122,6 @@ fn piece_or_none(a: Joined, head: usize, k: u32) -> GatherPiece
     }
 }
 
-// Where the third begins: after the two before it.
-fn after_two(n: u32, a: u32, b: u32) -> u32
-    ensures { result ≡ n - (n - a - b) }
-{
-    let rest = less(n, a);
-    let left = less(rest, b);
-    less(n, left)
-}
-
 // The answer with its pieces.
 pub fn in_pieces(a: Joined, head: usize) -> GatherAnswer
     ensures { result ≡ in_pieces a head }
@@ -155,7 +130,8 @@ pub fn in_pieces(a: Joined, head: usize) -> GatherAnswer
     let last = a.last;
     let first = piece_or_none(a, head, 0);
     let second = piece_or_none(a, head, first.len);
-    let k = after_two(n, first.len, second.len);
+    let rest = n.saturating_sub(first.len).saturating_sub(second.len);
+    let k = n.saturating_sub(rest);
     let third = piece_or_none(a, head, k);
     GatherAnswer {
         refusal: a.sent.refusal,

@@ -3,15 +3,13 @@
 #![tactic(auto)]
 
 ghost use Rattle.std.specs.Prelude.{◌≡◌, cond};
-ghost use Rattle.closing.specs.Closing.{number_of};
 ghost use Rattle.conn_record.specs.Connection.{place_at};
 ghost use Rattle.group_table.specs.Table.{active_b};
-ghost use Rattle.plan_hear.specs.Hearing.{no_heard, parsed_in, refused_before, refused_hearing, abort_hearing, kept_hearing, break_hearing};
-ghost use Rattle.plan_hear.specs.Hearing.{validated_hearing, accepted_hearing, ruled_hearing, hearing_of, none_hearing, inbound_left};
+ghost use Rattle.plan_hear.specs.Hearing.{parsed_in, token_in, heard_first, refused_answer, refused_hearing, abort_hearing, kept_hearing};
+ghost use Rattle.plan_hear.specs.Hearing.{break_hearing, validated_hearing, accepted_hearing, ruled_hearing, hearing_of, inbound_left};
 ghost use Rattle.plan_hear.specs.Hearing.{outbound_left, record_left, abort_left, ended_of, told_by, message_left};
 
-use cdc::{Decoded, Flags, Message};
-use closing::State;
+use cdc::{Decoded, Message};
 use conn_record::{Inbound, Outbound, Record, Urgent};
 use cursor::Cursor;
 use plan::LinkStates;
@@ -26,13 +24,6 @@ pub struct HearAnswer {
     pub moved: u64,
 }
 
-// What bytes are read as: whether they are a message, and which; zeros where they are none.
-#[derive(Clone, Copy)]
-pub struct Parsed {
-    pub good: bool,
-    pub message: Message,
-}
-
 // What a hear does with its record: the answer; whether what the message says is put into it, or the slot closed; whether the urgent place
 // of our element is a new one, and our own cleared; whether A is sent: a slot that is not closed then breaks, its record takes A alone.
 #[derive(Clone, Copy)]
@@ -45,75 +36,64 @@ pub struct Hearing {
     pub aborts: bool,
 }
 
-fn no_message() -> Message
-    ensures { result ≡ no_heard }
-{
-    let at = Cursor { offset: 0, wrap: 0 };
-    let flags = Flags {
-        blocked: false,
-        pending: false,
-        urgent: false,
-        request: false,
-        failover: false,
-        done: false,
-        closed: false,
-        abort: false,
-    };
-    Message {
-        sequence: 0,
-        token: 0,
-        producer: at,
-        consumer: at,
-        flags: flags,
-    }
-}
-
-pub fn parse(bytes: &[u8]) -> Parsed
+// The message that the bytes are, if they are one.
+pub fn parse(bytes: &[u8]) -> Option<Message>
     ensures { result ≡ parsed_in bytes.now }
 {
-    let what = cdc::decode(bytes);
-    match what {
-        Decoded::Good(m) => Parsed {
-            good: true,
-            message: m,
-        },
-        Decoded::Malformed => Parsed {
-            good: false,
-            message: no_message(),
-        },
+    match cdc::decode(bytes) {
+        Decoded::Good(m) => Some(m),
+        Decoded::Malformed => None,
     }
 }
 
-pub fn token_of(p: Parsed) -> u32
-    ensures { result ≡ p.message.token }
+// The token that it names; 0, which no slot has, where there is none.
+pub fn token_of(p: Option<Message>) -> u32
+    ensures { result ≡ token_in p }
 {
-    p.message.token
+    match p {
+        Some(m) => m.token,
+        None => 0,
+    }
 }
 
-// What is tested before the record is looked at: 1, then 4, then 5; 0 for none.
-pub fn before(s: u32, n: u32, len: usize, count: usize, p: Parsed, slot: usize) -> u8
-    ensures { result ≡ refused_before s n len count p.good slot }
+// The message to hear, or what refuses it before the record is looked at: 1, then 4, then 5.
+pub fn before(
+    s: u32,
+    n: u32,
+    len: usize,
+    count: usize,
+    p: Option<Message>,
+    slot: usize,
+) -> Result<Message, u8>
+    ensures { result ≡ heard_first s n len count p slot }
 {
     if !group_table::sizes_ok(s, n, len, count) {
-        return 1;
+        return Err(1);
     }
-    if !p.good {
-        return 4;
+    match p {
+        None => Err(4),
+        Some(_) if slot == 0 => Err(5),
+        Some(m) => Ok(m),
     }
-    if slot == 0 { 5 } else { 0 }
 }
 
-fn refused(j: u8) -> Hearing
-    ensures { result ≡ refused_hearing j }
+// What is answered where `j` refuses.
+pub fn refused(j: u8) -> HearAnswer
+    ensures { result ≡ refused_answer j }
 {
-    let said = HearAnswer {
+    HearAnswer {
         refusal: j,
         made: false,
         state: 0,
         moved: 0,
-    };
+    }
+}
+
+fn stays(j: u8) -> Hearing
+    ensures { result ≡ refused_hearing j }
+{
     Hearing {
-        said: said,
+        said: refused(j),
         takes: false,
         closes: false,
         urged: false,
@@ -182,26 +162,12 @@ fn broken() -> Hearing
     }
 }
 
-fn state_number(state: State) -> u8
-    ensures { result ≡ number_of state }
-{
-    match state {
-        State::Active => 0,
-        State::PeerCloseWait1 => 1,
-        State::PeerCloseWait2 => 2,
-        State::AppCloseWait1 => 3,
-        State::AppCloseWait2 => 4,
-        State::PeerAbortWait => 5,
-        State::Closed => 6,
-    }
-}
-
 // A message with F: it carries the last number heard, or an abort message is made.
 fn validated(rec: Record, m: Message) -> Hearing
     ensures { result ≡ validated_hearing rec m }
 {
     if m.sequence == rec.inbound.last {
-        return kept(state_number(closing::state_of(rec.marks)));
+        return kept(u8::from(closing::state_of(rec.marks)));
     }
     broken()
 }
@@ -218,9 +184,9 @@ fn accepted(n: u32, rec: Record, m: Message) -> Hearing
     let u = rec.outbound.urgent;
     let moved = conn_hear::moved_by(n, i, m);
     let marks = closing::marks_heard(rec.marks, m.flags.done, m.flags.closed);
-    let state = state_number(closing::state_of(marks));
+    let state = u8::from(closing::state_of(marks));
     let passed = conn_record::reached(rec.remote.size, p, q, u);
-    let same = cursor::same(told, c);
+    let same = told == c;
     let urged = m.flags.urgent & (0 < moved);
     let shut = marks.heard.closed & marks.sent.closed;
     let said = HearAnswer {
@@ -249,20 +215,17 @@ fn ruled(n: u32, rec: Record, m: Message) -> Hearing
     if ok {
         return accepted(n, rec, m);
     }
-    refused(8)
+    stays(8)
 }
 
-// A hear of the record, where `j` is what was refused before.
-pub fn hear_record(n: u32, links: LinkStates, rec: Record, m: Message, j: u8) -> Hearing
-    ensures { result ≡ hearing_of n (active_b links.active rec.id.link) rec m j }
+// A hear of the record that 1, 4 and 5 do not refuse.
+pub fn hear_record(n: u32, links: LinkStates, rec: Record, m: Message) -> Hearing
+    ensures { result ≡ hearing_of n (active_b links.active rec.id.link) rec m }
 {
-    if j != 0 {
-        return refused(j);
-    }
     let active = plan::link_active(links, rec.id.link);
     let no = conn_record::refusal(n, active, rec, false);
     if no != 0 {
-        return refused(no);
+        return stays(no);
     }
     let abort = m.flags.abort;
     if abort {
@@ -278,15 +241,7 @@ pub fn hear_record(n: u32, links: LinkStates, rec: Record, m: Message, j: u8) ->
     if conn_hear::is_next(rec, m) {
         return ruled(n, rec, m);
     }
-    refused(16)
-}
-
-// A hear of a slot outside the table, whose record is all zeros: incoherent. (It is not `hear_record`, which has one caller and so is
-// inlined.)
-pub fn hear_none(j: u8) -> Hearing
-    ensures { result ≡ none_hearing j }
-{
-    if j == 0 { refused(3) } else { refused(j) }
+    stays(16)
 }
 
 fn urgent_left(u: Urgent, at: Cursor, urged: bool) -> Urgent

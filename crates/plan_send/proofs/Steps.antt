@@ -18,36 +18,6 @@ use Rattle.plan_send.specs.Transmitting.{taken_in_of, tells_in, placing_in, said
 pub place_fits : (a b c : ℕ) → a < 2 ^ 32 - 1 → b < 2 ^ 32 → c < 2 ^ 32 → a * b + c < 2 ^ 64
 place_fits a b c h i j = omega (arith, mul-le-mul_right {m = a} {n = 2 ^ 32 - 2} b (omega arith))
 
--- the answer that names the placings
-module _ (N' index : ℕ) (t : RToken) (q : Cursor) (k : ℕ) (tells : Bool) (none : Placing) (hn : none ≡ no_placing) (r : SendAnswer) where
-  pub named_none : k ≡ 0 → r ≡ said 0 tells 0 none none → r ≡ named_in N' index t q k tells
-  unfolding stretches_of
-  named_none e h = simp (h, hn, e)
-
-  module _ (some : k ≡ 0 → ⊥) (f : ℕ) (hf : f ≡ min k (N' - q.offset)) (first : Placing) where
-    abbrev one : Stretch
-    one = record { offset = q.offset; start = 0; len = f }
-
-    abbrev two : Stretch
-    two = record { offset = 4; start = f; len = k - f }
-
-    stretches_one : k ≡ f → stretches_of N' q k ≡ One one
-    unfolding stretches_of first_of
-    stretches_one e = simp (← hf, ne_eqb k 0 some, eq-eqb k f e)
-
-    stretches_two : (k ≡ f → ⊥) → stretches_of N' q k ≡ Two one two
-    unfolding stretches_of first_of
-    stretches_two e = simp (← hf, ne_eqb k 0 some, ne_eqb k f e)
-
-    pub named_one : first ≡ placing_in N' index t one → k ≡ f → r ≡ said k tells 1 first none → r ≡ named_in N' index t q k tells
-    named_one h1 e h =
-        h ∙ (λ i. said k tells 1 (h1 i) (hn i)) ∙ ap (said_of (placing_in N' index t) k tells) (sym (stretches_one e))
-
-    pub named_two : first ≡ placing_in N' index t one → (k ≡ f → ⊥) → (second : Placing) → second ≡ placing_in N' index t two
-        → r ≡ said k tells 2 first second → r ≡ named_in N' index t q k tells
-    named_two h1 e second h2 h =
-        h ∙ (λ i. said k tells 2 (h1 i) (h2 i)) ∙ ap (said_of (placing_in N' index t) k tells) (sym (stretches_two e))
-
 -- a send with bytes, put together
 pub sent_parts : (urgent : Bool) (rec : Record) (len k : ℕ) (q : Cursor) (tells : Bool) (t : RToken) (a : SendAnswer)
     → k ≡ taken_in_of rec.remote.size rec.outbound len → q ≡ step_of rec.remote.size rec.outbound.producer k

@@ -2,7 +2,7 @@
 // and does with its record, in few values; then the record and the message that it leaves by these.
 #![tactic(auto)]
 
-ghost use Rattle.std.specs.Prelude.{◌≡◌, ◌-◌, ◌<◌, ◌≤◌, min, ◌||◌};
+ghost use Rattle.std.specs.Prelude.{◌≡◌, ◌||◌};
 ghost use Rattle.conn_send.specs.Transmit.{rtoken_of, no_placing};
 ghost use Rattle.plan_send.specs.Transmitting.{taken_in_of, placing_in, tells_in, said, named_in, unsent_answer, unsent, sent_by};
 ghost use Rattle.plan_send.specs.Transmitting.{sending_of};
@@ -13,7 +13,7 @@ use cdc::Message;
 use conn_answer::Placing;
 use conn_record::{Inbound, Outbound, RToken, Record, Urgent};
 use cursor::Cursor;
-use flow::Stretch;
+use flow::{Stretch, Stretches};
 
 // A refusal's number, or 0; whether a message was made; how many placings are named; how many bytes were taken; the placings, all zeros
 // where they are not named.
@@ -36,7 +36,8 @@ pub struct Sending {
     pub blocked: bool,
 }
 
-fn no_placing() -> Placing
+// All zeros, where no placing is named.
+pub fn no_placing() -> Placing
     ensures { result ≡ no_placing }
 {
     Placing {
@@ -51,14 +52,13 @@ fn no_placing() -> Placing
 pub fn refused(j: u8) -> SendAnswer
     ensures { result ≡ unsent_answer j }
 {
-    let none = no_placing();
     SendAnswer {
         refusal: j,
         made: false,
         placings: 0,
         taken: 0,
-        first: none,
-        second: none,
+        first: no_placing(),
+        second: no_placing(),
     }
 }
 
@@ -85,70 +85,27 @@ fn taken(size: u32, o: Outbound, len: usize) -> u32
     flow::taken(room, len)
 }
 
-fn key_of(rec: Record) -> u32
-    ensures { result ≡ (rtoken_of rec).key }
-{
-    let link = rec.id.link;
-    let r = rec.remote;
-    if link == 1 {
-        return r.link1.key;
-    }
-    if link == 2 {
-        return r.link2.key;
-    }
-    if link == 3 {
-        return r.link3.key;
-    }
-    r.link4.key
-}
-
-fn base_of(rec: Record) -> u64
-    ensures { result ≡ (rtoken_of rec).base }
-{
-    let link = rec.id.link;
-    let r = rec.remote;
-    if link == 1 {
-        return r.link1.base;
-    }
-    if link == 2 {
-        return r.link2.base;
-    }
-    if link == 3 {
-        return r.link3.base;
-    }
-    r.link4.base
-}
-
 // The peer's memory as the connection's own link reaches it.
 pub fn rtoken_of(rec: Record) -> RToken
     ensures { result ≡ rtoken_of rec }
 {
-    let key = key_of(rec);
-    let base = base_of(rec);
-    RToken {
-        key: key,
-        base: base,
+    match rec.id.link {
+        1 => rec.remote.link1,
+        2 => rec.remote.link2,
+        3 => rec.remote.link3,
+        _ => rec.remote.link4,
     }
-}
-
-// How many elements lie before number `index`.
-fn elements_before(index: u32) -> u32
-    ensures { (result ≡ index - 1) × (result < 4294967295) }
-{
-    if index == 0 { 0 } else { index - 1 }
 }
 
 // A stretch of element number `index`, of `size` bytes, in the memory t.
 pub fn placing(size: u32, index: u32, t: RToken, s: Stretch) -> Placing
     ensures { result ≡ placing_in size index t s }
 {
-    let k = elements_before(index);
-    let before = (k as u64) * (size as u64);
+    let before = (index.saturating_sub(1) as u64) * (size as u64);
     let at = before + (s.offset as u64);
-    let address = std::num::wrapping_add_u64(t.base, at);
     Placing {
         key: t.key,
-        address: address,
+        address: t.base.wrapping_add(at),
         start: s.start,
         len: s.len,
     }
@@ -167,42 +124,19 @@ fn answer(k: u32, tells: bool, count: u8, first: Placing, second: Placing) -> Se
     }
 }
 
-// The length of the first placing, from the offset `at`: up to the element's end at most.
-fn first_part(size: u32, at: u32, k: u32) -> u32
-    ensures { (result ≡ min k (size - at)) × (result ≤ k) }
-{
-    if size < at {
-        return 0;
-    }
-    if k <= size - at { k } else { size - at }
-}
-
 // The answer of k bytes taken, that go to Q on.
 fn named(size: u32, index: u32, t: RToken, q: Cursor, k: u32, tells: bool) -> SendAnswer
     ensures { result ≡ named_in size index t q k tells }
 {
-    let none = no_placing();
-    if k == 0 {
-        return answer(0, tells, 0, none, none);
+    match flow::stretches_of(size, q, k) {
+        Stretches::Nowhere => answer(k, tells, 0, no_placing(), no_placing()),
+        Stretches::One(one) => answer(k, tells, 1, placing(size, index, t, one), no_placing()),
+        Stretches::Two(one, two) => {
+            let first = placing(size, index, t, one);
+            let second = placing(size, index, t, two);
+            answer(k, tells, 2, first, second)
+        }
     }
-    let at = q.offset;
-    let f = first_part(size, at, k);
-    let one = Stretch {
-        offset: at,
-        start: 0,
-        len: f,
-    };
-    let first = placing(size, index, t, one);
-    if k == f {
-        return answer(k, tells, 1, first, none);
-    }
-    let two = Stretch {
-        offset: 4,
-        start: f,
-        len: k - f,
-    };
-    let second = placing(size, index, t, two);
-    answer(k, tells, 2, first, second)
 }
 
 // Whether a message is made: by an urgent send always.

@@ -5,7 +5,7 @@ use Prim.Native.Nat.{ℕ, ◌<◌}
 use lib.Dec.{ltb}
 use lib.ListN.{set}
 use borrow.Author.Tests.{ltb-true}
-use Rattle.pool.specs.declared.Found.TheVariants.{At, Nothing}
+use Rattle.std.proofs.Common.{Some, None}
 use Rattle.pool.specs.Pool.{Books, size_b, sound_b, fits_b, lowest, given_out_b, Call, Says, block, returned, Done, refuses, takes, gives_back_of, does, Did}
 use Rattle.pool.proofs.Every.{lowest_at}
 use Rattle.pool.proofs.Sound.{both}
@@ -22,11 +22,11 @@ module _ (b : Books) (n : ℕ) where
   unfolding takes
   takes_18 s z = rw (s, z)
 
-  pub takes_19 : sound_b b ≡ true → size_b n ≡ true → lowest (fits_b b n) 0 64 ≡ Nothing → takes b n ≡ refuses b 19
+  pub takes_19 : sound_b b ≡ true → size_b n ≡ true → lowest (fits_b b n) 0 64 ≡ None → takes b n ≡ refuses b 19
   unfolding takes
   takes_19 s z e = rw (s, z, e)
 
-  pub takes_at : (i : ℕ) → sound_b b ≡ true → size_b n ≡ true → lowest (fits_b b n) 0 64 ≡ At i
+  pub takes_at : (i : ℕ) → sound_b b ≡ true → size_b n ≡ true → lowest (fits_b b n) 0 64 ≡ Some i
       → takes b n ≡ record { says = block i; books = set b i n }
   unfolding takes
   takes_at i s z e = rw (s, z, e)
@@ -45,7 +45,7 @@ module _ (b : Books) (i n : ℕ) where
   gives_back s g = rw (s, g)
 
 -- what is found, and what was given out, lies in the pool
-pub found_below : (b : Books) (n i : ℕ) → lowest (fits_b b n) 0 64 ≡ At i → i < 64
+pub found_below : (b : Books) (n i : ℕ) → lowest (fits_b b n) 0 64 ≡ Some i → i < 64
 found_below b n i e = (lowest_at (fits_b b n) 0 64 i e).high
 
 pub given_below : (b : Books) (i n : ℕ) → given_out_b b i n ≡ true → i < 64

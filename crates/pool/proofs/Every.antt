@@ -7,8 +7,7 @@ use native.Mathlib.Nat.{add-zero, zero-add, suc-add, le_refl, eq-or-lt_of_le, no
 use native.Mathlib.Omega.{arith}
 use lib.Dec.{ltb}
 use borrow.Author.Tests.{ltb-true, ltb-false}
-use Rattle.pool.specs.declared.Found.{Found}
-use Rattle.pool.specs.declared.Found.TheVariants.{At, Nothing}
+use Rattle.std.proofs.Common.{Option, Some, None}
 use Rattle.pool.specs.Pool.{every, lowest}
 
 -- no number lies in an empty run
@@ -75,9 +74,9 @@ every_false p j n k x y e = by (every p j n) refl
     by true f = absurd (true≢false (sym (every_at p j n k f x y) ∙ e))
 
 -- a run in two parts
-abbrev pub or_else : Found → Found → Found
-or_else (At i) f = At i
-or_else Nothing f = f
+abbrev pub or_else : Option ℕ → Option ℕ → Option ℕ
+or_else (Some i) f = Some i
+or_else None f = f
 
 pub lowest_split : (p : ℕ → Bool) (j m n : ℕ) → lowest p j (m + n) ≡ or_else (lowest p j m) (lowest p (j + m) n)
 unfolding lowest
@@ -88,7 +87,7 @@ lowest_split p j (suc m) n = rw suc-add (by (p j) (lowest_split p (j + 1) m n))
     e = omega arith
 
     by : (t : Bool) → lowest p (j + 1) (m + n) ≡ or_else (lowest p (j + 1) m) (lowest p (j + 1 + m) n)
-        → cond t (At j) (lowest p (j + 1) (m + n)) ≡ or_else (cond t (At j) (lowest p (j + 1) m)) (lowest p (j + suc m) n)
+        → cond t (Some j) (lowest p (j + 1) (m + n)) ≡ or_else (cond t (Some j) (lowest p (j + 1) m)) (lowest p (j + suc m) n)
     by true h = refl
     by false h = rw (← e) h
 
@@ -99,12 +98,12 @@ pub record Lowest (p : ℕ → Bool) (j n i : ℕ) : Type 0 where
   pub passes : p i ≡ true
   pub no_lower : (k : ℕ) → j ≤ k → k < i → p k ≡ false
 
-pub lowest_at : (p : ℕ → Bool) (j n i : ℕ) → lowest p j n ≡ At i → Lowest p j n i
+pub lowest_at : (p : ℕ → Bool) (j n i : ℕ) → lowest p j n ≡ Some i → Lowest p j n i
 unfolding lowest
 lowest_at p j zero i e = let z : ◌≡◌ {A = ℕ} 0 1 = cc in absurd (let f : ⊥ = omega arith in f)
 lowest_at p j (suc n) i e = by (p j) refl e (λ r. lowest_at p (j + 1) n i r)
   where
-    by : (t : Bool) → p j ≡ t → cond t (At j) (lowest p (j + 1) n) ≡ At i → (lowest p (j + 1) n ≡ At i → Lowest p (j + 1) n i) → Lowest p j (suc n) i
+    by : (t : Bool) → p j ≡ t → cond t (Some j) (lowest p (j + 1) n) ≡ Some i → (lowest p (j + 1) n ≡ Some i → Lowest p (j + 1) n i) → Lowest p j (suc n) i
     by true f e ih =
         let d : j ≡ i = cc in
         record { low = omega arith; high = omega arith; passes = rw d at f; no_lower = λ k x y. absurd (not-le_of_lt (rw (← d) at y) x) }
@@ -112,34 +111,34 @@ lowest_at p j (suc n) i e = by (p j) refl e (λ r. lowest_at p (j + 1) n i r)
         let r = ih e in
         record { low = omega arith; high = omega arith; passes = r.passes; no_lower = λ k x y. elim (eq-or-lt_of_le x) [ inl d ↦ rw (← d) f | inr l ↦ r.no_lower k (omega arith) y ] }
 
-pub lowest_none : (p : ℕ → Bool) (j n : ℕ) → lowest p j n ≡ Nothing → (k : ℕ) → j ≤ k → k < j + n → p k ≡ false
+pub lowest_none : (p : ℕ → Bool) (j n : ℕ) → lowest p j n ≡ None → (k : ℕ) → j ≤ k → k < j + n → p k ≡ false
 unfolding lowest
 lowest_none p j zero e k x y = absurd (none j k x y)
 lowest_none p j (suc n) e k x y = by (p j) refl e (λ r z. lowest_none p (j + 1) n r k z (omega arith))
   where
-    by : (t : Bool) → p j ≡ t → cond t (At j) (lowest p (j + 1) n) ≡ Nothing → (lowest p (j + 1) n ≡ Nothing → j + 1 ≤ k → p k ≡ false) → p k ≡ false
+    by : (t : Bool) → p j ≡ t → cond t (Some j) (lowest p (j + 1) n) ≡ None → (lowest p (j + 1) n ≡ None → j + 1 ≤ k → p k ≡ false) → p k ≡ false
     by true f e ih = let z : ◌≡◌ {A = ℕ} 0 1 = cc in absurd (let g : ⊥ = omega arith in g)
     by false f e ih = elim (eq-or-lt_of_le x) [ inl d ↦ rw (← d) f | inr l ↦ ih e (omega arith) ]
 
 -- where nothing passes, nothing is found
-pub none_lowest : (p : ℕ → Bool) (j n : ℕ) → ((k : ℕ) → j ≤ k → k < j + n → p k ≡ false) → lowest p j n ≡ Nothing
+pub none_lowest : (p : ℕ → Bool) (j n : ℕ) → ((k : ℕ) → j ≤ k → k < j + n → p k ≡ false) → lowest p j n ≡ None
 unfolding lowest
 none_lowest p j zero h = refl
 none_lowest p j (suc n) h = rw (h j (le_refl j) (omega arith)) (none_lowest p (j + 1) n (λ k x y. h k (omega arith) (omega arith)))
 
 -- where no later one passes, the first decides
-pub lowest_first : (p : ℕ → Bool) (j n : ℕ) → 0 < n → ((k : ℕ) → j < k → k < j + n → p k ≡ false) → lowest p j n ≡ cond (p j) (At j) Nothing
+pub lowest_first : (p : ℕ → Bool) (j n : ℕ) → 0 < n → ((k : ℕ) → j < k → k < j + n → p k ≡ false) → lowest p j n ≡ cond (p j) (Some j) None
 unfolding lowest
 lowest_first p j zero l h = absurd (none 0 0 (le_refl 0) l)
 lowest_first p j (suc n) l h = rw (none_lowest p (j + 1) n (λ k x y. h k (omega arith) (omega arith)))
 
 -- two lowest numbers are the same
-pub lowest_is : (p : ℕ → Bool) (j n i : ℕ) → Lowest p j n i → lowest p j n ≡ At i
+pub lowest_is : (p : ℕ → Bool) (j n i : ℕ) → Lowest p j n i → lowest p j n ≡ Some i
 lowest_is p j n i l = by (lowest p j n) refl
   where
-    by : (f : Found) → lowest p j n ≡ f → lowest p j n ≡ At i
-    by Nothing e = absurd (true≢false (sym l.passes ∙ lowest_none p j n e i l.low l.high))
-    by (At k) e = let r = lowest_at p j n k e in e ∙ ap At (pick r (ltb k i) refl (ltb i k) refl)
+    by : (f : Option ℕ) → lowest p j n ≡ f → lowest p j n ≡ Some i
+    by None e = absurd (true≢false (sym l.passes ∙ lowest_none p j n e i l.low l.high))
+    by (Some k) e = let r = lowest_at p j n k e in e ∙ ap Some (pick r (ltb k i) refl (ltb i k) refl)
       where
         pick : Lowest p j n k → (s : Bool) → ltb k i ≡ s → (t : Bool) → ltb i k ≡ t → k ≡ i
         pick r true x t y = absurd (true≢false (sym r.passes ∙ l.no_lower k r.low (ltb-true k i x)))

@@ -1,17 +1,17 @@
 -- The pool halved, and halved again: the parts, and what the search finds in them. Assumes nothing.
 use mathlib.Core.Path.{◌≡◌, refl, sym, ap, ◌∙◌}
-use mathlib.Core.Bool.{Bool, true, false, cond}
+use mathlib.Core.Bool.{Bool, true, false, cond, false≢true}
+use Rattle.std.specs.Option.{is_some}
 use mathlib.Core.Logic.{inl, inr}
 use Prim.Native.Nat.{ℕ, ◌+◌, ◌/◌, ◌%◌, ◌≤◌, ◌<◌}
 use native.Mathlib.Nat.{eq-or-lt_of_le}
 use native.Mathlib.Omega.{arith}
 use lib.Dec.{ltb, eqb}
 use borrow.Author.Tests.{ltb-true, ltb-false, eqb-true}
-use Rattle.pool.specs.declared.Found.{Found}
-use Rattle.pool.specs.declared.Found.TheVariants.{At, Nothing}
+use Rattle.std.proofs.Common.{Option, Some, None}
 use Rattle.pool.specs.Pool.{Books, size_at, every, size_b, sound_b, fits_b, lowest}
 use Rattle.pool.specs.Statement.{In, Starts, Held}
-use Rattle.pool.specs.Steps.{empty_b, Part, place_of}
+use Rattle.pool.specs.Steps.{empty_b, Part}
 use Rattle.pool.proofs.Every.{every_at, every_of, lowest_split, lowest_at, lowest_first, none_lowest}
 use Rattle.pool.proofs.Sizes.{sizes, size_most, size_some, one_goes, between, next, through, together, fits_off}
 use Rattle.pool.proofs.Sound.{same_bool, own, some_of, sound_of}
@@ -47,7 +47,7 @@ module _ (b : Books) (w at size : ℕ) (p : Part b w at size) where
   whole l = let m = p.no_less in omega arith
 
   -- one block holds all of it: nothing fits
-  pub all_held : (held : ℕ) → held ≡ size_at b at → size ≤ held → lowest (fits_b b w) at size ≡ Nothing
+  pub all_held : (held : ℕ) → held ≡ size_at b at → size ≤ held → lowest (fits_b b w) at size ≡ None
   all_held held d m = none_lowest (fits_b b w) at size (λ k x y. no k x y (fits_b b w k) refl)
     where
       l : size ≤ size_at b at
@@ -69,11 +69,11 @@ module _ (b : Books) (w at size : ℕ) (p : Part b w at size) where
           absurd ((fits_of_lem b w k e).free k (self k w some) (record { start = at; starts = s; has = (x, further k size (size_at b at) y l) }))
 
   -- it has the size asked: it fits where no block starts in it
-  last_part : size ≤ w → lowest (fits_b b w) at size ≡ cond (every (empty_b b) at w) (At at) Nothing
+  last_part : size ≤ w → lowest (fits_b b w) at size ≡ cond (every (empty_b b) at w) (Some at) None
   last_part l =
       ap (λ (n : ℕ). lowest (fits_b b w) at n) (whole l)
       ∙ lowest_first (fits_b b w) at w some (λ k x y. fits_off b w k (between w at k multiple x y))
-      ∙ ap (λ (t : Bool). cond t (At at) Nothing) (same_bool _ _ none_starts none_holds)
+      ∙ ap (λ (t : Bool). cond t (Some at) None) (same_bool _ _ none_starts none_holds)
     where
       multiple : at % w ≡ 0
       multiple = rw (whole l) at p.multiple
@@ -112,10 +112,10 @@ module _ (b : Books) (w at size : ℕ) (p : Part b w at size) where
               by true f = far h.start (size_at b h.start) u (p.clear h.start (ltb-true h.start at f)) h.has.1 x.0
               by false f = none (size_at b h.start) (eqb-true (size_at b h.start) 0 (every_at (empty_b b) at w h.start e (ltb-false h.start at f) (less h.start u (at + w) h.has.0 x.1))) h.starts.some
 
-  pub last_free : size ≤ w → every (empty_b b) at w ≡ true → lowest (fits_b b w) at size ≡ At at
+  pub last_free : size ≤ w → every (empty_b b) at w ≡ true → lowest (fits_b b w) at size ≡ Some at
   last_free l e = last_part l ∙ rw e
 
-  pub last_held : size ≤ w → every (empty_b b) at w ≡ false → lowest (fits_b b w) at size ≡ Nothing
+  pub last_held : size ≤ w → every (empty_b b) at w ≡ false → lowest (fits_b b w) at size ≡ None
   last_held l e = last_part l ∙ rw e
 
   module _ (more : w < size) where
@@ -187,43 +187,11 @@ module _ (b : Books) (w at size : ℕ) (p : Part b w at size) where
     split : lowest (fits_b b w) at size ≡ lowest (fits_b b w) at (size / 2 + size / 2)
     split = ap (λ (n : ℕ). lowest (fits_b b w) at n) half.1
 
-    pub in_lower : (i : ℕ) → i ≡ place_of (lowest (fits_b b w) at (size / 2)) → i < 64 → i ≡ place_of (lowest (fits_b b w) at size)
-    in_lower i e l = by (lowest (fits_b b w) at (size / 2)) refl e
-      where
-        no : (i : ℕ) → i ≡ 64 → i < 64 → ⊥
-        no i e l = omega arith
+    pub in_lower : (f : Option ℕ) → f ≡ lowest (fits_b b w) at (size / 2) → is_some f ≡ true → f ≡ lowest (fits_b b w) at size
+    in_lower (Some i) e s = sym (split ∙ rw (lowest_split (fits_b b w) at (size / 2) (size / 2), ← e))
+    in_lower None e s = absurd (false≢true s)
 
-        by : (f : Found) → lowest (fits_b b w) at (size / 2) ≡ f → i ≡ place_of f → i ≡ place_of (lowest (fits_b b w) at size)
-        by (At j) d e = let f : lowest (fits_b b w) at size ≡ At j = split ∙ rw (lowest_split (fits_b b w) at (size / 2) (size / 2), d) in e ∙ sym (ap place_of f)
-        by Nothing d e = absurd (no i e l)
-
-    pub in_upper : (i : ℕ) → i ≡ place_of (lowest (fits_b b w) at (size / 2)) → 64 ≤ i → lowest (fits_b b w) at size ≡ lowest (fits_b b w) (at + size / 2) (size / 2)
-    in_upper i e l = by (lowest (fits_b b w) at (size / 2)) refl e
-      where
-        no : (i j m : ℕ) → i ≡ j → j < m → m ≤ 64 → 64 ≤ i → ⊥
-        no i j m e x y z = omega arith
-
-        by : (f : Found) → lowest (fits_b b w) at (size / 2) ≡ f → i ≡ place_of f → lowest (fits_b b w) at size ≡ lowest (fits_b b w) (at + size / 2) (size / 2)
-        by (At j) d e = absurd (no i j (at + size / 2) e (lowest_at (fits_b b w) at (size / 2) j d).high lower.within l)
-        by Nothing d e = split ∙ rw (lowest_split (fits_b b w) at (size / 2) (size / 2), d)
-
--- what was found, by the place where it starts
-pub found_of : (b : Books) (w i : ℕ) → i ≡ place_of (lowest (fits_b b w) 0 64) → i < 64 → At i ≡ lowest (fits_b b w) 0 64
-found_of b w i e l = by (lowest (fits_b b w) 0 64) refl e
-  where
-    no : (i : ℕ) → i ≡ 64 → i < 64 → ⊥
-    no i e l = omega arith
-
-    by : (f : Found) → lowest (fits_b b w) 0 64 ≡ f → i ≡ place_of f → At i ≡ lowest (fits_b b w) 0 64
-    by (At j) d e = ap At e ∙ sym d
-    by Nothing d e = absurd (no i e l)
-
-pub none_of : (b : Books) (w i : ℕ) → i ≡ place_of (lowest (fits_b b w) 0 64) → 64 ≤ i → Nothing ≡ lowest (fits_b b w) 0 64
-none_of b w i e l = by (lowest (fits_b b w) 0 64) refl e
-  where
-    no : (i j : ℕ) → i ≡ j → j < 0 + 64 → 64 ≤ i → ⊥
-    no i j e x z = omega arith
-
-    by : (f : Found) → lowest (fits_b b w) 0 64 ≡ f → i ≡ place_of f → Nothing ≡ lowest (fits_b b w) 0 64
-    by (At j) d e = absurd (no i j e (lowest_at (fits_b b w) 0 64 j d).high l)
-    by Nothing d e = sym d
+    pub in_upper : (f : Option ℕ) → f ≡ lowest (fits_b b w) at (size / 2) → is_some f ≡ false
+        → lowest (fits_b b w) at size ≡ lowest (fits_b b w) (at + size / 2) (size / 2)
+    in_upper (Some i) e s = absurd (false≢true (sym s))
+    in_upper None e s = split ∙ rw (lowest_split (fits_b b w) at (size / 2) (size / 2), ← e)

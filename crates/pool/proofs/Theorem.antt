@@ -9,8 +9,7 @@ use native.Mathlib.Omega.{arith}
 use lib.Dec.{eqb}
 use lib.ListN.{length, length-set, set, length-replicate, get_or-replicate}
 use borrow.Author.Tests.{eqb-false}
-use Rattle.pool.specs.declared.Found.{Found}
-use Rattle.pool.specs.declared.Found.TheVariants.{At, Nothing}
+use Rattle.std.proofs.Common.{Option, Some, None}
 use Rattle.pool.specs.Pool.{Books, size_at, free_pool, free_b, size_b, sound_b, fits_b, lowest, given_out_b, Call, take, give_back, Says, refusal, block, returned, Done, refuses, takes, gives_back_of, answer, next}
 use Rattle.pool.specs.Statement.{In, Starts, Held, Fits, Lowest, Sound, GivenOut, NoneFree, EachAnswer, WhatIsLeft, Made, none_made, one_made, given_by, returned_by, sum, not_free, Tally}
 use Rattle.pool.proofs.Every.{lowest_at, lowest_is}
@@ -29,15 +28,15 @@ abbrev got : Books → ℕ → Done
 got b i = record { says = returned; books = set b i 0 }
 
 take_cases : (b : Books) (n : ℕ) (P : Done → Type 0) → (sound_b b ≡ false → P (refuses b 3)) → (sound_b b ≡ true → size_b n ≡ false → P (refuses b 18))
-    → (sound_b b ≡ true → size_b n ≡ true → lowest (fits_b b n) 0 64 ≡ Nothing → P (refuses b 19))
-    → ((i : ℕ) → sound_b b ≡ true → size_b n ≡ true → lowest (fits_b b n) 0 64 ≡ At i → P (gave b n i)) → P (takes b n)
+    → (sound_b b ≡ true → size_b n ≡ true → lowest (fits_b b n) 0 64 ≡ None → P (refuses b 19))
+    → ((i : ℕ) → sound_b b ≡ true → size_b n ≡ true → lowest (fits_b b n) 0 64 ≡ Some i → P (gave b n i)) → P (takes b n)
 take_cases b n P p q r t = by (sound_b b) refl (size_b n) refl (lowest (fits_b b n) 0 64) refl
   where
-    by : (s : Bool) → sound_b b ≡ s → (z : Bool) → size_b n ≡ z → (f : Found) → lowest (fits_b b n) 0 64 ≡ f → P (takes b n)
+    by : (s : Bool) → sound_b b ≡ s → (z : Bool) → size_b n ≡ z → (f : Option ℕ) → lowest (fits_b b n) 0 64 ≡ f → P (takes b n)
     by false s z e f l = rw (takes_3 b n s) (p s)
     by true s false e f l = rw (takes_18 b n s e) (q s e)
-    by true s true e Nothing l = rw (takes_19 b n s e l) (r s e l)
-    by true s true e (At i) l = rw (takes_at b n i s e l) (t i s e l)
+    by true s true e None l = rw (takes_19 b n s e l) (r s e l)
+    by true s true e (Some i) l = rw (takes_at b n i s e l) (t i s e l)
 
 give_cases : (b : Books) (i n : ℕ) (P : Done → Type 0) → (sound_b b ≡ false → P (refuses b 3)) → (sound_b b ≡ true → given_out_b b i n ≡ false → P (refuses b 20))
     → (sound_b b ≡ true → given_out_b b i n ≡ true → P (got b i)) → P (gives_back_of b i n)
@@ -102,13 +101,13 @@ module _ (b : Books) where
   )
 
   -- what is found, in units
-  pub found_fits : (n i : ℕ) → lowest (fits_b b n) 0 64 ≡ At i → Fits b n i
+  pub found_fits : (n i : ℕ) → lowest (fits_b b n) 0 64 ≡ Some i → Fits b n i
   found_fits n i e = fits_of_lem b n i (lowest_at (fits_b b n) 0 64 i e).passes
 
-  none_lower : (n i : ℕ) → lowest (fits_b b n) 0 64 ≡ At i → (j : ℕ) → j < i → Fits b n j → ⊥
+  none_lower : (n i : ℕ) → lowest (fits_b b n) 0 64 ≡ Some i → (j : ℕ) → j < i → Fits b n j → ⊥
   none_lower n i e j x f = true≢false (sym (of_fits b n j f) ∙ (lowest_at (fits_b b n) 0 64 i e).no_lower j zero-le x)
 
-  fits_found : (n i : ℕ) → size_b n ≡ true → Fits b n i → ((j : ℕ) → j < i → Fits b n j → ⊥) → lowest (fits_b b n) 0 64 ≡ At i
+  fits_found : (n i : ℕ) → size_b n ≡ true → Fits b n i → ((j : ℕ) → j < i → Fits b n j → ⊥) → lowest (fits_b b n) 0 64 ≡ Some i
   fits_found n i z f h =
       let s = size_some n z in
       let w : i + n ≤ 64 = f.within in
@@ -125,9 +124,9 @@ module _ (b : Books) where
     λ h. ap (λ (d : Done). d.says) (takes_at b n i (of_sound b h.0) h.1 (fits_found n i h.1 h.2.0 h.2.1)),
   )
     where
-      to : (k : ℕ) → sound_b b ≡ true → size_b n ≡ true → lowest (fits_b b n) 0 64 ≡ At k → block k ≡ block i
+      to : (k : ℕ) → sound_b b ≡ true → size_b n ≡ true → lowest (fits_b b n) 0 64 ≡ Some k → block k ≡ block i
           → Sound b × (size_b n ≡ true) × Lowest b n i
-      to k s z l e = let m : lowest (fits_b b n) 0 64 ≡ At i = l ∙ ap At (start_is k i e) in (sound_of b s, z, (found_fits n i m, none_lower n i m))
+      to k s z l e = let m : lowest (fits_b b n) 0 64 ≡ Some i = l ∙ ap Some (start_is k i e) in (sound_of b s, z, (found_fits n i m, none_lower n i m))
 
   twenty : (i n : ℕ) → (answer b (give_back i n) ≡ refusal 20) ↔ (Sound b × (GivenOut b i n → ⊥))
   twenty i n = (

@@ -10,7 +10,7 @@ use lib.Seq.{get_or-set_same, get_or-set_other}
 use borrow.Author.Tests.{ltb-true, ltb-false, leb-true, eqb-true, eqb-false, not-true, lt-ltb, eq-eqb, ne_eqb}
 use Rattle.pool.specs.Pool.{Books, size_at, free_b, size_b, fits_b, lowest, given_out_b}
 use Rattle.pool.specs.Statement.{In, Starts, Held, Fits, GivenOut, NoneFree}
-use Rattle.pool.specs.declared.Found.TheVariants.{Nothing}
+use Rattle.std.proofs.Common.{None}
 use Rattle.pool.proofs.Every.{every_at, every_of, every_not, lowest_none, none_lowest}
 use Rattle.pool.proofs.Sizes.{fits_on, size_some}
 use Rattle.pool.proofs.Sound.{both, starts, held_of, of_held}
@@ -41,14 +41,14 @@ pub of_fits : (b : Books) (n i : ℕ) → Fits b n i → fits_b b n i ≡ true
 of_fits b n i f = fits_on b n i f.multiple f.within ∙ every_of (free_b b) i n (λ u x y. free_of b u (f.free u (x, y)))
 
 -- nothing is found exactly where every block has a held unit
-pub none_free : (b : Books) (n : ℕ) → size_b n ≡ true → lowest (fits_b b n) 0 64 ≡ Nothing → NoneFree b n
+pub none_free : (b : Books) (n : ℕ) → size_b n ≡ true → lowest (fits_b b n) 0 64 ≡ None → NoneFree b n
 none_free b n z e j d w =
     let s = size_some n z in
     let f : fits_b b n j ≡ false = lowest_none (fits_b b n) 0 64 e j zero-le (omega arith) in
     let r = every_not (free_b b) j n (sym (fits_on b n j d w) ∙ f) in
     (r.at, (r.low, r.high), held_of b r.at r.fails)
 
-pub of_none_free : (b : Books) (n : ℕ) → NoneFree b n → lowest (fits_b b n) 0 64 ≡ Nothing
+pub of_none_free : (b : Books) (n : ℕ) → NoneFree b n → lowest (fits_b b n) 0 64 ≡ None
 of_none_free b n h = none_lowest (fits_b b n) 0 64 (λ k _ _. by k (fits_b b n k) refl)
   where
     by : (k : ℕ) (t : Bool) → fits_b b n k ≡ t → fits_b b n k ≡ false

@@ -2,8 +2,7 @@
 -- contracts cite `Did`, which is `answer` and `next`; Statement.antt says, of units alone, what follows from these rules.
 -- Assumes nothing.
 use Rattle.std.specs.Prelude.{ℕ, zero, suc, ◌+◌, ◌%◌, ◌≡◌, Bool, true, not, ◌&&◌, ◌||◌, cond, List, ltb, leb, eqb, get_or, set, replicate}
-use Rattle.pool.specs.declared.Found.{Found}
-use Rattle.pool.specs.declared.Found.TheVariants.{At, Nothing}
+use Rattle.std.specs.Prelude.{Option, Some, None}
 use Rattle.pool.specs.declared.Reply.{Reply}
 use Rattle.pool.specs.declared.Reply.TheVariants.{Block, Returned, Refused}
 
@@ -66,9 +65,9 @@ unfoldable pub fits_b : Books → ℕ → ℕ → Bool
 fits_b b size start = eqb (start % size) 0 && (leb (start + size) 64 && block_free_b b start size)
 
 -- the lowest of the n numbers from j on of which p is true
-unfoldable pub lowest : (ℕ → Bool) → ℕ → ℕ → Found
-lowest p j zero = Nothing
-lowest p j (suc n) = cond (p j) (At j) (lowest p (j + 1) n)
+unfoldable pub lowest : (ℕ → Bool) → ℕ → ℕ → Option ℕ
+lowest p j zero = None
+lowest p j (suc n) = cond (p j) (Some j) (lowest p (j + 1) n)
 
 -- a block of that size was given out in that place
 unfoldable pub given_out_b : Books → ℕ → ℕ → Bool
@@ -102,9 +101,9 @@ refuses b k = record { says = refusal k; books = b }
 
 -- Take: 3, 18; "the answer is the lowest block that is wholly free and starts at a multiple of its size", and the books have it; 19: there
 -- is none
-abbrev pub gives_out : Books → ℕ → Found → Done
-gives_out b size (At start) = record { says = block start; books = set b start size }
-gives_out b size Nothing = refuses b 19
+abbrev pub gives_out : Books → ℕ → Option ℕ → Done
+gives_out b size (Some start) = record { says = block start; books = set b start size }
+gives_out b size None = refuses b 19
 
 unfoldable pub takes : Books → ℕ → Done
 takes b size =

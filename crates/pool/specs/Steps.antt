@@ -1,8 +1,6 @@
 -- No rule: what single steps of the code look at. Only contracts of private functions cite these; proofs/ ties them to the rules.
 -- Assumes nothing.
 use Rattle.std.specs.Prelude.{ℕ, ◌+◌, ◌-◌, ◌%◌, ◌≤◌, ◌<◌, ◌≡◌, Bool, true, ◌&&◌, ◌||◌, leb, eqb}
-use Rattle.pool.specs.declared.Found.{Found}
-use Rattle.pool.specs.declared.Found.TheVariants.{At, Nothing}
 use Rattle.pool.specs.Pool.{Books, size_at, every, size_b, sound_b}
 
 -- no block starts at unit k
@@ -32,8 +30,3 @@ pub record Part (b : Books) (want at size : ℕ) : Type 0 where
   pub within : at + size ≤ 64
   -- no block from before reaches further
   pub clear : (k : ℕ) → k < at → k + size_at b k ≤ at
-
--- where what a search found starts; 64 where it found nothing
-abbrev pub place_of : Found → ℕ
-place_of (At i) = i
-place_of Nothing = 64

@@ -5,7 +5,7 @@
 ghost use Rattle.std.specs.Prelude.{◌≡◌, ◌+◌, ◌≤◌, ◌<◌, true};
 ghost use Rattle.pool.specs.Pool.{every, size_b, sound_b, fits_b, lowest, given_out_b};
 ghost use Rattle.pool.specs.Pool.{free_pool, Call, Says, says_of, Did};
-ghost use Rattle.pool.specs.Steps.{empty_b, place_b, alone_b, Part, place_of};
+ghost use Rattle.pool.specs.Steps.{empty_b, place_b, alone_b, Part};
 
 // What a call says.
 #[derive(Clone, Copy)]
@@ -23,19 +23,6 @@ pub struct Outcome {
     pub books: [u8; 64],
 }
 
-// What a search finds.
-#[derive(Clone, Copy)]
-enum Found {
-    At(usize),
-    Nothing,
-}
-
-fn wide(x: u8) -> usize
-    ensures { (result ≡ x) × (result < 256) }
-{
-    x as usize
-}
-
 // 1, 2, 4, 8, 16, 32 or 64.
 fn is_size(n: usize) -> bool
     ensures { result ≡ size_b n }
@@ -48,13 +35,10 @@ fn none_starts(b: &[u8; 64], start: usize, n: usize) -> bool
     requires { start + n ≤ 64 }
     ensures { result ≡ every (empty_b b.now) start n }
 {
-    let end = start + n;
-    let mut k = start;
-    while k < end {
-        if wide(b[k]) != 0 {
+    for k in start..start + n {
+        if b[k] != 0 {
             return false;
         }
-        k += 1;
     }
     true
 }
@@ -63,28 +47,16 @@ fn none_starts(b: &[u8; 64], start: usize, n: usize) -> bool
 fn is_place(i: usize, size: usize) -> bool
     ensures { result ≡ place_b i size }
 {
-    if size == 1 {
-        return i % 1 == 0;
+    match size {
+        1 => true,
+        2 => i % 2 == 0,
+        4 => i % 4 == 0,
+        8 => i % 8 == 0,
+        16 => i % 16 == 0,
+        32 => i % 32 == 0,
+        64 => i % 64 == 0,
+        _ => false,
     }
-    if size == 2 {
-        return i % 2 == 0;
-    }
-    if size == 4 {
-        return i % 4 == 0;
-    }
-    if size == 8 {
-        return i % 8 == 0;
-    }
-    if size == 16 {
-        return i % 16 == 0;
-    }
-    if size == 32 {
-        return i % 32 == 0;
-    }
-    if size == 64 {
-        return i % 64 == 0;
-    }
-    false
 }
 
 // Whether the block that starts at i, if one does, has a size, starts at a multiple of it, stays in the pool, and none starts further on
@@ -93,7 +65,7 @@ fn is_alone(b: &[u8; 64], i: usize) -> bool
     requires { i < 64 }
     ensures { result ≡ alone_b b.now i }
 {
-    let size = wide(b[i]);
+    let size = usize::from(b[i]);
     if size == 0 {
         return true;
     }
@@ -112,11 +84,12 @@ fn is_sound(b: &[u8; 64]) -> bool
     ensures { result ≡ sound_b b.now }
 {
     let mut i = 0;
+    // Kept: its step is each block's own size, and no range or iterator goes on so.
     while i < 64 {
         if !is_alone(b, i) {
             return false;
         }
-        let size = wide(b[i]);
+        let size = usize::from(b[i]);
         if size == 0 {
             i += 1;
         } else {
@@ -126,42 +99,30 @@ fn is_sound(b: &[u8; 64]) -> bool
     true
 }
 
-// Where the lowest block of the size asked starts that may be given out among the units from `at` on, `size` of them; 64 where there is
-// none. These are halved, and halved again, the lower half tried first, until the halves have the size asked. What one block holds is not
-// halved. No block from before `at` reaches further, so only what starts in a half is looked at.
-fn find(b: &[u8; 64], at: usize, size: usize, want: usize) -> usize
+// Where the lowest block of the size asked starts that may be given out among the units from `at` on, `size` of them. These are halved,
+// and halved again, the lower half tried first, until the halves have the size asked. What one block holds is not halved. No block from
+// before `at` reaches further, so only what starts in a half is looked at.
+fn find(b: &[u8; 64], at: usize, size: usize, want: usize) -> Option<usize>
     requires { Part b.now want at size }
-    ensures { result ≡ place_of (lowest (fits_b b.now want) at size) }
+    ensures { result ≡ lowest (fits_b b.now want) at size }
 {
     if size <= want {
         if none_starts(b, at, want) {
-            return at;
+            return Some(at);
         }
-        return 64;
+        return None;
     }
-    let held = wide(b[at]);
+    let held = usize::from(b[at]);
     if size <= held {
-        return 64;
+        return None;
     }
     let half = size / 2;
     let middle = at + half;
     let lower = find(b, at, half, want);
-    if lower < 64 {
+    if lower.is_some() {
         return lower;
     }
     find(b, middle, half, want)
-}
-
-// The lowest block of the size asked that may be given out.
-fn lowest_block(b: &[u8; 64], want: usize) -> Found
-    requires { (sound_b b.now ≡ true) × (size_b want ≡ true) }
-    ensures { result ≡ lowest (fits_b b.now want) 0 64 }
-{
-    let start = find(b, 0, 64, want);
-    if start < 64 {
-        return Found::At(start);
-    }
-    Found::Nothing
 }
 
 // Whether a block of that size was given out in that place.
@@ -169,7 +130,7 @@ fn is_given_out(b: &[u8; 64], start: usize, size: usize) -> bool
     ensures { result ≡ given_out_b b.now start size }
 {
     if start < 64 {
-        let given = wide(b[start]);
+        let given = usize::from(b[start]);
         return (size != 0) & (given == size);
     }
     false
@@ -180,7 +141,7 @@ fn refused(books: [u8; 64], k: u8) -> Outcome
 {
     Outcome {
         reply: Reply::Refused(k),
-        books: books,
+        books,
     }
 }
 
@@ -203,10 +164,9 @@ pub fn take(books: [u8; 64], units: u32) -> Outcome
     if !is_size(want) {
         return refused(books, 18);
     }
-    let lowest = lowest_block(&books, want);
-    match lowest {
-        Found::Nothing => refused(books, 19),
-        Found::At(start) => {
+    match find(&books, 0, 64, want) {
+        None => refused(books, 19),
+        Some(start) => {
             let first = start as u32;
             after[start] = want as u8;
             Outcome {

@@ -1,7 +1,7 @@
 -- RFC 7609, Appendix A.2 (Figures 26 to 30) and A.3 (Figures 31 to 40): whole messages, written byte for byte from the drawings and not by
 -- any writer of ours. Each byte of a field holds its own number, so that a field that lies elsewhere, or has another width, reads otherwise;
 -- reserved bytes are 00, flags stand alone and together. Assumes nothing.
-use Rattle.std.specs.Prelude.{ℕ, zero, suc, ◌-◌, ◌/◌, ◌%◌, ◌^◌, ◌≡◌, true, false, List, [], ◌∷◌, ◌++◌, map, replicate}
+use Rattle.std.specs.Prelude.{ℕ, zero, suc, ◌-◌, ◌/◌, ◌%◌, ◌^◌, ◌≡◌, true, false, List, [], ◌∷◌, ◌++◌, map, replicate, Some}
 use Rattle.link_message.specs.declared.Kind.{Kind}
 use Rattle.link_message.specs.declared.Kind.TheVariants.{ConfirmLink, AddLink, AddLinkContinuation, DeleteLink, ConfirmRkey, TestLink, ConfirmRkeyContinuation, DeleteRkey}
 use Rattle.link_message.specs.Layouts.{table_of, values_in, encode_of}
@@ -105,7 +105,7 @@ setup_messages =
       bytes = octets 69 0xE2D4C3D9_01_0045_10_08090A0B0C0D0E0F_101112131415161718191A1B1C1D1E1F_202122232425_0000_28292A2B_2C_0000_01_303132333435363738393A3B3C3D3E3F_40_E2D4C3D9;
       fields =
           record {
-            kind = Proposal;
+            kind = Some Proposal;
             version = 1;
             first = false;
             sync = false;
@@ -133,7 +133,7 @@ setup_messages =
       bytes = octets 55 0xE2D4C3D9_01_0037_20_08090A0B0C0D0E0F_101112131415161718191A1B1C1D1E1F_202122232425_0003_000000_2B2C2D2E_2F_0000_00_E2D4C3D9;
       fields =
           record {
-            kind = Proposal;
+            kind = Some Proposal;
             version = 2;
             first = false;
             sync = false;
@@ -162,7 +162,7 @@ setup_messages =
       bytes = octets 68 0xE2D4C3D9_02_0044_18_08090A0B0C0D0E0F_101112131415161718191A1B1C1D1E1F_202122232425_262728_292A2B2C_2D_2E2F3031_32_00_3435363738393A3B_00_3D3E3F_E2D4C3D9;
       fields =
           record {
-            kind = Accept;
+            kind = Some Accept;
             version = 1;
             first = true;
             sync = false;
@@ -190,7 +190,7 @@ setup_messages =
       bytes = octets 68 0xE2D4C3D9_02_0044_10_08090A0B0C0D0E0F_101112131415161718191A1B1C1D1E1F_202122232425_262728_292A2B2C_2D_2E2F3031_32_00_3435363738393A3B_00_3D3E3F_E2D4C3D9;
       fields =
           record {
-            kind = Accept;
+            kind = Some Accept;
             version = 1;
             first = false;
             sync = false;
@@ -218,7 +218,7 @@ setup_messages =
       bytes = octets 68 0xE2D4C3D9_03_0044_10_08090A0B0C0D0E0F_101112131415161718191A1B1C1D1E1F_202122232425_262728_292A2B2C_2D_2E2F3031_32_00_3435363738393A3B_00_3D3E3F_E2D4C3D9;
       fields =
           record {
-            kind = Confirm;
+            kind = Some Confirm;
             version = 1;
             first = false;
             sync = false;
@@ -246,7 +246,7 @@ setup_messages =
       bytes = octets 28 0xE2D4C3D9_04_001C_18_08090A0B0C0D0E0F_10111213_00000000_E2D4C3D9;
       fields =
           record {
-            kind = Decline;
+            kind = Some Decline;
             version = 1;
             first = false;
             sync = true;

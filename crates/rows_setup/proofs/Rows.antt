@@ -4,7 +4,7 @@ use Rattle.layout.specs.Layout.{bits_of, number_of, spread, gather, lay_out, cut
 use Rattle.setup_read.specs.Codes.{bytes_of_code, code_of}
 use Rattle.setup_read.specs.Clc as Clc
 use Rattle.setup.specs.Setup.{our_proposal, ours as oursOf, our_decline, arguments_of, silent, saying, taken_b, answered_of, heard_of, setup_of}
-use Rattle.rows_setup.specs.Rows.{codes, CodesRight, ours, rows, RowsRight, sorts, SortsRight}
+use Rattle.rows_setup.specs.Rows.{codes, CodesRight, ours, rows, RowsRight, NumbersRight, sorts, SortsRight}
 
 pub codes_right : CodesRight
 unfolding bytes_of_code code_of codes
@@ -20,3 +20,6 @@ rows_right = refl
 pub sorts_right : SortsRight
 unfolding bits_of number_of spread gather number_at Clc.begins_b Clc.sized_b Clc.message_b Clc.kind_of Clc.kind_in sorts
 sorts_right = refl
+
+pub numbers_right : NumbersRight
+numbers_right = record { uncoded = refl; no_message = refl; not_due = refl }

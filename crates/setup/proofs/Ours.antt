@@ -1,5 +1,6 @@
 -- Our own messages: they fit, are short, and are read as they were meant.
 -- Assumes nothing.
+use Rattle.std.specs.Prelude.{None}
 use Prim.Native.Nat.{ℕ, zero, suc, ◌+◌, ◌-◌, ◌*◌, ◌%◌, ◌≤◌, ◌<◌, min}
 use mathlib.Core.Path.{◌≡◌, ◌∙◌, refl, ap, sym}
 use mathlib.Core.Bool.{Bool, true, false, ◌&&◌, cond}
@@ -13,7 +14,7 @@ use Rattle.layout.specs.Layout.{written_of}
 use Rattle.layout.proofs.Bits.{and_left, gather_length}
 use Rattle.layout.proofs.Places.{zeros_bytes}
 use Rattle.setup_read.specs.declared.Kind.{Kind}
-use Rattle.setup_read.specs.declared.Kind.TheVariants.{Nothing, Accept, Confirm}
+use Rattle.setup_read.specs.declared.Kind.TheVariants.{Accept, Confirm}
 use Rattle.setup_read.specs.declared.Message.{Message}
 use Rattle.setup_read.specs.Codes.{code_of, no_code}
 use Rattle.setup_read.specs.Clc.{type_of, table, chosen, restored, values, message_of, lines_of, chosen_of, size_of, fits_of, encode_of, writes_b}
@@ -22,11 +23,10 @@ use Rattle.setup_read.specs.Places.{zeros}
 use Rattle.setup_read.proofs.Codes.{code_most}
 use Rattle.setup_read.proofs.Messages.{kind_none}
 use Rattle.setup_write.proofs.Known as K
-use Rattle.setup_write.proofs.Fits.{endpoint_fits, proposal_fit, decline_fit, endpoint_fit}
+use Rattle.setup_write.proofs.Fits.{endpoint_fits, proposal_fit, decline_fit, accept_fit, confirm_fit}
 use Rattle.setup_write.proofs.RoundTrip.{reads_back}
 use Rattle.setup.specs.declared.Settings.{Settings}
-use Rattle.setup.specs.declared.Outcome.{Outcome}
-use Rattle.setup.specs.Setup.{our_proposal, ours, our_accept, our_confirm, our_decline, saying}
+use Rattle.setup.specs.Setup.{Outcome, our_proposal, ours, our_accept, our_confirm, our_decline, saying}
 use Rattle.setup.specs.Statements.{Bytes, Typed, said, Says}
 
 as_bytes : {n : ℕ} {b : List ℕ} → Bytes n b → K.Bytes n b
@@ -135,29 +135,29 @@ module _ (s : Settings) (t : Typed s) where
   pub accept_fine : code_of s.size < no_code → Fine (our_accept s)
   unfolding ours
   accept_fine h =
-      let e = endpoint_fit (our_accept s) (ours_typed Accept s.first) 2 refl refl in
+      let e = accept_fit (our_accept s) (ours_typed Accept s.first) refl in
       record { fit = e.0 ∙ ours_fits Accept s.first h; short = omega (arith, e.1) }
 
   pub confirm_fine : code_of s.size < no_code → Fine (our_confirm s)
   unfolding ours
   confirm_fine h =
-      let e = endpoint_fit (our_confirm s) (ours_typed Confirm false) 3 refl refl in
+      let e = confirm_fit (our_confirm s) (ours_typed Confirm false) refl in
       record { fit = e.0 ∙ ours_fits Confirm false h; short = omega (arith, e.1) }
 
   pub decline_fine : Fine (our_decline s)
   unfolding our_decline
   decline_fine =
-      let e = decline_fit (our_decline s) decline_typed 4 refl refl in
-      record { fit = e.1; short = omega (arith, e.2) }
+      let e = decline_fit (our_decline s) decline_typed refl in
+      record { fit = e.0; short = omega (arith, e.1) }
 
   pub proposal_fine : Fine (our_proposal s)
   unfolding our_proposal
   proposal_fine =
-      let e = proposal_fit (our_proposal s) proposal_typed 1 refl refl in
+      let e = proposal_fit (our_proposal s) proposal_typed refl in
       let n = min s.count 8 in
       record {
-        fit = e.1 ∙ simp (le-leb n 8 (omega arith), le-leb (52 + 0 + 17 * n) 65535 (omega arith));
-        short = omega (arith, e.2);
+        fit = e.0 ∙ simp (le-leb n 8 (omega arith), le-leb (52 + 0 + 17 * n) 65535 (omega arith));
+        short = omega (arith, e.1);
       }
 
 known_kind : (m : Message) → fits_of m ≡ true → 1 ≤ type_of m.kind
@@ -217,7 +217,7 @@ module _ (m : Message) (f : fits_of m ≡ true) (h : size_of m ≤ 188) (o : Out
       is_one : (b : Bool) → message_b (said (saying m o)) ≡ b → message_b (said (saying m o)) ≡ true
       is_one true e = e
       is_one false e =
-          let k : m.kind ≡ Nothing = sym say_kind ∙ kind_none (said (saying m o)) e in
+          let k : m.kind ≡ None = sym say_kind ∙ kind_none (said (saying m o)) e in
           absurd (omega (arith, known, ap type_of k))
 
 -- an Accept and a Confirm of ours read back whole

@@ -1,5 +1,6 @@
 -- Request 2026-05, "Proved", of the call.
 -- Assumes nothing.
+use Rattle.std.specs.Prelude.{Option, Some, None, Err}
 use Prim.Native.Nat.{ℕ, suc, ◌/◌, ◌≤◌, ◌<◌}
 use mathlib.Core.Path.{◌≡◌, ◌∙◌, refl, ap, sym, subst}
 use mathlib.Core.Logic.{◌⊎◌, inl, inr}
@@ -12,7 +13,7 @@ use Rattle.layout.specs.Layout.{number_at}
 use borrow.Author.Tests.{ne_eqb, le-leb, leb-true, leb-false, eqb-true, eqb-false}
 use Rattle.layout.proofs.Bits.{and_left, and_right}
 use Rattle.setup_read.specs.declared.Kind.{Kind}
-use Rattle.setup_read.specs.declared.Kind.TheVariants.{Nothing, Proposal, Accept, Confirm, Decline}
+use Rattle.setup_read.specs.declared.Kind.TheVariants.{Proposal, Accept, Confirm, Decline}
 use Rattle.setup_read.specs.declared.Message.{Message}
 use Rattle.setup_read.specs.Codes.{bytes_of_code, code_of, no_code}
 use Rattle.setup_read.specs.Clc.{type_of, begins_b, message_b, kind_of, kind_in, message_of, message_in, read_of, tidy_of}
@@ -23,12 +24,9 @@ use Rattle.setup_read.proofs.Reading.{accept_read, confirm_read}
 use Rattle.setup.specs.declared.Settings.{Settings}
 use Rattle.setup.specs.declared.Due.{Due}
 use Rattle.setup.specs.declared.Arguments.{Arguments}
-use Rattle.setup.specs.declared.Opening.TheVariants.{Open}
-use Rattle.setup.specs.declared.Diagnosis.TheVariants.{NoDiagnosis}
-use Rattle.setup.specs.declared.Outcome.{Outcome}
-use Rattle.setup.specs.declared.Outcome.TheVariants.{Refused, Answered}
 use Rattle.setup.specs.declared.Answer.{Answer}
-use Rattle.setup.specs.Setup.{due_type, our_proposal, ours, our_accept, our_confirm, our_decline, arguments_of, silent, saying, plain}
+use Rattle.setup.specs.declared.Refusal.TheVariants.{Uncoded, NoMessage, NotDue}
+use Rattle.setup.specs.Setup.{due_type, Outcome, answers, our_proposal, ours, our_accept, our_confirm, our_decline, arguments_of, silent, saying, plain}
 use Rattle.setup.specs.Setup.{opens, declines, taken_b, answered_of, heard_of, setup_of}
 use Rattle.setup.specs.Statements.{Typed, said, Says, StartEqual, HeardDecline, EveryMessage, first, second, third, fourth}
 use Rattle.setup.specs.Statements.{AnswersDue, TooLarge, Declined, opened_with_of, Exchange, ServerDeclined, ClientDeclined}
@@ -39,6 +37,19 @@ proposal_type : (s : Settings) → type_of (our_proposal s).kind < 4
 unfolding our_proposal
 proposal_type s = omega arith
 
+-- another kind's type
+pub not_decline : (k : Kind) → (k ≡ Decline → ⊥) → (1 ≤ type_of (Some k)) × (type_of (Some k) < 4)
+not_decline Proposal h = (omega arith, omega arith)
+not_decline Accept h = (omega arith, omega arith)
+not_decline Confirm h = (omega arith, omega arith)
+not_decline Decline h = absurd (h refl)
+
+-- what is due has a type
+pub due_some : (d : Due) → eqb (due_type (Some d)) 0 ≡ false
+due_some Due.Proposal = refl
+due_some Due.Accept = refl
+due_some Due.Confirm = refl
+
 pub start_equal : StartEqual
 unfolding setup_of
 start_equal s a b = refl
@@ -48,40 +59,40 @@ module _ (s : Settings) (h : code_of s.size < no_code) (l : List ℕ) where
   coded : eqb (code_of s.size) no_code ≡ false
   coded = ne_eqb (code_of s.size) no_code (λ e. omega arith)
 
-  start_is : setup_of s Due.Nothing l ≡ saying (our_proposal s) plain
+  start_is : setup_of s None l ≡ saying (our_proposal s) plain
   unfolding setup_of
   start_is = simp coded
 
-  hears : (due : Due) → 1 ≤ due_type due → setup_of s due l ≡ heard_of s (due_type due) (read_of l)
+  hears : (due : Option Due) → 1 ≤ due_type due → setup_of s due l ≡ heard_of s (due_type due) (read_of l)
   unfolding setup_of
-  hears Due.Nothing g = absurd (omega arith)
-  hears Due.Proposal g = simp coded
-  hears Due.Accept g = simp coded
-  hears Due.Confirm g = simp coded
+  hears None g = absurd (omega arith)
+  hears (Some Due.Proposal) g = simp coded
+  hears (Some Due.Accept) g = simp coded
+  hears (Some Due.Confirm) g = simp coded
 
 -- what is heard, by its kind
 module _ (s : Settings) (m : Message) where
-  heard_decline : (d : ℕ) → m.kind ≡ Decline → heard_of s d m ≡ silent (declines m.diagnosis)
+  heard_decline : (d : ℕ) → m.kind ≡ Some Decline → heard_of s d m ≡ silent (declines m.diagnosis)
   unfolding heard_of
   heard_decline d e = simp e
 
-  heard_proposal : m.kind ≡ Proposal → heard_of s 1 m ≡ saying (our_accept s) plain
+  heard_proposal : m.kind ≡ Some Proposal → heard_of s 1 m ≡ saying (our_accept s) plain
   unfolding heard_of answered_of
   heard_proposal e = simp e
 
-  heard_accept : m.kind ≡ Accept → taken_b m.code ≡ true → heard_of s 2 m ≡ saying (our_confirm s) (opens s m)
+  heard_accept : m.kind ≡ Some Accept → taken_b m.code ≡ true → heard_of s 2 m ≡ saying (our_confirm s) (opens s m)
   unfolding heard_of answered_of
   heard_accept e t = simp (e, t)
 
-  heard_large_accept : m.kind ≡ Accept → taken_b m.code ≡ false → heard_of s 2 m ≡ saying (our_decline s) (declines 1)
+  heard_large_accept : m.kind ≡ Some Accept → taken_b m.code ≡ false → heard_of s 2 m ≡ saying (our_decline s) (declines 1)
   unfolding heard_of answered_of
   heard_large_accept e t = simp (e, t)
 
-  heard_confirm : m.kind ≡ Confirm → taken_b m.code ≡ true → heard_of s 3 m ≡ silent (opens s m)
+  heard_confirm : m.kind ≡ Some Confirm → taken_b m.code ≡ true → heard_of s 3 m ≡ silent (opens s m)
   unfolding heard_of answered_of
   heard_confirm e t = simp (e, t)
 
-  heard_large_confirm : m.kind ≡ Confirm → taken_b m.code ≡ false → heard_of s 3 m ≡ saying (our_decline s) (declines 1)
+  heard_large_confirm : m.kind ≡ Some Confirm → taken_b m.code ≡ false → heard_of s 3 m ≡ saying (our_decline s) (declines 1)
   unfolding heard_of answered_of
   heard_large_confirm e t = simp (e, t)
 
@@ -142,7 +153,7 @@ module _ (c s : Settings) (l : List ℕ) (tc : Typed c) (ts : Typed s) (hc : cod
   unfolding second tidy_of message_of our_proposal
   second_is =
       let p = proposal_fine c tc in
-      hears s hs (said (first c l)) Due.Proposal (omega arith)
+      hears s hs (said (first c l)) (Some Due.Proposal) (omega arith)
       ∙ ap (λ (a : Answer). heard_of s 1 (read_of (said a))) first-is
       ∙ ap (heard_of s 1) (say_back (our_proposal c) p.fit p.short plain)
       ∙ heard_proposal s (tidy_of (our_proposal c)) refl
@@ -152,16 +163,16 @@ module _ (c s : Settings) (l : List ℕ) (tc : Typed c) (ts : Typed s) (hc : cod
   unfolding third
   heard_of_accept =
       let p = accept_fine s ts hs in
-      hears c hc (said (second c s l)) Due.Accept (omega arith)
+      hears c hc (said (second c s l)) (Some Due.Accept) (omega arith)
       ∙ ap (λ (a : Answer). heard_of c 2 (read_of (said a))) second_is
       ∙ ap (heard_of c 2) (say_back (our_accept s) p.fit p.short plain ∙ accept_tidy s)
 
-  third_opens : code_of s.size ≤ 2 → third c s l ≡ saying (our_confirm c) (Answered (Open (opened_with_of c s)) NoDiagnosis)
+  third_opens : code_of s.size ≤ 2 → third c s l ≡ saying (our_confirm c) (answers (Some (opened_with_of c s)) None)
   unfolding ours
   third_opens h =
       heard_of_accept
       ∙ heard_accept c (our_accept s) refl (taken_small (code_of s.size) h)
-      ∙ ap (λ (x : Arguments). saying (our_confirm c) (Answered (Open x) NoDiagnosis)) (opened_with c s Accept s.first hs)
+      ∙ ap (λ (x : Arguments). saying (our_confirm c) (answers (Some x) None)) (opened_with c s Accept s.first hs)
 
   third_declines : 3 ≤ code_of s.size → third c s l ≡ saying (our_decline c) (declines 1)
   unfolding ours
@@ -172,7 +183,7 @@ module _ (c s : Settings) (l : List ℕ) (tc : Typed c) (ts : Typed s) (hc : cod
   unfolding fourth
   heard_of_confirm h =
       let p = confirm_fine c tc hc in
-      hears s hs (said (third c s l)) Due.Confirm (omega arith)
+      hears s hs (said (third c s l)) (Some Due.Confirm) (omega arith)
       ∙ ap (λ (a : Answer). heard_of s 3 (read_of (said a))) (third_opens h)
       ∙ ap (heard_of s 3) (say_back (our_confirm c) p.fit p.short _ ∙ confirm_tidy c)
 
@@ -180,7 +191,7 @@ module _ (c s : Settings) (l : List ℕ) (tc : Typed c) (ts : Typed s) (hc : cod
   unfolding fourth our_decline
   heard_of_decline h =
       let p = decline_fine c tc in
-      hears s hs (said (third c s l)) Due.Confirm (omega arith)
+      hears s hs (said (third c s l)) (Some Due.Confirm) (omega arith)
       ∙ ap (λ (a : Answer). heard_of s 3 (read_of (said a))) (third_declines h)
       ∙ ap (heard_of s 3) (say_back (our_decline c) p.fit p.short (declines 1) ∙ decline_tidy c)
       ∙ heard_decline s (our_decline c) 3 refl
@@ -214,7 +225,7 @@ exchange c s l tc ts kc ks =
       server =
           heard_of_confirm c s l tc ts hc hs ks
           ∙ heard_confirm s (our_confirm c) refl (taken_small (code_of c.size) kc)
-          ∙ ap (λ (x : Arguments). silent (Answered (Open x) NoDiagnosis)) (opened_with s c Confirm false hc);
+          ∙ ap (λ (x : Arguments). silent (answers (Some x) None)) (opened_with s c Confirm false hc);
     }
 
 pub server_declined : ServerDeclined
@@ -238,14 +249,14 @@ client_declined c s l tc ts low high ks =
     record { declined = said_kind _ (our_decline s) _ (decline_fine s ts) e4; server = said_outcome _ (our_decline s) _ e4 }
 
 -- every message answered is one of ours, by what is due
-abbrev One : Settings → Due → Answer → Type 0
+abbrev One : Settings → Option Due → Answer → Type 0
 One s due a = (a.count ≡ 0) ⊎ AnswersDue s due a
 
-either : (s : Settings) (due : Due) (t : Bool) (a b : Answer) → One s due a → One s due b → One s due (cond t a b)
+either : (s : Settings) (due : Option Due) (t : Bool) (a b : Answer) → One s due a → One s due b → One s due (cond t a b)
 either s due true a b x y = x
 either s due false a b x y = y
 
-none_said : (s : Settings) (due : Due) (o : Outcome) → One s due (silent o)
+none_said : (s : Settings) (due : Option Due) (o : Outcome) → One s due (silent o)
 unfolding silent
 none_said s due o = inl refl
 
@@ -262,30 +273,30 @@ module _ (s : Settings) (t : Typed s) (h : code_of s.size < no_code) where
   pub decline_said : (o : Outcome) → Says (saying (our_decline s) o) (our_decline s)
   decline_said o = let p = decline_fine s t in says (our_decline s) p.fit p.short o
 
-  answered_said : (due : Due) (m : Message) → 1 ≤ due_type due → One s due (answered_of s m (due_type due))
+  answered_said : (due : Option Due) (m : Message) → 1 ≤ due_type due → One s due (answered_of s m (due_type due))
   unfolding answered_of
-  answered_said Due.Nothing m g = absurd (omega arith)
-  answered_said Due.Proposal m g = inr (accept_said plain)
-  answered_said Due.Accept m g =
-      either s Due.Accept (taken_b m.code) _ _ (inr (inl (confirm_said (opens s m)))) (inr (inr (decline_said (declines 1))))
-  answered_said Due.Confirm m g =
-      either s Due.Confirm (taken_b m.code) _ _ (none_said s Due.Confirm (opens s m)) (inr (decline_said (declines 1)))
+  answered_said None m g = absurd (omega arith)
+  answered_said (Some Due.Proposal) m g = inr (accept_said plain)
+  answered_said (Some Due.Accept) m g =
+      either s (Some Due.Accept) (taken_b m.code) _ _ (inr (inl (confirm_said (opens s m)))) (inr (inr (decline_said (declines 1))))
+  answered_said (Some Due.Confirm) m g =
+      either s (Some Due.Confirm) (taken_b m.code) _ _ (none_said s (Some Due.Confirm) (opens s m)) (inr (decline_said (declines 1)))
 
-  heard_said : (due : Due) (m : Message) → 1 ≤ due_type due → One s due (heard_of s (due_type due) m)
+  heard_said : (due : Option Due) (m : Message) → 1 ≤ due_type due → One s due (heard_of s (due_type due) m)
   unfolding heard_of
   heard_said due m g =
-      either s due (eqb (type_of m.kind) 0) _ _ (none_said s due (Refused 2))
+      either s due (eqb (type_of m.kind) 0) _ _ (none_said s due (Err NoMessage))
       (either s due (eqb (type_of m.kind) 4) _ _ (none_said s due (declines m.diagnosis))
-      (either s due (eqb (type_of m.kind) (due_type due)) _ _ (answered_said due m g) (none_said s due (Refused 3))))
+      (either s due (eqb (type_of m.kind) (due_type due)) _ _ (answered_said due m g) (none_said s due (Err NotDue))))
 
-  due_said : (due : Due) (l : List ℕ) → One s due (setup_of s due l)
-  due_said Due.Nothing l = subst (One s Due.Nothing) (sym (start_is s h l)) (inr (proposal_said plain))
-  due_said Due.Proposal l =
-      subst (One s Due.Proposal) (sym (hears s h l Due.Proposal (omega arith))) (heard_said Due.Proposal (read_of l) (omega arith))
-  due_said Due.Accept l =
-      subst (One s Due.Accept) (sym (hears s h l Due.Accept (omega arith))) (heard_said Due.Accept (read_of l) (omega arith))
-  due_said Due.Confirm l =
-      subst (One s Due.Confirm) (sym (hears s h l Due.Confirm (omega arith))) (heard_said Due.Confirm (read_of l) (omega arith))
+  due_said : (due : Option Due) (l : List ℕ) → One s due (setup_of s due l)
+  due_said None l = subst (One s None) (sym (start_is s h l)) (inr (proposal_said plain))
+  due_said (Some Due.Proposal) l =
+      subst (One s (Some Due.Proposal)) (sym (hears s h l (Some Due.Proposal) (omega arith))) (heard_said (Some Due.Proposal) (read_of l) (omega arith))
+  due_said (Some Due.Accept) l =
+      subst (One s (Some Due.Accept)) (sym (hears s h l (Some Due.Accept) (omega arith))) (heard_said (Some Due.Accept) (read_of l) (omega arith))
+  due_said (Some Due.Confirm) l =
+      subst (One s (Some Due.Confirm)) (sym (hears s h l (Some Due.Confirm) (omega arith))) (heard_said (Some Due.Confirm) (read_of l) (omega arith))
 
 below : (n : ℕ) → n ≤ no_code → eqb n no_code ≡ false → n < no_code
 below n h e = let ne : n ≡ no_code → ⊥ = eqb-false n no_code e in go (leb (suc n) no_code) refl ne
@@ -294,43 +305,43 @@ below n h e = let ne : n ≡ no_code → ⊥ = eqb-false n no_code e in go (leb 
     go true f ne = leb-true (suc n) no_code f
     go false f ne = absurd (ne (omega (arith, leb-false (suc n) no_code f)))
 
-uncoded : (s : Settings) (due : Due) (l : List ℕ) → eqb (code_of s.size) no_code ≡ true → setup_of s due l ≡ silent (Refused 1)
+uncoded : (s : Settings) (due : Option Due) (l : List ℕ) → eqb (code_of s.size) no_code ≡ true → setup_of s due l ≡ silent (Err Uncoded)
 unfolding setup_of
 uncoded s due l e = simp e
 
 -- N has no code, or one
-pub by_code : (s : Settings) (due : Due) (l : List ℕ) → (setup_of s due l ≡ silent (Refused 1)) ⊎ (code_of s.size < no_code)
+pub by_code : (s : Settings) (due : Option Due) (l : List ℕ) → (setup_of s due l ≡ silent (Err Uncoded)) ⊎ (code_of s.size < no_code)
 by_code s due l = go (eqb (code_of s.size) no_code) refl
   where
-    go : (b : Bool) → eqb (code_of s.size) no_code ≡ b → (setup_of s due l ≡ silent (Refused 1)) ⊎ (code_of s.size < no_code)
+    go : (b : Bool) → eqb (code_of s.size) no_code ≡ b → (setup_of s due l ≡ silent (Err Uncoded)) ⊎ (code_of s.size < no_code)
     go true e = inl (uncoded s due l e)
     go false e = inr (below (code_of s.size) (code_most s.size) e)
 
 pub every_message : EveryMessage
 every_message s due l t = go (by_code s due l)
   where
-    go : (setup_of s due l ≡ silent (Refused 1)) ⊎ (code_of s.size < no_code) → One s due (setup_of s due l)
-    go (inl e) = subst (One s due) (sym e) (none_said s due (Refused 1))
+    go : (setup_of s due l ≡ silent (Err Uncoded)) ⊎ (code_of s.size < no_code) → One s due (setup_of s due l)
+    go (inl e) = subst (One s due) (sym e) (none_said s due (Err Uncoded))
     go (inr h) = due_said s t h due l
 
 -- DECLINED BY US EXACTLY WHEN
-clash : {A : Type 0} (x y : Kind) → type_of x < type_of y → x ≡ y → A
+clash : {A : Type 0} (x y : Option Kind) → type_of x < type_of y → x ≡ y → A
 clash x y h e = absurd (omega (arith, h, ap type_of e))
 
 -- what is read of an Accept or a Confirm
-endpoint_code : (l : List ℕ) (k : Kind) → 2 ≤ type_of k → type_of k ≤ 3 → kind_in l ≡ k → (read_of l).code ≡ number_at l 50 1 / 16
+endpoint_code : (l : List ℕ) (k : Option Kind) → 2 ≤ type_of k → type_of k ≤ 3 → kind_in l ≡ k → (read_of l).code ≡ number_at l 50 1 / 16
 unfolding kind_of endpoint_at
 endpoint_code l k low high e = go (message_b l) refl
   where
-    typed : (t : ℕ) → kind_of t ≡ k → (t ≡ 1 → ⊥) × (t ≡ 4 → ⊥)
-    typed t c = ((λ one. absurd (omega (arith, low, ap type_of (sym c ∙ ap kind_of one)))), (λ four. absurd (omega (arith, high, ap type_of (sym c ∙ ap kind_of four)))))
+    typed : (t : ℕ) → Some (kind_of t) ≡ k → (t ≡ 1 → ⊥) × (t ≡ 4 → ⊥)
+    typed t c = ((λ one. absurd (omega (arith, low, ap type_of (sym c ∙ ap (λ (n : ℕ). Some (kind_of n)) one)))), (λ four. absurd (omega (arith, high, ap type_of (sym c ∙ ap (λ (n : ℕ). Some (kind_of n)) four)))))
 
-    read : (j : Kind) → j ≡ k → length l ≡ 68 → kind_in l ≡ j → (read_of l).code ≡ number_at l 50 1 / 16
-    read Nothing c n i = absurd (omega (arith, low, ap type_of c))
-    read Proposal c n i = absurd (omega (arith, low, ap type_of c))
-    read Accept c n i = ap (λ (m : Message). m.code) (read_kind l Accept i ∙ accept_read l (omega (arith, n)))
-    read Confirm c n i = ap (λ (m : Message). m.code) (read_kind l Confirm i ∙ confirm_read l (omega (arith, n)))
-    read Decline c n i = absurd (omega (arith, high, ap type_of c))
+    read : (j : Option Kind) → j ≡ k → length l ≡ 68 → kind_in l ≡ j → (read_of l).code ≡ number_at l 50 1 / 16
+    read None c n i = absurd (omega (arith, low, ap type_of c))
+    read (Some Proposal) c n i = absurd (omega (arith, low, ap type_of c))
+    read (Some Accept) c n i = ap (λ (m : Message). m.code) (read_kind l (Some Accept) i ∙ accept_read l (omega (arith, n)))
+    read (Some Confirm) c n i = ap (λ (m : Message). m.code) (read_kind l (Some Confirm) i ∙ confirm_read l (omega (arith, n)))
+    read (Some Decline) c n i = absurd (omega (arith, high, ap type_of c))
 
     go : (b : Bool) → message_b l ≡ b → (read_of l).code ≡ number_at l 50 1 / 16
     go true m =
@@ -347,46 +358,46 @@ no_bytes : message_b [] ≡ false
 unfolding message_b begins_b
 no_bytes = refl
 
-silent_kind : (o : Outcome) → kind_in (said (silent o)) ≡ Nothing
+silent_kind : (o : Outcome) → kind_in (said (silent o)) ≡ None
 unfolding silent
 silent_kind o = kind_none [] no_bytes
 
-module _ (s : Settings) (due : Due) (l : List ℕ) (t : Typed s) where
+module _ (s : Settings) (due : Option Due) (l : List ℕ) (t : Typed s) where
   -- then it is a Decline
   declined_is : TooLarge s due l → setup_of s due l ≡ saying (our_decline s) (declines 1)
   declined_is x = go x.heard
     where
-      go : ((due ≡ Due.Accept) × (kind_in l ≡ Accept)) ⊎ ((due ≡ Due.Confirm) × (kind_in l ≡ Confirm))
+      go : ((due ≡ Some Due.Accept) × (kind_in l ≡ Some Accept)) ⊎ ((due ≡ Some Due.Confirm) × (kind_in l ≡ Some Confirm))
           → setup_of s due l ≡ saying (our_decline s) (declines 1)
       go (inl a) =
-          let c = endpoint_code l Accept (omega arith) (omega arith) a.1 in
-          ap (λ (d : Due). setup_of s d l) a.0
-          ∙ hears s x.coded l Due.Accept (omega arith)
+          let c = endpoint_code l (Some Accept) (omega arith) (omega arith) a.1 in
+          ap (λ (d : Option Due). setup_of s d l) a.0
+          ∙ hears s x.coded l (Some Due.Accept) (omega arith)
           ∙ heard_large_accept s (read_of l) (read_type l ∙ a.1) (taken_large (read_of l).code (omega (arith, c, x.code)))
       go (inr a) =
-          let c = endpoint_code l Confirm (omega arith) (omega arith) a.1 in
-          ap (λ (d : Due). setup_of s d l) a.0
-          ∙ hears s x.coded l Due.Confirm (omega arith)
+          let c = endpoint_code l (Some Confirm) (omega arith) (omega arith) a.1 in
+          ap (λ (d : Option Due). setup_of s d l) a.0
+          ∙ hears s x.coded l (Some Due.Confirm) (omega arith)
           ∙ heard_large_confirm s (read_of l) (read_type l ∙ a.1) (taken_large (read_of l).code (omega (arith, c, x.code)))
 
   -- a Decline comes of nothing else
-  not_silent : {A : Type 0} (o : Outcome) → kind_in (said (silent o)) ≡ Decline → A
-  not_silent o e = clash Nothing Decline (omega arith) (sym (silent_kind o) ∙ e)
+  not_silent : {A : Type 0} (o : Outcome) → kind_in (said (silent o)) ≡ Some Decline → A
+  not_silent o e = clash None (Some Decline) (omega arith) (sym (silent_kind o) ∙ e)
 
-  not_said : {A : Type 0} (m : Message) (o : Outcome) → Fine m → type_of m.kind < 4 → kind_in (said (saying m o)) ≡ Decline → A
+  not_said : {A : Type 0} (m : Message) (o : Outcome) → Fine m → type_of m.kind < 4 → kind_in (said (saying m o)) ≡ Some Decline → A
   not_said m o p h e = absurd (omega (arith, h, ap type_of (sym (say_kind m p.fit p.short o) ∙ e)))
 
   module _ (h : code_of s.size < no_code) where
     tested : (m : Message) (d : ℕ) (none declined due_is one taken two : Bool)
         → kind_in
         (said
-        (cond none (silent (Refused 2))
+        (cond none (silent (Err NoMessage))
         (cond declined (silent (declines m.diagnosis))
         (cond due_is
         (cond one (saying (our_accept s) plain)
         (cond taken (cond two (saying (our_confirm s) (opens s m)) (silent (opens s m))) (saying (our_decline s) (declines 1))))
-        (silent (Refused 3))))))
-        ≡ Decline
+        (silent (Err NotDue))))))
+        ≡ Some Decline
         → (due_is ≡ true) × (one ≡ false) × (taken ≡ false)
     unfolding ours
     tested m d true b c e f g x = not_silent _ x
@@ -397,7 +408,7 @@ module _ (s : Settings) (due : Due) (l : List ℕ) (t : Typed s) where
     tested m d false false true false true false x = not_silent _ x
     tested m d false false true false false g x = (refl, refl, refl)
 
-    by_tests : (d : ℕ) (m : Message) → kind_in (said (heard_of s d m)) ≡ Decline
+    by_tests : (d : ℕ) (m : Message) → kind_in (said (heard_of s d m)) ≡ Some Decline
         → (eqb (type_of m.kind) d ≡ true) × (eqb d 1 ≡ false) × (taken_b m.code ≡ false)
     unfolding heard_of answered_of
     by_tests d m x =
@@ -410,56 +421,56 @@ module _ (s : Settings) (due : Due) (l : List ℕ) (t : Typed s) where
         go true f = leb-true 3 c f
         go false f = let u : true ≡ false = sym (taken_small c (omega (arith, leb-false 3 c f))) ∙ e in let z : ◌≡◌ {A = ℕ} 0 1 = cc in absurd (omega arith)
 
-    kind_of_lem : (k j : Kind) → eqb (type_of k) (type_of j) ≡ true → 2 ≤ type_of j → type_of j ≤ 3 → k ≡ j
+    kind_of_lem : (k j : Option Kind) → eqb (type_of k) (type_of j) ≡ true → 2 ≤ type_of j → type_of j ≤ 3 → k ≡ j
     kind_of_lem k j e a b = go k j (eqb-true (type_of k) (type_of j) e) a b
       where
-        go : (k j : Kind) → type_of k ≡ type_of j → 2 ≤ type_of j → type_of j ≤ 3 → k ≡ j
-        go Accept Accept e a b = refl
-        go Confirm Confirm e a b = refl
-        go Nothing j e a b = absurd (omega (arith, e, a))
-        go Proposal j e a b = absurd (omega (arith, e, a))
-        go Decline j e a b = absurd (omega (arith, e, b))
-        go Accept Nothing e a b = absurd (omega (arith, e))
-        go Accept Proposal e a b = absurd (omega (arith, e))
-        go Accept Confirm e a b = absurd (omega (arith, e))
-        go Accept Decline e a b = absurd (omega (arith, e))
-        go Confirm Nothing e a b = absurd (omega (arith, e))
-        go Confirm Proposal e a b = absurd (omega (arith, e))
-        go Confirm Accept e a b = absurd (omega (arith, e))
-        go Confirm Decline e a b = absurd (omega (arith, e))
+        go : (k j : Option Kind) → type_of k ≡ type_of j → 2 ≤ type_of j → type_of j ≤ 3 → k ≡ j
+        go (Some Accept) (Some Accept) e a b = refl
+        go (Some Confirm) (Some Confirm) e a b = refl
+        go None j e a b = absurd (omega (arith, e, a))
+        go (Some Proposal) j e a b = absurd (omega (arith, e, a))
+        go (Some Decline) j e a b = absurd (omega (arith, e, b))
+        go (Some Accept) None e a b = absurd (omega (arith, e))
+        go (Some Accept) (Some Proposal) e a b = absurd (omega (arith, e))
+        go (Some Accept) (Some Confirm) e a b = absurd (omega (arith, e))
+        go (Some Accept) (Some Decline) e a b = absurd (omega (arith, e))
+        go (Some Confirm) None e a b = absurd (omega (arith, e))
+        go (Some Confirm) (Some Proposal) e a b = absurd (omega (arith, e))
+        go (Some Confirm) (Some Accept) e a b = absurd (omega (arith, e))
+        go (Some Confirm) (Some Decline) e a b = absurd (omega (arith, e))
 
     -- of an Accept or a Confirm that was due
-    of_due : (j : Kind) → 2 ≤ type_of j → type_of j ≤ 3 → kind_in (said (heard_of s (type_of j) (read_of l))) ≡ Decline
+    of_due : (j : Option Kind) → 2 ≤ type_of j → type_of j ≤ 3 → kind_in (said (heard_of s (type_of j) (read_of l))) ≡ Some Decline
         → (kind_in l ≡ j) × (3 ≤ number_at l 50 1 / 16)
     of_due j a b x =
         let y = by_tests (type_of j) (read_of l) x in
-        let k = kind_of_lem (kind_in l) j (ap (λ (k : Kind). eqb (type_of k) (type_of j)) (sym (read_type l)) ∙ y.0) a b in
+        let k = kind_of_lem (kind_in l) j (ap (λ (k : Option Kind). eqb (type_of k) (type_of j)) (sym (read_type l)) ∙ y.0) a b in
         let c = endpoint_code l j a b k in
         (k, omega (arith, c, large (read_of l).code y.2))
 
-  from_decline : kind_in (said (setup_of s due l)) ≡ Decline → TooLarge s due l
+  from_decline : kind_in (said (setup_of s due l)) ≡ Some Decline → TooLarge s due l
   from_decline x = go (by_code s due l)
     where
-      by_due : (h : code_of s.size < no_code) (d : Due) → due ≡ d → kind_in (said (setup_of s d l)) ≡ Decline → TooLarge s due l
-      by_due h Due.Nothing e y =
+      by_due : (h : code_of s.size < no_code) (d : Option Due) → due ≡ d → kind_in (said (setup_of s d l)) ≡ Some Decline → TooLarge s due l
+      by_due h None e y =
           let z = ap (λ (a : Answer). kind_in (said a)) (sym (start_is s h l)) ∙ y in
           not_said (our_proposal s) plain (proposal_fine s t) (proposal_type s) z
-      by_due h Due.Proposal e y =
-          let z = ap (λ (a : Answer). kind_in (said a)) (sym (hears s h l Due.Proposal (omega arith))) ∙ y in
+      by_due h (Some Due.Proposal) e y =
+          let z = ap (λ (a : Answer). kind_in (said a)) (sym (hears s h l (Some Due.Proposal) (omega arith))) ∙ y in
           let u : true ≡ false = (by_tests h 1 (read_of l) z).1 in
           let n : ◌≡◌ {A = ℕ} 0 1 = cc in
           absurd (omega arith)
-      by_due h Due.Accept e y =
-          let z = ap (λ (a : Answer). kind_in (said a)) (sym (hears s h l Due.Accept (omega arith))) ∙ y in
-          let r = of_due h Accept (omega arith) (omega arith) z in
+      by_due h (Some Due.Accept) e y =
+          let z = ap (λ (a : Answer). kind_in (said a)) (sym (hears s h l (Some Due.Accept) (omega arith))) ∙ y in
+          let r = of_due h (Some Accept) (omega arith) (omega arith) z in
           record { coded = h; heard = inl (e, r.0); code = r.1 }
-      by_due h Due.Confirm e y =
-          let z = ap (λ (a : Answer). kind_in (said a)) (sym (hears s h l Due.Confirm (omega arith))) ∙ y in
-          let r = of_due h Confirm (omega arith) (omega arith) z in
+      by_due h (Some Due.Confirm) e y =
+          let z = ap (λ (a : Answer). kind_in (said a)) (sym (hears s h l (Some Due.Confirm) (omega arith))) ∙ y in
+          let r = of_due h (Some Confirm) (omega arith) (omega arith) z in
           record { coded = h; heard = inr (e, r.0); code = r.1 }
 
-      go : (setup_of s due l ≡ silent (Refused 1)) ⊎ (code_of s.size < no_code) → TooLarge s due l
-      go (inl e) = not_silent (Refused 1) (ap (λ (a : Answer). kind_in (said a)) (sym e) ∙ x)
+      go : (setup_of s due l ≡ silent (Err Uncoded)) ⊎ (code_of s.size < no_code) → TooLarge s due l
+      go (inl e) = not_silent (Err Uncoded) (ap (λ (a : Answer). kind_in (said a)) (sym e) ∙ x)
       go (inr h) = by_due h due refl x
 
 pub declined : Declined

@@ -1,8 +1,8 @@
 -- Request 2026-05, "The call": settings, the message due and the peer's bytes give a refusal or an answer in three parts.
 -- Assumes nothing.
-use Rattle.std.specs.Prelude.{ℕ, ◌%◌, min, Bool, false, ◌&&◌, cond, List, leb, eqb}
+use Rattle.std.specs.Prelude.{ℕ, ◌%◌, Result, Ok, Err, min, Bool, false, ◌&&◌, cond, List, leb, eqb, Option, Some, None}
 use Rattle.setup_read.specs.declared.Kind.{Kind}
-use Rattle.setup_read.specs.declared.Kind.TheVariants.{Nothing, Proposal, Accept, Confirm, Decline}
+use Rattle.setup_read.specs.declared.Kind.TheVariants.{Proposal, Accept, Confirm, Decline}
 use Rattle.setup_read.specs.declared.Message.{Message}
 use Rattle.setup_read.specs.Codes.{bytes_of_code, code_of, no_code}
 use Rattle.setup_read.specs.Clc.{type_of, read_of, written_count, written_over}
@@ -10,25 +10,37 @@ use Rattle.setup_read.specs.Places.{zeros}
 use Rattle.setup.specs.declared.Settings.{Settings}
 use Rattle.setup.specs.declared.Due.{Due}
 use Rattle.setup.specs.declared.Arguments.{Arguments}
-use Rattle.setup.specs.declared.Opening.TheVariants.{NoOpen, Open}
-use Rattle.setup.specs.declared.Diagnosis.TheVariants.{NoDiagnosis, Number}
-use Rattle.setup.specs.declared.Outcome.{Outcome}
-use Rattle.setup.specs.declared.Outcome.TheVariants.{Refused, Answered}
+use Rattle.setup.specs.declared.Answered.{Answered}
+use Rattle.setup.specs.declared.Refusal.{Refusal}
+use Rattle.setup.specs.declared.Refusal.TheVariants.{Uncoded, NoMessage, NotDue}
 use Rattle.setup.specs.declared.Answer.{Answer}
 
 -- "the message due (none, Proposal, Accept, Confirm)", by its type; none is 0
-abbrev pub due_type : Due → ℕ
-due_type Due.Nothing = 0
-due_type Due.Proposal = 1
-due_type Due.Accept = 2
-due_type Due.Confirm = 3
+abbrev pub due_type : Option Due → ℕ
+due_type None = 0
+due_type (Some Due.Proposal) = 1
+due_type (Some Due.Accept) = 2
+due_type (Some Due.Confirm) = 3
+
+-- a refusal's number
+abbrev pub refusal_number : Refusal → ℕ
+refusal_number Uncoded = 1
+refusal_number NoMessage = 2
+refusal_number NotDue = 3
+
+-- what a call comes to: a refusal, or the columns "open" and "diagnosis"
+abbrev pub Outcome : Type 0
+Outcome = Result Answered Refusal
+
+abbrev pub answers : Option Arguments → Option ℕ → Outcome
+answers o d = Ok (record { opening = o; diagnosis = d })
 
 -- "ours carry version 1 and offset 0". "Proposal: with count 0 the mask and its length, else both zero and the first min(count, 8)
 -- prefixes"
 unfoldable pub our_proposal : Settings → Message
 our_proposal s =
     record {
-      kind = Proposal;
+      kind = Some Proposal;
       version = 1;
       first = false;
       sync = false;
@@ -55,7 +67,7 @@ our_proposal s =
 unfoldable pub ours : Kind → Bool → Settings → Message
 ours k f s =
     record {
-      kind = k;
+      kind = Some k;
       version = 1;
       first = f;
       sync = false;
@@ -89,7 +101,7 @@ our_confirm s = ours Confirm false s
 unfoldable pub our_decline : Settings → Message
 our_decline s =
     record {
-      kind = Decline;
+      kind = Some Decline;
       version = 1;
       first = false;
       sync = false;
@@ -140,23 +152,22 @@ silent o = record { outcome = o; count = 0; message = zeros 188 }
 unfoldable pub saying : Message → Outcome → Answer
 saying m o = record { outcome = o; count = written_count m (zeros 188); message = written_over m (zeros 188) }
 
--- column "message": ours of a kind; Nothing is none
+-- column "message": ours of a kind
 abbrev pub sending : Kind → Settings → Outcome → Answer
-sending Nothing s o = silent o
 sending Proposal s o = saying (our_proposal s) o
 sending Accept s o = saying (our_accept s) o
 sending Confirm s o = saying (our_confirm s) o
 sending Decline s o = saying (our_decline s) o
 
--- columns "open" and "diagnosis"
+-- neither an open nor a decline, an open, a decline
 abbrev pub plain : Outcome
-plain = Answered NoOpen NoDiagnosis
+plain = answers None None
 
 abbrev pub opens : Settings → Message → Outcome
-opens s m = Answered (Open (arguments_of s m)) NoDiagnosis
+opens s m = answers (Some (arguments_of s m)) None
 
 abbrev pub declines : ℕ → Outcome
-declines d = Answered NoOpen (Number d)
+declines d = answers None (Some d)
 
 -- "a code from the peer that means more than 65,540 bytes, or nothing, is declined"
 unfoldable pub taken_b : ℕ → Bool
@@ -167,20 +178,20 @@ unfoldable pub answered_of : Settings → Message → ℕ → Answer
 answered_of s m t =
     cond (eqb t 1) (sending Accept s plain)
     (cond (taken_b m.code)
-    (cond (eqb t 2) (sending Confirm s (opens s m)) (sending Nothing s (opens s m)))
+    (cond (eqb t 2) (sending Confirm s (opens s m)) (silent (opens s m)))
     (sending Decline s (declines 1)))
 
 -- something due, of type d: "2, the bytes are no message of A.2; 3, the message is neither that nor a Decline"
 unfoldable pub heard_of : Settings → ℕ → Message → Answer
 heard_of s d m =
-    cond (eqb (type_of m.kind) 0) (silent (Refused 2))
-    (cond (eqb (type_of m.kind) 4) (sending Nothing s (declines m.diagnosis))
+    cond (eqb (type_of m.kind) 0) (silent (Err NoMessage))
+    (cond (eqb (type_of m.kind) 4) (silent (declines m.diagnosis))
     (cond (eqb (type_of m.kind) d) (answered_of s m d)
-    (silent (Refused 3))))
+    (silent (Err NotDue))))
 
 -- "1, N has no code, whatever is due and whatever the bytes"; none due: a Proposal, bytes unread
-unfoldable pub setup_of : Settings → Due → List ℕ → Answer
+unfoldable pub setup_of : Settings → Option Due → List ℕ → Answer
 setup_of s due l =
-    cond (eqb (code_of s.size) no_code) (silent (Refused 1))
+    cond (eqb (code_of s.size) no_code) (silent (Err Uncoded))
     (cond (eqb (due_type due) 0) (sending Proposal s plain)
     (heard_of s (due_type due) (read_of l)))

@@ -1,10 +1,9 @@
 // Setting up a connection: our settings, the message due and the peer's bytes give the message to send, an open's arguments or a decline.
 #![tactic(auto)]
 
-ghost use Rattle.std.specs.Prelude.{◌≡◌, cond, min, eqb};
-ghost use Rattle.setup_read.specs.Places.{zeros};
-ghost use Rattle.setup.specs.Setup.{due_type, our_proposal, ours, our_decline, arguments_of, silent, saying, sending};
-ghost use Rattle.setup.specs.Setup.{taken_b, answered_of, heard_of, setup_of};
+ghost use Rattle.std.specs.Prelude.{◌≡◌, cond, Some};
+ghost use Rattle.setup.specs.Setup.{due_type, refusal_number, our_proposal, ours, our_decline, arguments_of, silent, saying};
+ghost use Rattle.setup.specs.Setup.{plain, opens, declines, taken_b, answered_of, heard_of, setup_of};
 
 use setup_read::{Kind, Message};
 
@@ -19,7 +18,7 @@ pub struct Settings {
     pub mask: [u8; 4],
     pub masklen: u8,
     pub count: u8,
-    // eight times a prefix and its length
+    // eight times a prefix and its length, of which the first count are sent: C's layout
     pub prefixes: [u8; 136],
     pub first: bool,
     pub qp: u32,
@@ -30,6 +29,7 @@ pub struct Settings {
     pub slot: u8,
     pub own: u32,
     pub link: u8,
+    // a key and a base of each link, not an array of pairs: C's layout (fordlinnet.h)
     pub key1: u32,
     pub base1: u64,
     pub key2: u32,
@@ -43,7 +43,6 @@ pub struct Settings {
 // The message due.
 #[derive(Clone, Copy)]
 pub enum Due {
-    Nothing,
     Proposal,
     Accept,
     Confirm,
@@ -51,7 +50,7 @@ pub enum Due {
 
 // The arguments of an open.
 #[repr(C)]
-#[derive(Clone, Copy)]
+#[derive(Clone, Copy, Default)]
 pub struct Arguments {
     pub slot: u8,
     pub own: u32,
@@ -59,6 +58,7 @@ pub struct Arguments {
     pub link: u8,
     pub size: u32,
     pub index: u8,
+    // as in Settings
     pub key1: u32,
     pub base1: u64,
     pub key2: u32,
@@ -69,84 +69,75 @@ pub struct Arguments {
     pub base4: u64,
 }
 
+// An open, a decline's diagnosis, or neither.
 #[derive(Clone, Copy)]
-pub enum Opening {
-    NoOpen,
-    Open(Arguments),
+pub struct Answered {
+    pub opening: Option<Arguments>,
+    pub diagnosis: Option<u32>,
 }
 
 #[derive(Clone, Copy)]
-pub enum Diagnosis {
-    NoDiagnosis,
-    Number(u32),
+pub enum Refusal {
+    // N has no code
+    Uncoded,
+    // the bytes are no message
+    NoMessage,
+    // the message is neither the one that is due nor a Decline
+    NotDue,
 }
 
-#[derive(Clone, Copy)]
-pub enum Outcome {
-    Refused(u8),
-    Answered(Opening, Diagnosis),
+impl From<Refusal> for u8 {
+    ghost from_gives = { λ refusal n. n ≡ refusal_number refusal };
+
+    fn from(refusal: Refusal) -> u8 {
+        match refusal {
+            Refusal::Uncoded => 1,
+            Refusal::NoMessage => 2,
+            Refusal::NotDue => 3,
+        }
+    }
 }
 
-// The answer: beside its outcome the message to send, its count of bytes and zeros behind; count 0 is none.
+// The answer: beside its outcome the message to send, its count of bytes and zeros behind; count 0 is none. Bytes with a count and no Vec:
+// no heap.
 #[derive(Clone, Copy)]
 pub struct Answer {
-    pub outcome: Outcome,
+    pub outcome: Result<Answered, Refusal>,
     pub count: usize,
     pub message: [u8; 188],
 }
 
+// The type of the message that is due. No public From for what is used once.
 fn due_type(due: Due) -> u8
-    ensures { result ≡ due_type due }
+    ensures { result ≡ due_type (Some due) }
 {
     match due {
-        Due::Nothing => 0,
         Due::Proposal => 1,
         Due::Accept => 2,
         Due::Confirm => 3,
     }
 }
 
-fn quiet(outcome: Outcome) -> Answer
+fn quiet(outcome: Result<Answered, Refusal>) -> Answer
     ensures { result ≡ silent outcome }
 {
     Answer {
-        outcome: outcome,
+        outcome,
         count: 0,
-        message: [0u8; 188],
+        message: [0; 188],
     }
 }
 
-fn say(m: Message, outcome: Outcome) -> Answer
+fn say(m: Message, outcome: Result<Answered, Refusal>) -> Answer
     ensures { result ≡ saying m outcome }
 {
-    let mut bytes = [0u8; 188];
-    let n = setup_write::write(m, &mut bytes);
+    let mut message = [0; 188];
+    let count = setup_write::write(m, &mut message);
     Answer {
-        outcome: outcome,
-        count: n,
-        message: bytes,
+        outcome,
+        count,
+        message,
     }
-}
-
-fn least(a: u8, b: u8) -> u8
-    ensures { result ≡ min a b }
-{
-    if a < b { a } else { b }
-}
-
-fn length_for(count: u8, masklen: u8) -> u8
-    ensures { result ≡ cond (eqb count 0) masklen 0 }
-{
-    if count == 0 { masklen } else { 0 }
-}
-
-fn mask_for(count: u8, mask: [u8; 4]) -> [u8; 4]
-    ensures { result ≡ cond (eqb count 0) mask (zeros 4) }
-{
-    if count == 0 {
-        return mask;
-    }
-    [0u8; 4]
 }
 
 fn proposal(s: Settings) -> Message
@@ -157,31 +148,19 @@ fn proposal(s: Settings) -> Message
     let mac = s.mac;
     let prefixes = s.prefixes;
     let given = s.mask;
-    let mask = mask_for(s.count, given);
-    let masklen = length_for(s.count, s.masklen);
-    let count = least(s.count, 8);
+    let mask = if s.count == 0 { given } else { [0; 4] };
+    let masklen = if s.count == 0 { s.masklen } else { 0 };
     Message {
-        kind: Kind::Proposal,
+        kind: Some(Kind::Proposal),
         version: 1,
-        first: false,
-        sync: false,
-        peer: peer,
-        gid: gid,
-        mac: mac,
-        qp: 0,
-        key: 0,
-        index: 0,
-        token: 0,
-        code: 0,
-        mtu: 0,
-        base: 0,
-        psn: 0,
-        offset: 0,
-        mask: mask,
-        masklen: masklen,
-        count: count,
-        prefixes: prefixes,
-        diagnosis: 0,
+        peer,
+        gid,
+        mac,
+        mask,
+        masklen,
+        count: s.count.min(8),
+        prefixes,
+        ..setup_read::no_message()
     }
 }
 
@@ -192,29 +171,22 @@ fn endpoint(s: Settings, kind: Kind, first: bool) -> Message
     let peer = s.peer;
     let gid = s.gid;
     let mac = s.mac;
-    let code = setup_read::code_of(s.size);
     Message {
-        kind: kind,
+        kind: Some(kind),
         version: 1,
-        first: first,
-        sync: false,
-        peer: peer,
-        gid: gid,
-        mac: mac,
+        first,
+        peer,
+        gid,
+        mac,
         qp: s.qp % 16777216,
         key: s.key,
         index: s.slot,
         token: s.own,
-        code: code,
+        code: setup_read::code_of(s.size),
         mtu: s.mtu % 16,
         base: s.base,
         psn: s.psn % 16777216,
-        offset: 0,
-        mask: [0u8; 4],
-        masklen: 0,
-        count: 0,
-        prefixes: [0u8; 136],
-        diagnosis: 0,
+        ..setup_read::no_message()
     }
 }
 
@@ -223,38 +195,17 @@ fn decline(s: Settings) -> Message
 {
     let peer = s.peer;
     Message {
-        kind: Kind::Decline,
+        kind: Some(Kind::Decline),
         version: 1,
-        first: false,
-        sync: false,
-        peer: peer,
-        gid: [0u8; 16],
-        mac: [0u8; 6],
-        qp: 0,
-        key: 0,
-        index: 0,
-        token: 0,
-        code: 0,
-        mtu: 0,
-        base: 0,
-        psn: 0,
-        offset: 0,
-        mask: [0u8; 4],
-        masklen: 0,
-        count: 0,
-        prefixes: [0u8; 136],
+        peer,
         diagnosis: 1,
+        ..setup_read::no_message()
     }
 }
 
-fn key_at(here: bool, heard: u32, other: u32) -> u32
-    ensures { result ≡ cond here heard other }
-{
-    if here { heard } else { other }
-}
-
-fn base_at(here: bool, heard: u64, other: u64) -> u64
-    ensures { result ≡ cond here heard other }
+// A key and base: those heard at the link that the peer speaks of, else the settings'.
+fn pair(here: bool, heard: (u32, u64), other: (u32, u64)) -> (u32, u64)
+    ensures { (result.0 ≡ cond here heard.0 other.0) × (result.1 ≡ cond here heard.1 other.1) }
 {
     if here { heard } else { other }
 }
@@ -262,30 +213,26 @@ fn base_at(here: bool, heard: u64, other: u64) -> u64
 fn arguments_of(s: Settings, m: Message) -> Arguments
     ensures { result ≡ arguments_of s m }
 {
-    let size = setup_read::size_of(m.code);
-    let key1 = key_at(s.link == 1, m.key, s.key1);
-    let base1 = base_at(s.link == 1, m.base, s.base1);
-    let key2 = key_at(s.link == 2, m.key, s.key2);
-    let base2 = base_at(s.link == 2, m.base, s.base2);
-    let key3 = key_at(s.link == 3, m.key, s.key3);
-    let base3 = base_at(s.link == 3, m.base, s.base3);
-    let key4 = key_at(s.link == 4, m.key, s.key4);
-    let base4 = base_at(s.link == 4, m.base, s.base4);
+    let heard = (m.key, m.base);
+    let (key1, base1) = pair(s.link == 1, heard, (s.key1, s.base1));
+    let (key2, base2) = pair(s.link == 2, heard, (s.key2, s.base2));
+    let (key3, base3) = pair(s.link == 3, heard, (s.key3, s.base3));
+    let (key4, base4) = pair(s.link == 4, heard, (s.key4, s.base4));
     Arguments {
         slot: s.slot,
         own: s.own,
         token: m.token,
         link: s.link,
-        size: size,
+        size: setup_read::size_of(m.code),
         index: m.index,
-        key1: key1,
-        base1: base1,
-        key2: key2,
-        base2: base2,
-        key3: key3,
-        base3: base3,
-        key4: key4,
-        base4: base4,
+        key1,
+        base1,
+        key2,
+        base2,
+        key3,
+        base3,
+        key4,
+        base4,
     }
 }
 
@@ -297,67 +244,74 @@ fn taken(code: u8) -> bool
     (1 <= n) & (n <= 65540)
 }
 
-// The answer with our message of a kind; of Nothing, with none.
-fn send(kind: Kind, s: Settings, outcome: Outcome) -> Answer
-    ensures { result ≡ sending kind s outcome }
+fn plain() -> Result<Answered, Refusal>
+    ensures { result ≡ plain }
 {
+    Ok(Answered {
+        opening: None,
+        diagnosis: None,
+    })
+}
+
+fn opens(s: Settings, m: Message) -> Result<Answered, Refusal>
+    ensures { result ≡ opens s m }
+{
+    Ok(Answered {
+        opening: Some(arguments_of(s, m)),
+        diagnosis: None,
+    })
+}
+
+fn declines(diagnosis: u32) -> Result<Answered, Refusal>
+    ensures { result ≡ declines diagnosis }
+{
+    Ok(Answered {
+        opening: None,
+        diagnosis: Some(diagnosis),
+    })
+}
+
+// What the message that was due is answered by.
+fn answer_due(s: Settings, m: Message, due: Due) -> Answer
+    ensures { result ≡ answered_of s m (due_type (Some due)) }
+{
+    let fits = taken(m.code);
+    match due {
+        Due::Proposal => say(endpoint(s, Kind::Accept, s.first), plain()),
+        Due::Accept if fits => say(endpoint(s, Kind::Confirm, false), opens(s, m)),
+        Due::Confirm if fits => quiet(opens(s, m)),
+        _ => say(decline(s), declines(1)),
+    }
+}
+
+fn heard(s: Settings, due: Due, m: Message) -> Answer
+    ensures { result ≡ heard_of s (due_type (Some due)) m }
+{
+    let Some(kind) = m.kind else {
+        return quiet(Err(Refusal::NoMessage));
+    };
     match kind {
-        Kind::Nothing => quiet(outcome),
-        Kind::Proposal => say(proposal(s), outcome),
-        Kind::Accept => say(endpoint(s, Kind::Accept, s.first), outcome),
-        Kind::Confirm => say(endpoint(s, Kind::Confirm, false), outcome),
-        Kind::Decline => say(decline(s), outcome),
-    }
-}
-
-// What the message that was due, of its own type, is answered by.
-fn answered(s: Settings, m: Message, kind: u8) -> Answer
-    ensures { result ≡ answered_of s m kind }
-{
-    if kind == 1 {
-        let plain = Outcome::Answered(Opening::NoOpen, Diagnosis::NoDiagnosis);
-        return send(Kind::Accept, s, plain);
-    }
-    if taken(m.code) {
-        let open = Outcome::Answered(Opening::Open(arguments_of(s, m)), Diagnosis::NoDiagnosis);
-        if kind == 2 {
-            return send(Kind::Confirm, s, open);
+        Kind::Decline => quiet(declines(m.diagnosis)),
+        _ => {
+            if setup_read::type_of(m.kind) == due_type(due) {
+                answer_due(s, m, due)
+            } else {
+                quiet(Err(Refusal::NotDue))
+            }
         }
-        return send(Kind::Nothing, s, open);
     }
-    let one = Outcome::Answered(Opening::NoOpen, Diagnosis::Number(1));
-    send(Kind::Decline, s, one)
 }
 
-fn heard(s: Settings, due: u8, m: Message) -> Answer
-    ensures { result ≡ heard_of s due m }
-{
-    let k = m.kind;
-    let kind = setup_read::type_of(k);
-    if kind == 0 {
-        return quiet(Outcome::Refused(2));
-    }
-    if kind == 4 {
-        let theirs = Outcome::Answered(Opening::NoOpen, Diagnosis::Number(m.diagnosis));
-        return send(Kind::Nothing, s, theirs);
-    }
-    if kind != due {
-        return quiet(Outcome::Refused(3));
-    }
-    answered(s, m, due)
-}
-
-// The message to send, an open's arguments and a diagnosis, or a refusal: of our settings, the message due and the peer's bytes.
-pub fn setup(s: Settings, due: Due, bytes: &[u8]) -> Answer
+// The message to send, an open's arguments and a diagnosis, or a refusal: of our settings, the message that may be due, and the peer's
+// bytes.
+pub fn setup(s: Settings, due: Option<Due>, bytes: &[u8]) -> Answer
     ensures { result ≡ setup_of s due bytes.now }
 {
     if setup_read::code_of(s.size) == 16 {
-        return quiet(Outcome::Refused(1));
+        return quiet(Err(Refusal::Uncoded));
     }
-    let kind = due_type(due);
-    if kind == 0 {
-        let plain = Outcome::Answered(Opening::NoOpen, Diagnosis::NoDiagnosis);
-        return send(Kind::Proposal, s, plain);
+    match due {
+        None => say(proposal(s), plain()),
+        Some(due) => heard(s, due, setup_read::read(bytes)),
     }
-    heard(s, kind, setup_read::read(bytes))
 }

@@ -1,5 +1,6 @@
 -- What it is to be a message of A.2, and what is read of one.
 -- Assumes nothing.
+use Rattle.std.specs.Prelude.{Option, Some, None}
 use Prim.Native.Nat.{ℕ, ◌+◌, ◌-◌, ◌*◌, ◌/◌, ◌≤◌}
 use mathlib.Core.Path.{◌≡◌, ◌∙◌, refl, ap, sym}
 use mathlib.Core.Bool.{Bool, true, false}
@@ -11,7 +12,7 @@ use borrow.Author.Tests.{leb-true, eqb-true, eq-eqb, ne_eqb}
 use Rattle.layout.specs.Layout.{number_at}
 use Rattle.layout.proofs.Bits.{and_left, and_right}
 use Rattle.setup_read.specs.declared.Kind.{Kind}
-use Rattle.setup_read.specs.declared.Kind.TheVariants.{Nothing, Proposal, Accept, Confirm, Decline}
+use Rattle.setup_read.specs.declared.Kind.TheVariants.{Proposal, Accept, Confirm, Decline}
 use Rattle.setup_read.specs.Clc.{eye_catcher, only_proposal, offset_at, count_at, begins_b, sized_b, message_b, kind_of, kind_in, message_in, read_of}
 use Rattle.setup_read.specs.Places.{no_message, proposal_at, endpoint_at, decline_at, bit08}
 use Rattle.setup_read.proofs.Reading.{nothing_read, proposal_read, accept_read, confirm_read, decline_read}
@@ -76,49 +77,49 @@ module _ (l : List ℕ) (s : sized_b l ≡ true) where
   endpoint_size e f = eqb-true (length l) 68 (simp (ne_eqb (number_at l 4 1) 1 e, ne_eqb (number_at l 4 1) 4 f) at s)
 
 -- what kind the bytes are, and what is read of each kind
-pub kind_in_lem : (l : List ℕ) (t : ℕ) → message_b l ≡ true → number_at l 4 1 ≡ t → kind_in l ≡ kind_of t
+pub kind_in_lem : (l : List ℕ) (t : ℕ) → message_b l ≡ true → number_at l 4 1 ≡ t → kind_in l ≡ Some (kind_of t)
 unfolding kind_in
-kind_in_lem l t m e = simp m (ap kind_of e)
+kind_in_lem l t m e = simp m (ap (λ (t : ℕ). Some (kind_of t)) e)
 
-pub kind_none : (l : List ℕ) → message_b l ≡ false → kind_in l ≡ Nothing
+pub kind_none : (l : List ℕ) → message_b l ≡ false → kind_in l ≡ None
 unfolding kind_in
 kind_none l m = simp m
 
-pub read_kind : (l : List ℕ) (k : Kind) → kind_in l ≡ k → read_of l ≡ message_in k (only_proposal k (offset_at l)) (only_proposal k (count_at l)) l
+pub read_kind : (l : List ℕ) (k : Option Kind) → kind_in l ≡ k → read_of l ≡ message_in k (only_proposal k (offset_at l)) (only_proposal k (count_at l)) l
 unfolding read_of
 read_kind l k e = λ i. message_in (e i) (only_proposal (e i) (offset_at l)) (only_proposal (e i) (count_at l)) l
 
 pub read_none : (l : List ℕ) → message_b l ≡ false → read_of l ≡ no_message
-read_none l m = read_kind l Nothing (kind_none l m) ∙ nothing_read l
+read_none l m = read_kind l None (kind_none l m) ∙ nothing_read l
 
 module _ (l : List ℕ) (m : message_b l ≡ true) where
   pub read_proposal : number_at l 4 1 ≡ 1 → read_of l ≡ proposal_at l
   unfolding kind_of
-  read_proposal e = read_kind l Proposal (kind_in_lem l 1 m e) ∙ proposal_read l (proposal_sizes l (is_message l m).sized e).some
+  read_proposal e = read_kind l (Some Proposal) (kind_in_lem l 1 m e) ∙ proposal_read l (proposal_sizes l (is_message l m).sized e).some
 
   pub read_accept : number_at l 4 1 ≡ 2 → read_of l ≡ endpoint_at Accept (bit08 l 7) l
   unfolding kind_of
   read_accept e =
       let n : length l ≡ 68 = endpoint_size l (is_message l m).sized (λ f. omega arith) (λ f. omega arith) in
-      read_kind l Accept (kind_in_lem l 2 m e) ∙ accept_read l (omega arith)
+      read_kind l (Some Accept) (kind_in_lem l 2 m e) ∙ accept_read l (omega arith)
 
   pub read_confirm : number_at l 4 1 ≡ 3 → read_of l ≡ endpoint_at Confirm false l
   unfolding kind_of
   read_confirm e =
       let n : length l ≡ 68 = endpoint_size l (is_message l m).sized (λ f. omega arith) (λ f. omega arith) in
-      read_kind l Confirm (kind_in_lem l 3 m e) ∙ confirm_read l (omega arith)
+      read_kind l (Some Confirm) (kind_in_lem l 3 m e) ∙ confirm_read l (omega arith)
 
   pub read_decline : number_at l 4 1 ≡ 4 → read_of l ≡ decline_at l
   unfolding kind_of
-  read_decline e = read_kind l Decline (kind_in_lem l 4 m e) ∙ decline_read l (is_message l m).long
+  read_decline e = read_kind l (Some Decline) (kind_in_lem l 4 m e) ∙ decline_read l (is_message l m).long
 
 -- of bytes whose kind is Decline, those fields are read
-pub decline_of : (l : List ℕ) → kind_in l ≡ Decline → read_of l ≡ decline_at l
+pub decline_of : (l : List ℕ) → kind_in l ≡ Some Decline → read_of l ≡ decline_at l
 unfolding kind_in
 decline_of l k = go (message_b l) refl
   where
     go : (b : Bool) → message_b l ≡ b → read_of l ≡ decline_at l
-    go true e = read_kind l Decline k ∙ decline_read l (is_message l e).long
+    go true e = read_kind l (Some Decline) k ∙ decline_read l (is_message l e).long
     go false e =
-        let n : Nothing ≡ Decline = sym (kind_none l e) ∙ k in
+        let n : None ≡ (Some Decline) = sym (kind_none l e) ∙ k in
         let z : ◌≡◌ {A = ℕ} 0 1 = cc in absurd (omega arith)

@@ -1,5 +1,6 @@
 -- What the rows give, by places.
 -- Assumes nothing.
+use Rattle.std.specs.Prelude.{Option, Some, None}
 use Prim.Native.Nat.{ℕ, zero, suc, ◌+◌, ◌-◌, ◌*◌, ◌/◌, ◌%◌, ◌≤◌}
 use mathlib.Core.Path.{◌≡◌, ◌∙◌, refl, ap}
 use mathlib.Core.Bool.{true, false}
@@ -15,7 +16,7 @@ use Rattle.layout.proofs.At.{number_from, bytes_from, number_from_lem, bytes_fro
 use Rattle.layout.proofs.Bits.{gather_length, and_left}
 use Rattle.layout.proofs.Places.{number_bound}
 use Rattle.setup_read.specs.declared.Kind.{Kind}
-use Rattle.setup_read.specs.declared.Kind.TheVariants.{Nothing, Proposal, Accept, Confirm, Decline}
+use Rattle.setup_read.specs.declared.Kind.TheVariants.{Proposal, Accept, Confirm, Decline}
 use Rattle.setup_read.specs.declared.Message.{Message}
 use Rattle.setup_read.specs.Clc.{table, rows_in, restored, message_of, message_in, offset_at, count_at, begins_b}
 use Rattle.setup_read.specs.Places.{no_message, proposal_at, endpoint_at, decline_at, bit08, zeros}
@@ -35,24 +36,24 @@ module _ (l : List ℕ) (i : ℕ) (h : i + 1 ≤ length l) where
   bit_08 = number_within l i 1 4 1 3 h refl
 
 -- what is read of a kind, with each row cut where it begins
-placed : Kind → ℕ → ℕ → List ℕ → Message
+placed : Option Kind → ℕ → ℕ → List ℕ → Message
 placed k o p l = message_of k (restored k (table k o p) (cut_at (rows_in k (table k o p)) 0 (spread l)))
 
-by_places : (k : Kind) (o p : ℕ) (l : List ℕ) → message_in k o p l ≡ placed k o p l
+by_places : (k : Option Kind) (o p : ℕ) (l : List ℕ) → message_in k o p l ≡ placed k o p l
 unfolding message_in fields_of placed
 by_places k o p l = ap (λ (fs : List Field). message_of k (restored k (table k o p) fs)) (cut_at_lem (rows_in k (table k o p)) 0 (spread l))
 
-pub nothing_read : (l : List ℕ) → message_in Nothing 0 0 l ≡ no_message
+pub nothing_read : (l : List ℕ) → message_in None 0 0 l ≡ no_message
 unfolding message_in message_of restored table rows_in fields_of cut no_message
 nothing_read l = refl
 
-pub decline_read : (l : List ℕ) → 28 ≤ length l → message_in Decline 0 0 l ≡ decline_at l
+pub decline_read : (l : List ℕ) → 28 ≤ length l → message_in (Some Decline) 0 0 l ≡ decline_at l
 unfolding placed message_of restored table rows_in cut_at decline_at
 decline_read l h =
-    by_places Decline 0 0 l
+    by_places (Some Decline) 0 0 l
     ∙ λ i.
     record {
-      kind = Decline;
+      kind = Some Decline;
       version = high_four l 7 (omega arith) i;
       first = false;
       sync = eqb (bit_08 l 7 (omega arith) i) 1;
@@ -75,13 +76,13 @@ decline_read l h =
       diagnosis = number_from_lem l 16 4 i;
     }
 
-pub accept_read : (l : List ℕ) → 68 ≤ length l → message_in Accept 0 0 l ≡ endpoint_at Accept (bit08 l 7) l
+pub accept_read : (l : List ℕ) → 68 ≤ length l → message_in (Some Accept) 0 0 l ≡ endpoint_at Accept (bit08 l 7) l
 unfolding placed message_of restored table rows_in cut_at endpoint_at
 accept_read l h =
-    by_places Accept 0 0 l
+    by_places (Some Accept) 0 0 l
     ∙ λ i.
     record {
-      kind = Accept;
+      kind = Some Accept;
       version = high_four l 7 (omega arith) i;
       first = eqb (bit_08 l 7 (omega arith) i) 1;
       sync = false;
@@ -104,13 +105,13 @@ accept_read l h =
       diagnosis = 0;
     }
 
-pub confirm_read : (l : List ℕ) → 68 ≤ length l → message_in Confirm 0 0 l ≡ endpoint_at Confirm false l
+pub confirm_read : (l : List ℕ) → 68 ≤ length l → message_in (Some Confirm) 0 0 l ≡ endpoint_at Confirm false l
 unfolding placed message_of restored table rows_in cut_at endpoint_at
 confirm_read l h =
-    by_places Confirm 0 0 l
+    by_places (Some Confirm) 0 0 l
     ∙ λ i.
     record {
-      kind = Confirm;
+      kind = Some Confirm;
       version = high_four l 7 (omega arith) i;
       first = false;
       sync = false;
@@ -146,13 +147,13 @@ filled : (l : List ℕ) (k i n : ℕ) → k ≡ 8 * i
 unfolding bytes_from
 filled l k i n e = λ j. bytes_later l k i n e j ++ zeros (136 - gather_length n (take (8 * n) (drop k (spread l))) j)
 
-pub proposal_read : (l : List ℕ) → 52 ≤ length l → message_in Proposal (offset_at l) (count_at l) l ≡ proposal_at l
+pub proposal_read : (l : List ℕ) → 52 ≤ length l → message_in (Some Proposal) (offset_at l) (count_at l) l ≡ proposal_at l
 unfolding placed message_of restored table rows_in cut_at proposal_at
 proposal_read l h =
-    by_places Proposal (offset_at l) (count_at l) l
+    by_places (Some Proposal) (offset_at l) (count_at l) l
     ∙ λ i.
     record {
-      kind = Proposal;
+      kind = Some Proposal;
       version = high_four l 7 (omega arith) i;
       first = false;
       sync = false;

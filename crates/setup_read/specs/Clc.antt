@@ -1,31 +1,31 @@
 -- Request 2026-05, "The four messages (Appendix A.2): one table": reading and writing, from one list of rows.
 -- Assumes nothing.
-use Rattle.std.specs.Prelude.{ℕ, ◌+◌, ◌-◌, ◌*◌, ◌/◌, ◌≡◌, Bool, true, false, ◌&&◌, cond, List, [], ◌∷◌, ◌++◌, length, get_or, take, drop, replicate, leb, eqb}
+use Rattle.std.specs.Prelude.{ℕ, ◌+◌, ◌-◌, ◌*◌, ◌/◌, ◌≡◌, Bool, true, false, ◌&&◌, cond, List, [], ◌∷◌, ◌++◌, length, get_or, take, drop, replicate, leb, eqb, Option, Some, None}
 use Rattle.layout.specs.Layout.{Row, Field, fits, spread, are_bytes, reserved_zero, written_of, fields_of, number_at}
 use Rattle.layout.specs.Layout.Row.{fixed, reserved, number, bytes}
 use Rattle.layout.specs.Layout.Field.{num, str}
 use Rattle.setup_read.specs.declared.Kind.{Kind}
-use Rattle.setup_read.specs.declared.Kind.TheVariants.{Nothing, Proposal, Accept, Confirm, Decline}
+use Rattle.setup_read.specs.declared.Kind.TheVariants.{Proposal, Accept, Confirm, Decline}
 use Rattle.setup_read.specs.declared.Message.{Message}
 
 abbrev pub eye_catcher : ℕ
 eye_catcher = 0xE2D4C3D9
 
 -- row type: = 1, 2, 3, 4
-abbrev pub type_of : Kind → ℕ
-type_of Nothing = 0
-type_of Proposal = 1
-type_of Accept = 2
-type_of Confirm = 3
-type_of Decline = 4
+abbrev pub type_of : Option Kind → ℕ
+type_of None = 0
+type_of (Some Proposal) = 1
+type_of (Some Accept) = 2
+type_of (Some Confirm) = 3
+type_of (Some Decline) = 4
 
 -- "bytes in all": 52+o+17p, 68, 68, 28. o is the value of row offset, p of row count
-abbrev pub length_of : Kind → ℕ → ℕ → ℕ
-length_of Nothing o p = 0
-length_of Proposal o p = 52 + o + 17 * p
-length_of Accept o p = 68
-length_of Confirm o p = 68
-length_of Decline o p = 28
+abbrev pub length_of : Option Kind → ℕ → ℕ → ℕ
+length_of None o p = 0
+length_of (Some Proposal) o p = 52 + o + 17 * p
+length_of (Some Accept) o p = 68
+length_of (Some Confirm) o p = 68
+length_of (Some Decline) o p = 28
 
 -- a line of the table: a row, and in which columns it has a place
 pub record Line : Type 0 where
@@ -45,7 +45,7 @@ abbrev line : Bool → Bool → Bool → Bool → Row → Line
 line a b c d r = record { proposal = a; accept = b; confirm = c; decline = d; row = r }
 
 -- the table; the columns are Proposal, Accept, Confirm, Decline
-unfoldable pub table : Kind → ℕ → ℕ → List Line
+unfoldable pub table : Option Kind → ℕ → ℕ → List Line
 table k o p =
     line ■ ■ ■ ■ (fixed 32 eye_catcher)  -- eye catcher
     ∷ line ■ ■ ■ ■ (fixed 8 (type_of k))  -- type
@@ -102,7 +102,7 @@ bytes_in (str b) = b
 abbrev pub nth : List Field → ℕ → Field
 nth fs i = get_or fs i (num 0)
 
-unfoldable pub message_of : Kind → List Field → Message
+unfoldable pub message_of : Option Kind → List Field → Message
 message_of k fs =
     record {
       kind = k;
@@ -129,18 +129,18 @@ message_of k fs =
     }
 
 -- "a message is the rows that have a place in its column, top to bottom"
-abbrev pub stands : Kind → Line → Bool
-stands Nothing l = false
-stands Proposal l = l.proposal
-stands Accept l = l.accept
-stands Confirm l = l.confirm
-stands Decline l = l.decline
+abbrev pub stands : Option Kind → Line → Bool
+stands None l = false
+stands (Some Proposal) l = l.proposal
+stands (Some Accept) l = l.accept
+stands (Some Confirm) l = l.confirm
+stands (Some Decline) l = l.decline
 
 abbrev keep : Bool → Row → List Row → List Row
 keep true r rows = r ∷ rows
 keep false r rows = rows
 
-unfoldable pub rows_in : Kind → List Line → List Row
+unfoldable pub rows_in : Option Kind → List Line → List Row
 rows_in k [] = []
 rows_in k (l ∷ ls) = keep (stands k l) l.row (rows_in k ls)
 
@@ -155,7 +155,7 @@ choose (bytes n) b f [] = []
 choose (bytes n) true f (v ∷ vs) = v ∷ f vs
 choose (bytes n) false f (v ∷ vs) = f vs
 
-unfoldable pub chosen : Kind → List Line → List Field → List Field
+unfoldable pub chosen : Option Kind → List Line → List Field → List Field
 chosen k [] vs = []
 chosen k (l ∷ ls) vs = choose l.row (stands k l) (chosen k ls) vs
 
@@ -170,17 +170,17 @@ restore (bytes n) false f fs = str (replicate n 0) ∷ f fs
 restore (bytes n) true f [] = []
 restore (bytes n) true f (x ∷ fs) = x ∷ f fs
 
-unfoldable pub restored : Kind → List Line → List Field → List Field
+unfoldable pub restored : Option Kind → List Line → List Field → List Field
 restored k [] fs = []
 restored k (l ∷ ls) fs = restore l.row (stands k l) (restored k ls) fs
 
 -- o and p of a message: only a Proposal has the rows
-abbrev pub only_proposal : Kind → ℕ → ℕ
-only_proposal Nothing x = 0
-only_proposal Proposal x = x
-only_proposal Accept x = 0
-only_proposal Confirm x = 0
-only_proposal Decline x = 0
+abbrev pub only_proposal : Option Kind → ℕ → ℕ
+only_proposal None x = 0
+only_proposal (Some Proposal) x = x
+only_proposal (Some Accept) x = 0
+only_proposal (Some Confirm) x = 0
+only_proposal (Some Decline) x = 0
 
 abbrev pub offset_of : Message → ℕ
 offset_of m = only_proposal m.kind m.offset
@@ -256,11 +256,11 @@ message_b l = begins_b l && (sized_b l && eqb (number_at l (length l - 4) 4) eye
 unfoldable pub kind_of : ℕ → Kind
 kind_of t = cond (eqb t 1) Proposal (cond (eqb t 2) Accept (cond (eqb t 3) Confirm Decline))
 
-unfoldable pub kind_in : List ℕ → Kind
-kind_in l = cond (message_b l) (kind_of (number_at l 4 1)) Nothing
+unfoldable pub kind_in : List ℕ → Option Kind
+kind_in l = cond (message_b l) (Some (kind_of (number_at l 4 1))) None
 
 -- reading: the rows of the kind's column are cut; all that has no place there is zero
-unfoldable pub message_in : Kind → ℕ → ℕ → List ℕ → Message
+unfoldable pub message_in : Option Kind → ℕ → ℕ → List ℕ → Message
 message_in k o p l = message_of k (restored k (table k o p) (fields_of (rows_in k (table k o p)) l))
 
 unfoldable pub read_of : List ℕ → Message

@@ -1,10 +1,10 @@
 -- The messages by the table's columns: the byte where each row begins. The code reads so; proofs/Reading shows that this is what the
 -- rows give.
 -- Assumes nothing.
-use Rattle.std.specs.Prelude.{ℕ, ◌+◌, ◌-◌, ◌*◌, ◌/◌, ◌%◌, Bool, false, List, ◌++◌, replicate, eqb}
+use Rattle.std.specs.Prelude.{ℕ, ◌+◌, ◌-◌, ◌*◌, ◌/◌, ◌%◌, Bool, false, List, ◌++◌, replicate, eqb, Some, None}
 use Rattle.layout.specs.Layout.{number_at, bytes_at}
 use Rattle.setup_read.specs.declared.Kind.{Kind}
-use Rattle.setup_read.specs.declared.Kind.TheVariants.{Nothing, Proposal, Decline}
+use Rattle.setup_read.specs.declared.Kind.TheVariants.{Proposal, Decline}
 use Rattle.setup_read.specs.declared.Message.{Message}
 use Rattle.setup_read.specs.Clc.{offset_at, count_at}
 
@@ -25,7 +25,7 @@ zeros n = replicate n 0
 unfoldable pub no_message : Message
 no_message =
     record {
-      kind = Nothing;
+      kind = None;
       version = 0;
       first = false;
       sync = false;
@@ -51,7 +51,7 @@ no_message =
 unfoldable pub proposal_at : List ℕ → Message
 proposal_at l =
     record {
-      kind = Proposal;
+      kind = Some Proposal;
       version = high l 7;
       first = false;
       sync = false;
@@ -78,7 +78,7 @@ proposal_at l =
 unfoldable pub endpoint_at : Kind → Bool → List ℕ → Message
 endpoint_at k f l =
     record {
-      kind = k;
+      kind = Some k;
       version = high l 7;
       first = f;
       sync = false;
@@ -104,7 +104,7 @@ endpoint_at k f l =
 unfoldable pub decline_at : List ℕ → Message
 decline_at l =
     record {
-      kind = Decline;
+      kind = Some Decline;
       version = high l 7;
       first = false;
       sync = bit08 l 7;

@@ -10,19 +10,18 @@ ghost use Rattle.setup_read.specs.Places.{no_message, proposal_at, endpoint_at, 
 
 #[derive(Clone, Copy)]
 pub enum Kind {
-    // no message of A.2
-    Nothing,
     Proposal,
     Accept,
     Confirm,
     Decline,
 }
 
-// The fields of a message, in the table's order. One that has no place in the kind's column is zero in what is read, and is not looked
-// at in what is written. Of the eight prefixes, 16 bytes and a length each, the first count are fields.
+// The fields of a message, in the table's order; of no kind where bytes are no message. A field that has no place in the kind's column is
+// zero in what is read, and is not looked at in what is written. Of the eight prefixes, 16 bytes and a length each, the first count are
+// fields: an array and no Vec, as there is no heap.
 #[derive(Clone, Copy)]
 pub struct Message {
-    pub kind: Kind,
+    pub kind: Option<Kind>,
     pub version: u8,
     // F, first contact
     pub first: bool,
@@ -55,7 +54,8 @@ const SIZES: [u32; 16] = [
     0, 0, 0, 0, 0, 0, 0, 0, 0, 0,
 ];
 
-// The bytes that a size code means; 0 where it means nothing.
+// The bytes that a size code means; 0 where it means nothing. No Option: an open and our messages have the 0 and the 16 (arguments_of,
+// ours).
 pub fn size_of(code: u8) -> u32
     ensures { result ≡ bytes_of_code code }
 {
@@ -71,38 +71,33 @@ pub fn size_of(code: u8) -> u32
 pub fn code_of(n: u32) -> u8
     ensures { result ≡ code_of n }
 {
-    if n == SIZES[0] {
-        0
-    } else if n == SIZES[1] {
-        1
-    } else if n == SIZES[2] {
-        2
-    } else if n == SIZES[3] {
-        3
-    } else if n == SIZES[4] {
-        4
-    } else if n == SIZES[5] {
-        5
-    } else {
-        16
+    match n {
+        16384 => 0,
+        32768 => 1,
+        65536 => 2,
+        131072 => 3,
+        262144 => 4,
+        524288 => 5,
+        _ => 16,
     }
 }
 
-// The value of the row type.
-pub fn type_of(kind: Kind) -> u8
+// The value of the row type; 0 of no kind. No From: an impl for u8 of Option<Kind> would be an impl of others' types.
+pub fn type_of(kind: Option<Kind>) -> u8
     ensures { result ≡ type_of kind }
 {
     match kind {
-        Kind::Nothing => 0,
-        Kind::Proposal => 1,
-        Kind::Accept => 2,
-        Kind::Confirm => 3,
-        Kind::Decline => 4,
+        None => 0,
+        Some(Kind::Proposal) => 1,
+        Some(Kind::Accept) => 2,
+        Some(Kind::Confirm) => 3,
+        Some(Kind::Decline) => 4,
     }
 }
 
 const EYE: u64 = 3805594585; // E2 D4 C3 D9
 
+// One for each width: the casts differ, and a trait for the three types is longer than the four functions.
 fn u8_at(s: &[u8], at: usize) -> u8
     ensures { result ≡ number_at s.now at 1 }
 {
@@ -133,11 +128,11 @@ fn eye_at(s: &[u8], at: usize) -> bool
     layout::number(s, at, 4) == EYE
 }
 
-// Bytes 0 to 7 are those of a message of n bytes.
-fn begins(s: &[u8], n: usize) -> bool
-    requires { n ≡ length s.now }
+// Bytes 0 to 7 are those of a message.
+fn begins(s: &[u8]) -> bool
     ensures { result ≡ begins_b s.now }
 {
+    let n = s.len();
     let kind = u8_at(s, 4);
     (28 <= n)
         & (eye_at(s, 0)
@@ -146,39 +141,38 @@ fn begins(s: &[u8], n: usize) -> bool
 }
 
 // There are as many bytes as the type asks for.
-fn sized(s: &[u8], n: usize) -> bool
-    requires { n ≡ length s.now }
+fn sized(s: &[u8]) -> bool
     ensures { result ≡ sized_b s.now }
 {
-    let kind = u8_at(s, 4);
-    if kind == 4 {
-        return n == 28;
+    let n = s.len();
+    match u8_at(s, 4) {
+        4 => n == 28,
+        1 => {
+            let o = u16_at(s, 38) as usize;
+            let p = u8_at(s, 47 + o) as usize;
+            (52 <= n) & ((52 + o <= n) & ((p <= 8) & (n == 52 + o + 17 * p)))
+        }
+        _ => n == 68,
     }
-    if kind != 1 {
-        return n == 68;
-    }
-    let o = u16_at(s, 38) as usize;
-    let p = u8_at(s, 47 + o) as usize;
-    (52 <= n) & ((52 + o <= n) & ((p <= 8) & (n == 52 + o + 17 * p)))
 }
 
 // Whether the bytes are a message of A.2.
 pub fn is_message(s: &[u8]) -> bool
     ensures { result ≡ message_b s.now }
 {
-    let n = s.len();
-    if begins(s, n) {
-        sized(s, n) & eye_at(s, n - 4)
+    if begins(s) {
+        sized(s) & eye_at(s, s.len() - 4)
     } else {
         false
     }
 }
 
-fn nothing() -> Message
+// No message: all zero. What is left out of another is so.
+pub fn no_message() -> Message
     ensures { result ≡ no_message }
 {
     Message {
-        kind: Kind::Nothing,
+        kind: None,
         version: 0,
         first: false,
         sync: false,
@@ -206,10 +200,10 @@ fn proposal(s: &[u8]) -> Message
     requires { count_at s.now ≤ 8 }
     ensures { result ≡ proposal_at s.now }
 {
-    let o = u16_at(s, 38);
-    let at = o as usize;
-    let p = u8_at(s, 47 + at);
-    let n = 17 * (p as usize);
+    let offset = u16_at(s, 38);
+    let at = offset as usize;
+    let count = u8_at(s, 47 + at);
+    let n = 17 * (count as usize);
     let version = u8_at(s, 7) / 16;
     let masklen = u8_at(s, 44 + at);
     let mut peer = [0u8; 8];
@@ -223,27 +217,17 @@ fn proposal(s: &[u8]) -> Message
     let mut prefixes = [0u8; 136];
     layout::bytes(s, 48 + at, &mut prefixes[0..n]);
     Message {
-        kind: Kind::Proposal,
-        version: version,
-        first: false,
-        sync: false,
-        peer: peer,
-        gid: gid,
-        mac: mac,
-        qp: 0,
-        key: 0,
-        index: 0,
-        token: 0,
-        code: 0,
-        mtu: 0,
-        base: 0,
-        psn: 0,
-        offset: o,
-        mask: mask,
-        masklen: masklen,
-        count: p,
-        prefixes: prefixes,
-        diagnosis: 0,
+        kind: Some(Kind::Proposal),
+        version,
+        peer,
+        gid,
+        mac,
+        offset,
+        mask,
+        masklen,
+        count,
+        prefixes,
+        ..no_message()
     }
 }
 
@@ -256,7 +240,7 @@ fn endpoint(s: &[u8], kind: Kind, first: bool) -> Message
     let key = u32_at(s, 41);
     let index = u8_at(s, 45);
     let token = u32_at(s, 46);
-    let c = u8_at(s, 50);
+    let sizes = u8_at(s, 50);
     let base = layout::number(s, 52, 8);
     let psn = u24_at(s, 61);
     let mut peer = [0u8; 8];
@@ -266,27 +250,21 @@ fn endpoint(s: &[u8], kind: Kind, first: bool) -> Message
     let mut mac = [0u8; 6];
     layout::bytes(s, 32, &mut mac);
     Message {
-        kind: kind,
-        version: version,
-        first: first,
-        sync: false,
-        peer: peer,
-        gid: gid,
-        mac: mac,
-        qp: qp,
-        key: key,
-        index: index,
-        token: token,
-        code: c / 16,
-        mtu: c % 16,
-        base: base,
-        psn: psn,
-        offset: 0,
-        mask: [0u8; 4],
-        masklen: 0,
-        count: 0,
-        prefixes: [0u8; 136],
-        diagnosis: 0,
+        kind: Some(kind),
+        version,
+        first,
+        peer,
+        gid,
+        mac,
+        qp,
+        key,
+        index,
+        token,
+        code: sizes / 16,
+        mtu: sizes % 16,
+        base,
+        psn,
+        ..no_message()
     }
 }
 
@@ -298,46 +276,26 @@ fn decline(s: &[u8]) -> Message
     let mut peer = [0u8; 8];
     layout::bytes(s, 8, &mut peer);
     Message {
-        kind: Kind::Decline,
+        kind: Some(Kind::Decline),
         version: b / 16,
-        first: false,
         sync: b / 8 % 2 == 1,
-        peer: peer,
-        gid: [0u8; 16],
-        mac: [0u8; 6],
-        qp: 0,
-        key: 0,
-        index: 0,
-        token: 0,
-        code: 0,
-        mtu: 0,
-        base: 0,
-        psn: 0,
-        offset: 0,
-        mask: [0u8; 4],
-        masklen: 0,
-        count: 0,
-        prefixes: [0u8; 136],
-        diagnosis: diagnosis,
+        peer,
+        diagnosis,
+        ..no_message()
     }
 }
 
-// The message that the bytes are; of the kind Nothing where they are none.
+// The message that the bytes are; of the kind None where they are none.
 pub fn read(s: &[u8]) -> Message
     ensures { result ≡ read_of s.now }
 {
-    if is_message(s) {
-        let kind = u8_at(s, 4);
-        if kind == 1 {
-            return proposal(s);
-        }
-        if kind == 2 {
-            return endpoint(s, Kind::Accept, u8_at(s, 7) / 8 % 2 == 1);
-        }
-        if kind == 3 {
-            return endpoint(s, Kind::Confirm, false);
-        }
-        return decline(s);
+    if !is_message(s) {
+        return no_message();
     }
-    nothing()
+    match u8_at(s, 4) {
+        1 => proposal(s),
+        2 => endpoint(s, Kind::Accept, u8_at(s, 7) / 8 % 2 == 1),
+        3 => endpoint(s, Kind::Confirm, false),
+        _ => decline(s),
+    }
 }

@@ -1,17 +1,19 @@
 -- When a message's fields fit, for each kind.
 -- Assumes nothing.
+use Rattle.std.specs.Prelude.{Option, Some, None}
 use Prim.Native.Nat.{ℕ, ◌+◌, ◌*◌, ◌≤◌, ◌<◌}
 use mathlib.Core.Path.{◌≡◌, ◌∙◌, refl, ap, sym}
-use mathlib.Core.Bool.{Bool, true, false, ◌&&◌, ◌||◌, cond, and-true}
+use mathlib.Core.Bool.{Bool, true, false, ◌&&◌, cond, and-true}
+use mathlib.Core.Logic.{◌⊎◌, inl, inr}
 use mathlib.Core.List.{◌++◌}
 use native.Mathlib.Omega.{arith}
 use lib.ListN.{take}
-use lib.Dec.{eqb, ltb, leb}
+use lib.Dec.{ltb, leb}
 use borrow.Author.Tests.{lt-ltb, eq-eqb, leb-true, ltb-true}
 use Rattle.layout.specs.Layout.{fits}
 use Rattle.layout.proofs.Bits.{and_left, and_right}
 use Rattle.setup_read.specs.declared.Kind.{Kind}
-use Rattle.setup_read.specs.declared.Kind.TheVariants.{Nothing, Proposal, Accept, Confirm, Decline}
+use Rattle.setup_read.specs.declared.Kind.TheVariants.{Proposal, Accept, Confirm, Decline}
 use Rattle.setup_read.specs.declared.Message.{Message}
 use Rattle.setup_read.specs.Clc.{type_of, only_proposal, length_of, table, rows_in, chosen, values, lines_of, rows_of, chosen_of, size_of, fits_of}
 use Rattle.setup_read.specs.Clc.{encode_of, flag}
@@ -22,17 +24,17 @@ use Rattle.setup_write.proofs.Writing.{taken_is, flag_small, decline_bytes, prop
 never : {A : Type 0} → false ≡ true → A
 never e = let z : ◌≡◌ {A = ℕ} 0 1 = cc in absurd (omega arith)
 
-fits_as : Kind → Message → Bool
+fits_as : Option Kind → Message → Bool
 fits_as k m =
     let o = only_proposal k m.offset in
     let p = only_proposal k m.count in
     leb 1 (type_of k) && (leb 1 m.version && (leb p 8 && (leb (length_of k o p) 65535 && fits (rows_in k (table k o p)) (chosen k (table k o p) (values p m)))))
 
-fits_as_lem : (k : Kind) (m : Message) → m.kind ≡ k → fits_of m ≡ fits_as k m
+fits_as_lem : (k : Option Kind) (m : Message) → m.kind ≡ k → fits_of m ≡ fits_as k m
 unfolding fits_of rows_of chosen_of lines_of size_of fits_as
-fits_as_lem k m e = ap (λ (j : Kind). fits_as j m) e
+fits_as_lem k m e = ap (λ (j : Option Kind). fits_as j m) e
 
-size_as : (k : Kind) (m : Message) → m.kind ≡ k → size_of m ≡ length_of k (only_proposal k m.offset) (only_proposal k m.count)
+size_as : (k : Option Kind) (m : Message) → m.kind ≡ k → size_of m ≡ length_of k (only_proposal k m.offset) (only_proposal k m.count)
 unfolding size_of
 size_as k m e = λ i. length_of (e i) (only_proposal (e i) m.offset) (only_proposal (e i) m.count)
 
@@ -47,7 +49,7 @@ abbrev pub decline_fits : Message → Bool
 decline_fits m = leb 1 m.version && ltb m.version 16
 
 module _ (m : Message) (t : Typed m) where
-  decline_fits_lem : fits_as Decline m ≡ decline_fits m
+  decline_fits_lem : fits_as (Some Decline) m ≡ decline_fits m
   unfolding fits_as fits rows_in table chosen values
   decline_fits_lem =
       simp (
@@ -58,7 +60,7 @@ module _ (m : Message) (t : Typed m) where
         and-true,
       )
 
-  accept_fits : fits_as Accept m ≡ endpoint_fits m
+  accept_fits : fits_as (Some Accept) m ≡ endpoint_fits m
   unfolding fits_as fits rows_in table chosen values
   accept_fits =
       simp (
@@ -76,7 +78,7 @@ module _ (m : Message) (t : Typed m) where
         and-true,
       )
 
-  confirm_fits : fits_as Confirm m ≡ endpoint_fits m
+  confirm_fits : fits_as (Some Confirm) m ≡ endpoint_fits m
   unfolding fits_as fits rows_in table chosen values
   confirm_fits =
       simp (
@@ -93,14 +95,14 @@ module _ (m : Message) (t : Typed m) where
         and-true,
       )
 
-  proposal_fits_lem : fits_as Proposal m ≡ proposal_fits m
+  proposal_fits_lem : fits_as (Some Proposal) m ≡ proposal_fits m
   unfolding fits_as fits rows_in table chosen values
   proposal_fits_lem = go (leb m.count 8) refl
     where
       few : leb m.count 8 ≡ true → Bytes (17 * m.count) (take (17 * m.count) m.prefixes)
       few e = taken_is (17 * m.count) 136 m.prefixes (omega (arith, leb-true m.count 8 e)) t.prefixes
 
-      go : (b : Bool) → leb m.count 8 ≡ b → fits_as Proposal m ≡ proposal_fits m
+      go : (b : Bool) → leb m.count 8 ≡ b → fits_as (Some Proposal) m ≡ proposal_fits m
       go false e = simp e
       go true e =
           simp (
@@ -121,60 +123,43 @@ module _ (m : Message) (t : Typed m) where
             and-true,
           )
 
--- by the number of the kind
-module _ (m : Message) (t : Typed m) (k : ℕ) (e : k ≡ type_of m.kind) where
-  pub proposal_fit : k ≡ 1 → (m.kind ≡ Proposal) × (fits_of m ≡ proposal_fits m) × (size_of m ≡ 52 + m.offset + 17 * m.count)
-  proposal_fit h = go m.kind refl (sym e ∙ h)
-    where
-      go : (j : Kind) → m.kind ≡ j → type_of j ≡ 1 → (m.kind ≡ Proposal) × (fits_of m ≡ proposal_fits m) × (size_of m ≡ 52 + m.offset + 17 * m.count)
-      go Nothing q f = absurd (omega arith)
-      go Proposal q f = (q, fits_as_lem Proposal m q ∙ proposal_fits_lem m t, size_as Proposal m q)
-      go Accept q f = absurd (omega arith)
-      go Confirm q f = absurd (omega arith)
-      go Decline q f = absurd (omega arith)
+-- by the kind
+module _ (m : Message) (t : Typed m) where
+  pub proposal_fit : m.kind ≡ Some Proposal → (fits_of m ≡ proposal_fits m) × (size_of m ≡ 52 + m.offset + 17 * m.count)
+  proposal_fit q = (fits_as_lem (Some Proposal) m q ∙ proposal_fits_lem m t, size_as (Some Proposal) m q)
 
-  pub decline_fit : k ≡ 4 → (m.kind ≡ Decline) × (fits_of m ≡ decline_fits m) × (size_of m ≡ 28)
-  decline_fit h = go m.kind refl (sym e ∙ h)
-    where
-      go : (j : Kind) → m.kind ≡ j → type_of j ≡ 4 → (m.kind ≡ Decline) × (fits_of m ≡ decline_fits m) × (size_of m ≡ 28)
-      go Nothing q f = absurd (omega arith)
-      go Proposal q f = absurd (omega arith)
-      go Accept q f = absurd (omega arith)
-      go Confirm q f = absurd (omega arith)
-      go Decline q f = (q, fits_as_lem Decline m q ∙ decline_fits_lem m t, size_as Decline m q)
+  pub accept_fit : m.kind ≡ Some Accept → (fits_of m ≡ endpoint_fits m) × (size_of m ≡ 68)
+  accept_fit q = (fits_as_lem (Some Accept) m q ∙ accept_fits m t, size_as (Some Accept) m q)
 
-  pub endpoint_fit : (eqb k 2 || eqb k 3) ≡ true → (fits_of m ≡ endpoint_fits m) × (size_of m ≡ 68)
-  endpoint_fit h = go m.kind refl (ap (λ (x : ℕ). eqb x 2 || eqb x 3) (sym e) ∙ h)
-    where
-      go : (j : Kind) → m.kind ≡ j → (eqb (type_of j) 2 || eqb (type_of j) 3) ≡ true → (fits_of m ≡ endpoint_fits m) × (size_of m ≡ 68)
-      go Nothing q f = never f
-      go Proposal q f = never f
-      go Accept q f = (fits_as_lem Accept m q ∙ accept_fits m t, size_as Accept m q)
-      go Confirm q f = (fits_as_lem Confirm m q ∙ confirm_fits m t, size_as Confirm m q)
-      go Decline q f = never f
+  pub confirm_fit : m.kind ≡ Some Confirm → (fits_of m ≡ endpoint_fits m) × (size_of m ≡ 68)
+  confirm_fit q = (fits_as_lem (Some Confirm) m q ∙ confirm_fits m t, size_as (Some Confirm) m q)
 
-  pub nothing_fit : (k ≡ 1 → ⊥) → (eqb k 2 || eqb k 3) ≡ false → (k ≡ 4 → ⊥) → fits_of m ≡ false
-  unfolding fits_as
-  nothing_fit a b c = go m.kind refl (λ h. a (e ∙ h)) (ap (λ (x : ℕ). eqb x 2 || eqb x 3) (sym e) ∙ b) (λ h. c (e ∙ h))
-    where
-      go : (j : Kind) → m.kind ≡ j → (type_of j ≡ 1 → ⊥) → (eqb (type_of j) 2 || eqb (type_of j) 3) ≡ false → (type_of j ≡ 4 → ⊥) → fits_of m ≡ false
-      go Nothing q a b c = fits_as_lem Nothing m q
-      go Proposal q a b c = absurd (a refl)
-      go Accept q a b c = never (sym b)
-      go Confirm q a b c = never (sym b)
-      go Decline q a b c = absurd (c refl)
+  pub endpoint_fit : (m.kind ≡ Some Accept) ⊎ (m.kind ≡ Some Confirm) → (fits_of m ≡ endpoint_fits m) × (size_of m ≡ 68)
+  endpoint_fit (inl q) = accept_fit q
+  endpoint_fit (inr q) = confirm_fit q
+
+  pub decline_fit : m.kind ≡ Some Decline → (fits_of m ≡ decline_fits m) × (size_of m ≡ 28)
+  decline_fit q = (fits_as_lem (Some Decline) m q ∙ decline_fits_lem m t, size_as (Some Decline) m q)
+
+-- what the code answers where the tests come out x
+pub size_is : (m : Message) (t x : Bool) (n : ℕ) → fits_of m ≡ t → size_of m ≡ n → t ≡ x → cond x (Some n) None ≡ cond (fits_of m) (Some (size_of m)) None
+size_is m t x n f s e = sym ((λ i. cond (f i) (Some (s i)) None) ∙ ap (λ (y : Bool). cond y (Some n) None) e)
+
+pub nothing_fit : (m : Message) → m.kind ≡ None → fits_of m ≡ false
+unfolding fits_as
+nothing_fit m q = fits_as_lem None m q
 
 -- a message that fits has 28 bytes or more
 pub fit_size : (m : Message) → fits_of m ≡ true → 28 ≤ size_of m
 unfolding fits_as
 fit_size m h = go m.kind refl
   where
-    go : (j : Kind) → m.kind ≡ j → 28 ≤ size_of m
-    go Nothing q = never (sym (fits_as_lem Nothing m q) ∙ h)
-    go Proposal q = omega (arith, size_as Proposal m q)
-    go Accept q = omega (arith, size_as Accept m q)
-    go Confirm q = omega (arith, size_as Confirm m q)
-    go Decline q = omega (arith, size_as Decline m q)
+    go : (j : Option Kind) → m.kind ≡ j → 28 ≤ size_of m
+    go None q = never (sym (fits_as_lem None m q) ∙ h)
+    go (Some Proposal) q = omega (arith, size_as (Some Proposal) m q)
+    go (Some Accept) q = omega (arith, size_as (Some Accept) m q)
+    go (Some Confirm) q = omega (arith, size_as (Some Confirm) m q)
+    go (Some Decline) q = omega (arith, size_as (Some Decline) m q)
 
 -- what the code writes, piece by piece
 pub record Fine (m : Message) : Type 0 where
@@ -182,53 +167,43 @@ pub record Fine (m : Message) : Type 0 where
   pub code : m.code < 16
   pub mtu : m.mtu < 16
 
-module _ (m : Message) (t : Typed m) (h : fits_of m ≡ true) (k : ℕ) (e : k ≡ type_of m.kind) where
-  pub decline_written : k ≡ 4 → (size_of m ≡ 28) × (encode_of m ≡ head_of k 28 m ++ diagnosis_of m)
-  decline_written four =
-      let f = decline_fit m t k e four in
-      let v = ltb-true m.version 16 (and_right (leb 1 m.version) _ (sym f.1 ∙ h)) in
-      (f.2, decline_bytes m t v f.0 ∙ ap (λ (x : ℕ). head_of x 28 m ++ diagnosis_of m) (sym four))
+module _ (m : Message) (t : Typed m) (h : fits_of m ≡ true) where
+  pub decline_written : m.kind ≡ Some Decline → (size_of m ≡ 28) × (encode_of m ≡ head_of (type_of m.kind) 28 m ++ diagnosis_of m)
+  decline_written q =
+      let f = decline_fit m t q in
+      let v = ltb-true m.version 16 (and_right (leb 1 m.version) _ (sym f.0 ∙ h)) in
+      (f.1, decline_bytes m t v q ∙ ap (λ (k : Option Kind). head_of (type_of k) 28 m ++ diagnosis_of m) (sym q))
 
-  pub proposal_written : k ≡ 1
-      → (m.count ≤ 8) × (size_of m ≡ 52 + m.offset + 17 * m.count) × (encode_of m ≡ head_of k (size_of m) m ++ port_of m ++ networks_of m)
-  proposal_written one =
-      let f = proposal_fit m t k e one in
-      let a = and_right (leb 1 m.version) _ (sym f.1 ∙ h) in
+  pub proposal_written : m.kind ≡ Some Proposal
+      → (m.count ≤ 8) × (size_of m ≡ 52 + m.offset + 17 * m.count)
+      × (encode_of m ≡ head_of (type_of m.kind) (size_of m) m ++ port_of m ++ networks_of m)
+  proposal_written q =
+      let f = proposal_fit m t q in
+      let a = and_right (leb 1 m.version) _ (sym f.0 ∙ h) in
       let few = leb-true m.count 8 (and_left (leb m.count 8) _ a) in
       let b = and_right (leb m.count 8) _ a in
       let v = ltb-true m.version 16 (and_right (leb (52 + m.offset + 17 * m.count) 65535) _ b) in
-      (few, f.2, proposal_bytes m t v few f.0 ∙ (λ i. head_of (sym one i) (sym f.2 i) m ++ port_of m ++ networks_of m))
+      (few, f.1, proposal_bytes m t v few q ∙ (λ i. head_of (type_of (sym q i)) (sym f.1 i) m ++ port_of m ++ networks_of m))
 
-  pub endpoint_written : (k ≡ 1 → ⊥) → (k ≡ 4 → ⊥) → (size_of m ≡ 68) × (encode_of m ≡ head_of k 68 m ++ port_of m ++ rmb_of m)
-  unfolding fits_as
-  endpoint_written a c = go m.kind refl (λ q. a (e ∙ q)) (λ q. c (e ∙ q)) e
-    where
-      fine : endpoint_fits m ≡ true → Fine m
-      fine x =
-          let x1 = and_right (leb 1 m.version) _ x in
-          let x2 = and_right (ltb m.version 16) _ x1 in
-          let x3 = and_right (ltb m.qp 16777216) _ x2 in
-          let x4 = and_right (ltb m.code 16) _ x3 in
-          record {
-            version = ltb-true m.version 16 (and_left (ltb m.version 16) _ x1);
-            code = ltb-true m.code 16 (and_left (ltb m.code 16) _ x3);
-            mtu = ltb-true m.mtu 16 (and_left (ltb m.mtu 16) _ x4);
-          }
+  fine : endpoint_fits m ≡ true → Fine m
+  fine x =
+      let x1 = and_right (leb 1 m.version) _ x in
+      let x2 = and_right (ltb m.version 16) _ x1 in
+      let x3 = and_right (ltb m.qp 16777216) _ x2 in
+      let x4 = and_right (ltb m.code 16) _ x3 in
+      record {
+        version = ltb-true m.version 16 (and_left (ltb m.version 16) _ x1);
+        code = ltb-true m.code 16 (and_left (ltb m.code 16) _ x3);
+        mtu = ltb-true m.mtu 16 (and_left (ltb m.mtu 16) _ x4);
+      }
 
-      go : (j : Kind) → m.kind ≡ j → (type_of j ≡ 1 → ⊥) → (type_of j ≡ 4 → ⊥) → k ≡ type_of j
-          → (size_of m ≡ 68) × (encode_of m ≡ head_of k 68 m ++ port_of m ++ rmb_of m)
-      go Nothing q a c d = never (sym (fits_as_lem Nothing m q) ∙ h)
-      go Proposal q a c d = absurd (a refl)
-      go Accept q a c d =
-          let f = fine (sym (accept_fits m t) ∙ sym (fits_as_lem Accept m q) ∙ h) in
-          (size_as Accept m q, accept_bytes m t f.version f.code f.mtu q ∙ ap (λ (x : ℕ). head_of x 68 m ++ port_of m ++ rmb_of m) (sym d))
-      go Confirm q a c d =
-          let f = fine (sym (confirm_fits m t) ∙ sym (fits_as_lem Confirm m q) ∙ h) in
-          (size_as Confirm m q, confirm_bytes m t f.version f.code f.mtu q ∙ ap (λ (x : ℕ). head_of x 68 m ++ port_of m ++ rmb_of m) (sym d))
-      go Decline q a c d = absurd (c refl)
-
-pub size_is : (m : Message) (t x : Bool) (n : ℕ) → fits_of m ≡ t → size_of m ≡ n → t ≡ x → cond x n 0 ≡ cond (fits_of m) (size_of m) 0
-size_is m t x n f s e = sym ((λ i. cond (f i) (s i) 0) ∙ ap (λ (y : Bool). cond y n 0) e)
-
-pub size_none : (m : Message) → fits_of m ≡ false → 0 ≡ cond (fits_of m) (size_of m) 0
-size_none m f = sym (ap (λ (y : Bool). cond y (size_of m) 0) f)
+  pub endpoint_written : (m.kind ≡ Some Accept) ⊎ (m.kind ≡ Some Confirm)
+      → (size_of m ≡ 68) × (encode_of m ≡ head_of (type_of m.kind) 68 m ++ port_of m ++ rmb_of m)
+  endpoint_written (inl q) =
+      let e = accept_fit m t q in
+      let f = fine (sym e.0 ∙ h) in
+      (e.1, accept_bytes m t f.version f.code f.mtu q ∙ ap (λ (k : Option Kind). head_of (type_of k) 68 m ++ port_of m ++ rmb_of m) (sym q))
+  endpoint_written (inr q) =
+      let e = confirm_fit m t q in
+      let f = fine (sym e.0 ∙ h) in
+      (e.1, confirm_bytes m t f.version f.code f.mtu q ∙ ap (λ (k : Option Kind). head_of (type_of k) 68 m ++ port_of m ++ rmb_of m) (sym q))

@@ -1,5 +1,6 @@
 -- The page's three claims of reading and writing, from the laws over any rows.
 -- Assumes nothing.
+use Rattle.std.specs.Prelude.{Option, Some, None}
 use Prim.Native.Nat.{ℕ, zero, suc, ◌+◌, ◌-◌, ◌*◌, ◌/◌, ◌%◌, ◌≤◌, ◌<◌}
 use mathlib.Core.Path.{◌≡◌, ◌∙◌, refl, ap, sym, subst}
 use mathlib.Core.Bool.{Bool, true, false, ◌&&◌}
@@ -16,7 +17,7 @@ use Rattle.layout.proofs.Laws as L
 use Rattle.layout.proofs.At.{number_from, number_from_lem, bytes_from_lem, cut_at, cut_at_lem, given_at, given_at_lem}
 use Rattle.layout.proofs.Places.{number_bound}
 use Rattle.setup_read.specs.declared.Kind.{Kind}
-use Rattle.setup_read.specs.declared.Kind.TheVariants.{Nothing, Proposal, Accept, Confirm, Decline}
+use Rattle.setup_read.specs.declared.Kind.TheVariants.{Proposal, Accept, Confirm, Decline}
 use Rattle.setup_read.specs.declared.Message.{Message}
 use Rattle.setup_read.specs.Clc.{eye_catcher, type_of, length_of, only_proposal, table, rows_in, chosen, restored, values, message_of, lines_of, rows_of}
 use Rattle.setup_read.specs.Clc.{chosen_of, size_of, fits_of, encode_of, tidy_of, begins_b, sized_b, message_b, kind_of, message_in, read_of, offset_at}
@@ -27,7 +28,7 @@ use Rattle.setup_write.proofs.Writing.{both, zeros_is}
 use Rattle.setup_read.proofs.Reading.{high_four, low_four, bit_08, number_later, bytes_later}
 use Rattle.setup_read.proofs.Messages.{Begins, is_message, proposal_sizes, decline_size, endpoint_size, kind_in_lem, read_kind, read_proposal}
 use Rattle.setup_read.proofs.Messages.{read_accept, read_confirm, read_decline}
-use Rattle.setup_write.proofs.Fits.{endpoint_fits, proposal_fits, decline_fits, proposal_fit, decline_fit, endpoint_fit}
+use Rattle.setup_write.proofs.Fits.{endpoint_fits, proposal_fits, decline_fits, proposal_fit, decline_fit, accept_fit, confirm_fit}
 
 -- what is read has its types' bounds
 bytes_is : (l : List ℕ) (i n : ℕ) → Bytes n (bytes_at l i n)
@@ -184,7 +185,7 @@ module _ (l : List ℕ) (m : message_b l ≡ true) where
       let s = spread l in
       let x : number_at l 7 1 / 8 % 2 < 2 = omega arith in
       record {
-        fit = (decline_fit (decline_at l) (decline_typed l) 4 refl refl).1 ∙ decline_read_fits l b.version;
+        fit = (decline_fit (decline_at l) (decline_typed l) refl).0 ∙ decline_read_fits l b.version;
         fields =
             (λ i.
             num (sym (high_four l 7 (omega arith)) i)
@@ -207,7 +208,7 @@ module _ (l : List ℕ) (m : message_b l ≡ true) where
       let s = spread l in
       let x : number_at l 7 1 / 8 % 2 < 2 = omega arith in
       record {
-        fit = (endpoint_fit (endpoint_at Accept (bit08 l 7) l) (endpoint_typed Accept (bit08 l 7) l) 2 refl refl).0 ∙ endpoint_read_fits Accept (bit08 l 7) l b.version;
+        fit = (accept_fit (endpoint_at Accept (bit08 l 7) l) (endpoint_typed Accept (bit08 l 7) l) refl).0 ∙ endpoint_read_fits Accept (bit08 l 7) l b.version;
         fields =
             (λ i.
             num (sym (high_four l 7 (omega arith)) i)
@@ -236,7 +237,7 @@ module _ (l : List ℕ) (m : message_b l ≡ true) where
       let n = endpoint_size l b.sized (λ f. omega arith) (λ f. omega arith) in
       let s = spread l in
       record {
-        fit = (endpoint_fit (endpoint_at Confirm false l) (endpoint_typed Confirm false l) 3 refl refl).0 ∙ endpoint_read_fits Confirm false l b.version;
+        fit = (confirm_fit (endpoint_at Confirm false l) (endpoint_typed Confirm false l) refl).0 ∙ endpoint_read_fits Confirm false l b.version;
         fields =
             (λ i.
             num (sym (high_four l 7 (omega arith)) i)
@@ -270,7 +271,7 @@ module _ (l : List ℕ) (m : message_b l ≡ true) where
       let front : take (17 * p) (d ++ zeros (136 - 17 * p)) ≡ d = take_at d (zeros (136 - 17 * p)) (17 * p) (bytes_is l (48 + o) (17 * p)).size in
       record {
         fit =
-            (proposal_fit (proposal_at l) (proposal_typed l z.few) 1 refl refl).1
+            (proposal_fit (proposal_at l) (proposal_typed l z.few) refl).0
             ∙ proposal_read_fits l b.version z.few (omega (arith, length_less l b));
         fields =
             (λ i.
@@ -316,21 +317,21 @@ written_again l small m z =
     ∙ L.written_again (rows_of (read_of l)) l small a.wide a.given z
 
 -- fields that fit read back
-width_as : (k : Kind) (o p : ℕ) → width_of (rows_in k (table k o p)) ≡ 8 * length_of k o p
+width_as : (k : Option Kind) (o p : ℕ) → width_of (rows_in k (table k o p)) ≡ 8 * length_of k o p
 unfolding width_of rows_in table
-width_as Nothing o p = refl
-width_as Proposal o p = omega arith
-width_as Accept o p = refl
-width_as Confirm o p = refl
-width_as Decline o p = refl
+width_as None o p = refl
+width_as (Some Proposal) o p = omega arith
+width_as (Some Accept) o p = refl
+width_as (Some Confirm) o p = refl
+width_as (Some Decline) o p = refl
 
-given_as : (k : Kind) (o p : ℕ) → length_of k o p ≤ 65535 → given_fit (rows_in k (table k o p)) ≡ true
+given_as : (k : Option Kind) (o p : ℕ) → length_of k o p ≤ 65535 → given_fit (rows_in k (table k o p)) ≡ true
 unfolding given_fit rows_in table
-given_as Nothing o p h = refl
-given_as Proposal o p h = simp (lt-ltb (52 + o + 17 * p) 65536 (omega arith))
-given_as Accept o p h = refl
-given_as Confirm o p h = refl
-given_as Decline o p h = refl
+given_as None o p h = refl
+given_as (Some Proposal) o p h = simp (lt-ltb (52 + o + 17 * p) 65536 (omega arith))
+given_as (Some Accept) o p h = refl
+given_as (Some Confirm) o p h = refl
+given_as (Some Decline) o p h = refl
 
 -- the tests, from what they say
 begins_message : (l : List ℕ) → Begins l → message_b l ≡ true
@@ -392,14 +393,14 @@ four_given l t n k g =
     }
 
 -- what a kind's rows and fields are, and what is read of a message written by them
-rows_as : Kind → Message → List Row
+rows_as : Option Kind → Message → List Row
 rows_as k m = rows_in k (table k (only_proposal k m.offset) (only_proposal k m.count))
 
-chosen_as : Kind → Message → List Field
+chosen_as : Option Kind → Message → List Field
 chosen_as k m =
     chosen k (table k (only_proposal k m.offset) (only_proposal k m.count)) (values (only_proposal k m.count) m)
 
-tidy_as : Kind → Message → Message
+tidy_as : Option Kind → Message → Message
 tidy_as k m = message_of k (restored k (table k (only_proposal k m.offset) (only_proposal k m.count)) (chosen_as k m))
 
 module _ (m : Message) (f : fits_of m ≡ true) where
@@ -430,23 +431,23 @@ module _ (m : Message) (f : fits_of m ≡ true) where
   unfolding l encode_of written_of
   size_is = gather_length (size_of m) _
 
-  well_as : (k : Kind) → m.kind ≡ k → WellWritten (rows_as k m) (chosen_as k m) l
+  well_as : (k : Option Kind) → m.kind ≡ k → WellWritten (rows_as k m) (chosen_as k m) l
   unfolding rows_as chosen_as rows_of chosen_of lines_of
-  well_as k e = subst (λ (j : Kind). WellWritten (rows_as j m) (chosen_as j m) l) e well
+  well_as k e = subst (λ (j : Option Kind). WellWritten (rows_as j m) (chosen_as j m) l) e well
 
-  long_as : (k : Kind) → m.kind ≡ k → length l ≡ length_of k (only_proposal k m.offset) (only_proposal k m.count)
+  long_as : (k : Option Kind) → m.kind ≡ k → length l ≡ length_of k (only_proposal k m.offset) (only_proposal k m.count)
   unfolding size_of
   long_as k e = size_is ∙ (λ i. length_of (e i) (only_proposal (e i) m.offset) (only_proposal (e i) m.count))
 
-  tidy_as_lem : (k : Kind) → m.kind ≡ k → tidy_as k m ≡ tidy_of m
+  tidy_as_lem : (k : Option Kind) → m.kind ≡ k → tidy_as k m ≡ tidy_of m
   unfolding tidy_as chosen_as tidy_of chosen_of lines_of
-  tidy_as_lem k e = ap (λ (j : Kind). tidy_as j m) (sym e)
+  tidy_as_lem k e = ap (λ (j : Option Kind). tidy_as j m) (sym e)
 
-  back_at : (k : Kind) → m.kind ≡ k → cut_at (rows_as k m) 0 (spread l) ≡ chosen_as k m
+  back_at : (k : Option Kind) → m.kind ≡ k → cut_at (rows_as k m) 0 (spread l) ≡ chosen_as k m
   unfolding fields_of
   back_at k e = sym (cut_at_lem (rows_as k m) 0 (spread l)) ∙ (well_as k e).back
 
-  marks_at : (k : Kind) → m.kind ≡ k → given_at (rows_as k m) 0 (spread l) ≡ true
+  marks_at : (k : Option Kind) → m.kind ≡ k → given_at (rows_as k m) 0 (spread l) ≡ true
   marks_at k e = sym (given_at_lem (rows_as k m) 0 (spread l)) ∙ (well_as k e).given
 
   -- byte 7's high half is the first field of each
@@ -454,16 +455,16 @@ module _ (m : Message) (f : fits_of m ≡ true) where
   version_back h e = omega (arith, sym (high_four l 7 (omega arith)) ∙ e, version_one)
 
   -- read as a kind without o and p
-  read_plain : (k : Kind) (t : ℕ) → m.kind ≡ k → kind_of t ≡ k → number_at l 4 1 ≡ t → message_b l ≡ true
+  read_plain : (k : Option Kind) (t : ℕ) → m.kind ≡ k → Some (kind_of t) ≡ k → number_at l 4 1 ≡ t → message_b l ≡ true
       → message_in k (only_proposal k (offset_at l)) (only_proposal k (count_at l)) l ≡ tidy_as k m → read_of l ≡ tidy_of m
   read_plain k t e et ek mb r = read_kind l k (kind_in_lem l t mb ek ∙ et) ∙ r ∙ tidy_as_lem k e
 
-  decline_back : m.kind ≡ Decline → read_of l ≡ tidy_of m
+  decline_back : m.kind ≡ Some Decline → read_of l ≡ tidy_of m
   unfolding rows_as chosen_as tidy_as message_in kind_of rows_in table chosen values cut_at given_at
   decline_back e =
-      let n : length l ≡ 28 = long_as Decline e in
-      let g = four_given l 4 28 192 (marks_at Decline e) in
-      let v : number_from (spread l) 56 4 ≡ m.version = ap (λ (x : List Field). number_in (nth x 0)) (back_at Decline e) in
+      let n : length l ≡ 28 = long_as (Some Decline) e in
+      let g = four_given l 4 28 192 (marks_at (Some Decline) e) in
+      let v : number_from (spread l) 56 4 ≡ m.version = ap (λ (x : List Field). number_in (nth x 0)) (back_at (Some Decline) e) in
       let b : Begins l =
       record {
         long = omega arith;
@@ -475,15 +476,15 @@ module _ (m : Message) (f : fits_of m ≡ true) where
         sized = sized_decline l g.kind n;
         end = sym (number_later l 192 (length l - 4) 4 (omega arith)) ∙ g.end;
       } in
-      read_plain Decline 4 e refl g.kind (begins_message l b)
-      (ap (λ (x : List Field). message_of Decline (restored Decline (table Decline 0 0) x)) (well_as Decline e).back)
+      read_plain (Some Decline) 4 e refl g.kind (begins_message l b)
+      (ap (λ (x : List Field). message_of (Some Decline) (restored (Some Decline) (table (Some Decline) 0 0) x)) (well_as (Some Decline) e).back)
 
-  accept_back : m.kind ≡ Accept → read_of l ≡ tidy_of m
+  accept_back : m.kind ≡ Some Accept → read_of l ≡ tidy_of m
   unfolding rows_as chosen_as tidy_as message_in kind_of rows_in table chosen values cut_at given_at
   accept_back e =
-      let n : length l ≡ 68 = long_as Accept e in
-      let g = four_given l 2 68 512 (marks_at Accept e) in
-      let v : number_from (spread l) 56 4 ≡ m.version = ap (λ (x : List Field). number_in (nth x 0)) (back_at Accept e) in
+      let n : length l ≡ 68 = long_as (Some Accept) e in
+      let g = four_given l 2 68 512 (marks_at (Some Accept) e) in
+      let v : number_from (spread l) 56 4 ≡ m.version = ap (λ (x : List Field). number_in (nth x 0)) (back_at (Some Accept) e) in
       let b : Begins l =
       record {
         long = omega arith;
@@ -495,15 +496,15 @@ module _ (m : Message) (f : fits_of m ≡ true) where
         sized = sized_endpoint l (λ q. omega (arith, g.kind)) (λ q. omega (arith, g.kind)) n;
         end = sym (number_later l 512 (length l - 4) 4 (omega arith)) ∙ g.end;
       } in
-      read_plain Accept 2 e refl g.kind (begins_message l b)
-      (ap (λ (x : List Field). message_of Accept (restored Accept (table Accept 0 0) x)) (well_as Accept e).back)
+      read_plain (Some Accept) 2 e refl g.kind (begins_message l b)
+      (ap (λ (x : List Field). message_of (Some Accept) (restored (Some Accept) (table (Some Accept) 0 0) x)) (well_as (Some Accept) e).back)
 
-  confirm_back : m.kind ≡ Confirm → read_of l ≡ tidy_of m
+  confirm_back : m.kind ≡ Some Confirm → read_of l ≡ tidy_of m
   unfolding rows_as chosen_as tidy_as message_in kind_of rows_in table chosen values cut_at given_at
   confirm_back e =
-      let n : length l ≡ 68 = long_as Confirm e in
-      let g = four_given l 3 68 512 (marks_at Confirm e) in
-      let v : number_from (spread l) 56 4 ≡ m.version = ap (λ (x : List Field). number_in (nth x 0)) (back_at Confirm e) in
+      let n : length l ≡ 68 = long_as (Some Confirm) e in
+      let g = four_given l 3 68 512 (marks_at (Some Confirm) e) in
+      let v : number_from (spread l) 56 4 ≡ m.version = ap (λ (x : List Field). number_in (nth x 0)) (back_at (Some Confirm) e) in
       let b : Begins l =
       record {
         long = omega arith;
@@ -515,24 +516,24 @@ module _ (m : Message) (f : fits_of m ≡ true) where
         sized = sized_endpoint l (λ q. omega (arith, g.kind)) (λ q. omega (arith, g.kind)) n;
         end = sym (number_later l 512 (length l - 4) 4 (omega arith)) ∙ g.end;
       } in
-      read_plain Confirm 3 e refl g.kind (begins_message l b)
-      (ap (λ (x : List Field). message_of Confirm (restored Confirm (table Confirm 0 0) x)) (well_as Confirm e).back)
+      read_plain (Some Confirm) 3 e refl g.kind (begins_message l b)
+      (ap (λ (x : List Field). message_of (Some Confirm) (restored (Some Confirm) (table (Some Confirm) 0 0) x)) (well_as (Some Confirm) e).back)
 
-  proposal_back : m.kind ≡ Proposal → read_of l ≡ tidy_of m
+  proposal_back : m.kind ≡ Some Proposal → read_of l ≡ tidy_of m
   unfolding rows_as chosen_as tidy_as message_in kind_of rows_in table chosen values cut_at given_at
   proposal_back e =
       let o = m.offset in
       let p = m.count in
-      let n : length l ≡ 52 + o + 17 * p = long_as Proposal e in
-      let g = four_given l 1 (52 + o + 17 * p) (320 + 8 * o + 32 + 8 + 16 + 8 + 8 * (17 * p)) (marks_at Proposal e) in
-      let f = back_at Proposal e in
+      let n : length l ≡ 52 + o + 17 * p = long_as (Some Proposal) e in
+      let g = four_given l 1 (52 + o + 17 * p) (320 + 8 * o + 32 + 8 + 16 + 8 + 8 * (17 * p)) (marks_at (Some Proposal) e) in
+      let f = back_at (Some Proposal) e in
       let v : number_from (spread l) 56 4 ≡ m.version = ap (λ (x : List Field). number_in (nth x 0)) f in
       let eo : offset_at l ≡ o = sym (number_from_lem l 38 2) ∙ ap (λ (x : List Field). number_in (nth x 4)) f in
       let ep : count_at l ≡ p =
       ap (λ (x : ℕ). number_at l (47 + x) 1) eo
       ∙ sym (number_later l (320 + 8 * o + 32 + 8 + 16) (47 + o) 1 (omega arith))
       ∙ ap (λ (x : List Field). number_in (nth x 7)) f in
-      let h : p ≤ 8 = subst (λ (j : Kind). only_proposal j p ≤ 8) e few in
+      let h : p ≤ 8 = subst (λ (j : Option Kind). only_proposal j p ≤ 8) e few in
       let b : Begins l =
       record {
         long = omega arith;
@@ -544,17 +545,17 @@ module _ (m : Message) (f : fits_of m ≡ true) where
         sized = sized_proposal l g.kind (omega arith) (omega arith);
         end = sym (number_later l _ (length l - 4) 4 (omega (arith, n))) ∙ g.end;
       } in
-      read_plain Proposal 1 e refl g.kind (begins_message l b)
-      ((λ i. message_in Proposal (eo i) (ep i) l)
-      ∙ ap (λ (x : List Field). message_of Proposal (restored Proposal (table Proposal o p) x)) (well_as Proposal e).back)
+      read_plain (Some Proposal) 1 e refl g.kind (begins_message l b)
+      ((λ i. message_in (Some Proposal) (eo i) (ep i) l)
+      ∙ ap (λ (x : List Field). message_of (Some Proposal) (restored (Some Proposal) (table (Some Proposal) o p) x)) (well_as (Some Proposal) e).back)
 
 pub reads_back : ReadsBack
 unfolding l fits_of
 reads_back m f = go m.kind refl
   where
-    go : (k : Kind) → m.kind ≡ k → read_of (encode_of m) ≡ tidy_of m
-    go Nothing e = let z : ◌≡◌ {A = ℕ} 0 1 = cc in absurd (omega arith)
-    go Proposal e = proposal_back m f e
-    go Accept e = accept_back m f e
-    go Confirm e = confirm_back m f e
-    go Decline e = decline_back m f e
+    go : (k : Option Kind) → m.kind ≡ k → read_of (encode_of m) ≡ tidy_of m
+    go None e = let z : ◌≡◌ {A = ℕ} 0 1 = cc in absurd (omega arith)
+    go (Some Proposal) e = proposal_back m f e
+    go (Some Accept) e = accept_back m f e
+    go (Some Confirm) e = confirm_back m f e
+    go (Some Decline) e = decline_back m f e

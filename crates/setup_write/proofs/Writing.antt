@@ -1,5 +1,6 @@
 -- The rows laid out are the pieces, one behind the other.
 -- Assumes nothing.
+use Rattle.std.specs.Prelude.{Option, Some}
 use Prim.Native.Nat.{ℕ, zero, suc, ◌+◌, ◌*◌, ◌≤◌, ◌<◌}
 use mathlib.Core.Path.{◌≡◌, ◌∙◌, refl, ap, sym}
 use mathlib.Core.Bool.{Bool, true, false, ◌&&◌, ◌||◌, cond}
@@ -66,13 +67,13 @@ unfolding diagnosis_of
 diagnosis_rows m = sym (simp (spread_append, spread_be, spread_zeros 4) (simp (append_assoc, append-nil)))
 
 -- what the rows of a kind give
-rows_as : Kind → Message → List Bool
+rows_as : Option Kind → Message → List Bool
 rows_as k m =
     let o = only_proposal k m.offset in
     let p = only_proposal k m.count in
     lay_out (rows_in k (table k o p)) (chosen k (table k o p) (values p m))
 
-encode_as : (k : Kind) (m : Message) → m.kind ≡ k → encode_of m ≡ gather (length_of k (only_proposal k m.offset) (only_proposal k m.count)) (rows_as k m)
+encode_as : (k : Option Kind) (m : Message) → m.kind ≡ k → encode_of m ≡ gather (length_of k (only_proposal k m.offset) (only_proposal k m.count)) (rows_as k m)
 unfolding encode_of written_of rows_of chosen_of lines_of size_of rows_as
 encode_as k m e = λ i. gather (length_of (e i) (only_proposal (e i) m.offset) (only_proposal (e i) m.count)) (rows_as (e i) m)
 
@@ -114,28 +115,28 @@ module _ (m : Message) (hv : m.version < 16) where
       ∙ head_rows t n (m.version * 16 + 0) m.peer r
       ∙ (λ i. spread (be_of 4 eye_catcher ++ be_of 1 t ++ be_of 2 n ++ be_of 1 (m.version * 16 + sym e i) ++ m.peer) ++ r)
 
-  decline_rows : rows_as Decline m ≡ spread (head_of 4 28 m ++ diagnosis_of m)
+  decline_rows : rows_as (Some Decline) m ≡ spread (head_of 4 28 m ++ diagnosis_of m)
   unfolding rows_as lay_out rows_in table chosen values
   decline_rows =
       flagged_head 4 28 m.sync _ (flag_sync m)
       ∙ ap (λ (x : List Bool). spread (head_of 4 28 m) ++ x) (diagnosis_rows m)
       ∙ sym (spread_append (head_of 4 28 m) (diagnosis_of m))
 
-  accept_rows : m.code < 16 → m.mtu < 16 → rows_as Accept m ≡ spread (head_of 2 68 m ++ port_of m ++ rmb_of m)
+  accept_rows : m.code < 16 → m.mtu < 16 → rows_as (Some Accept) m ≡ spread (head_of 2 68 m ++ port_of m ++ rmb_of m)
   unfolding rows_as lay_out rows_in table chosen values
   accept_rows hc hm =
       flagged_head 2 68 m.first _ (flag_first m)
       ∙ ap (λ (x : List Bool). spread (head_of 2 68 m) ++ x) (port_rows m _ ∙ ap (λ (x : List Bool). spread (port_of m) ++ x) (rmb_rows m hc hm))
       ∙ three (head_of 2 68 m) (port_of m) (rmb_of m)
 
-  confirm_rows : m.code < 16 → m.mtu < 16 → rows_as Confirm m ≡ spread (head_of 3 68 m ++ port_of m ++ rmb_of m)
+  confirm_rows : m.code < 16 → m.mtu < 16 → rows_as (Some Confirm) m ≡ spread (head_of 3 68 m ++ port_of m ++ rmb_of m)
   unfolding rows_as lay_out rows_in table chosen values
   confirm_rows hc hm =
       plain_head 3 68 _ refl
       ∙ ap (λ (x : List Bool). spread (head_of 3 68 m) ++ x) (port_rows m _ ∙ ap (λ (x : List Bool). spread (port_of m) ++ x) (rmb_rows m hc hm))
       ∙ three (head_of 3 68 m) (port_of m) (rmb_of m)
 
-  proposal_rows : rows_as Proposal m ≡ spread (head_of 1 (52 + m.offset + 17 * m.count) m ++ port_of m ++ networks_of m)
+  proposal_rows : rows_as (Some Proposal) m ≡ spread (head_of 1 (52 + m.offset + 17 * m.count) m ++ port_of m ++ networks_of m)
   unfolding rows_as lay_out rows_in table chosen values
   proposal_rows =
       let h = head_of 1 (52 + m.offset + 17 * m.count) m in
@@ -209,24 +210,24 @@ whole {n} {w} b x e = ap (gather n) e ∙ ap (λ (k : ℕ). gather k (spread w))
 
 -- the bytes of each kind
 module _ (m : Message) (t : Typed m) (hv : m.version < 16) where
-  pub decline_bytes : m.kind ≡ Decline → encode_of m ≡ head_of 4 28 m ++ diagnosis_of m
-  decline_bytes e = encode_as Decline m e ∙ whole (rows_as Decline m) (both (head_is m t 4 28) (diagnosis_is m t)) (decline_rows m hv)
+  pub decline_bytes : m.kind ≡ Some Decline → encode_of m ≡ head_of 4 28 m ++ diagnosis_of m
+  decline_bytes e = encode_as (Some Decline) m e ∙ whole (rows_as (Some Decline) m) (both (head_is m t 4 28) (diagnosis_is m t)) (decline_rows m hv)
 
   module _ (hc : m.code < 16) (hm : m.mtu < 16) where
-    pub accept_bytes : m.kind ≡ Accept → encode_of m ≡ head_of 2 68 m ++ port_of m ++ rmb_of m
+    pub accept_bytes : m.kind ≡ Some Accept → encode_of m ≡ head_of 2 68 m ++ port_of m ++ rmb_of m
     accept_bytes e =
-        encode_as Accept m e ∙ whole (rows_as Accept m) (both (both (head_is m t 2 68) (port_is m t)) (rmb_is m t)) (accept_rows m hv hc hm)
+        encode_as (Some Accept) m e ∙ whole (rows_as (Some Accept) m) (both (both (head_is m t 2 68) (port_is m t)) (rmb_is m t)) (accept_rows m hv hc hm)
 
-    pub confirm_bytes : m.kind ≡ Confirm → encode_of m ≡ head_of 3 68 m ++ port_of m ++ rmb_of m
+    pub confirm_bytes : m.kind ≡ Some Confirm → encode_of m ≡ head_of 3 68 m ++ port_of m ++ rmb_of m
     confirm_bytes e =
-        encode_as Confirm m e ∙ whole (rows_as Confirm m) (both (both (head_is m t 3 68) (port_is m t)) (rmb_is m t)) (confirm_rows m hv hc hm)
+        encode_as (Some Confirm) m e ∙ whole (rows_as (Some Confirm) m) (both (both (head_is m t 3 68) (port_is m t)) (rmb_is m t)) (confirm_rows m hv hc hm)
 
-  pub proposal_bytes : m.count ≤ 8 → m.kind ≡ Proposal
+  pub proposal_bytes : m.count ≤ 8 → m.kind ≡ Some Proposal
       → encode_of m ≡ head_of 1 (52 + m.offset + 17 * m.count) m ++ port_of m ++ networks_of m
   proposal_bytes h e =
       let n = 52 + m.offset + 17 * m.count in
       let x = both (both (head_is m t 1 n) (port_is m t)) (networks_is m t h) in
       let k : 16 + 22 + (2 + m.offset + 4 + 1 + 2 + 1 + 17 * m.count + 4) ≡ n = omega arith in
-      encode_as Proposal m e
-      ∙ ap (λ (j : ℕ). gather j (rows_as Proposal m)) (sym k)
-      ∙ whole (rows_as Proposal m) x (proposal_rows m hv)
+      encode_as (Some Proposal) m e
+      ∙ ap (λ (j : ℕ). gather j (rows_as (Some Proposal) m)) (sym k)
+      ∙ whole (rows_as (Some Proposal) m) x (proposal_rows m hv)

@@ -3,13 +3,13 @@
 
 ghost use Rattle.std.specs.Prelude.{◌≤◌};
 
-use conn_record::Opening;
+use conn_record::{Opening, Remote};
 use group_calls::Request;
 use group_desk::Management;
 use group_make::Command;
 use text_records::read;
-use text_stream::input;
-use text_stream::input::Scan;
+use text_stream::input::Input;
+use text_stream::why::Why;
 
 #[derive(Clone, Copy)]
 pub enum CallVerb {
@@ -27,135 +27,141 @@ pub enum CallVerb {
 }
 
 // `count` bytes are lent beside the call, and `room` bytes of out.
+// Counts, not slices: what is lent is the first bytes of `given`, as ReplayCalls.Lent says.
 #[derive(Clone, Copy)]
 pub struct CallLine {
-    pub scan: Scan,
     pub command: Command,
     pub count: usize,
     pub room: usize,
 }
 
-const MOST: u32 = 4294967295;
+const MOST: u64 = 4294967295;
 
-fn line_of(scan: Scan, command: Command, count: usize, room: usize) -> CallLine
-    ensures { result.scan.left ≤ scan.left }
-{
+// A call with nothing lent beside it.
+fn alone(command: Command) -> CallLine {
     CallLine {
-        scan: scan,
-        command: command,
-        count: count,
-        room: room,
+        command,
+        count: 0,
+        room: 0,
     }
 }
 
 // SLOT OWN PEER LINK SIZE, and the rest of what is fixed about the peer
-fn open_line(rt: HostRuntime, buf: &mut [u8; 65536], c: Scan) -> CallLine
-    ensures { result.scan.left ≤ c.left }
+fn open_line(input: &mut Input) -> Result<CallLine, Why>
+    ensures { input.new.left ≤ input.old.left }
 {
-    let slot = input::number(rt, buf, c, MOST);
-    let own = input::number(rt, buf, slot.scan, MOST);
-    let peer = input::number(rt, buf, own.scan, MOST);
-    let link = input::number(rt, buf, peer.scan, 255);
-    let size = input::number(rt, buf, link.scan, MOST);
-    let to = read::remote(rt, buf, size.scan, size.value, MOST);
-    let remote = to.remote;
-    let given = Opening {
-        own: own.value,
-        peer: peer.value,
-        link: link.value as u8,
-        remote: remote,
+    let slot = input.number(MOST);
+    let own = input.number(MOST);
+    let peer = input.number(MOST);
+    let link = input.number(255);
+    let size = input.number(MOST);
+    let remote = read::remote(input, u32::MAX);
+    let slot = slot? as u32;
+    let opening = Opening {
+        own: own? as u32,
+        peer: peer? as u32,
+        link: link? as u8,
+        remote: Remote {
+            size: size? as u32,
+            ..remote?
+        },
     };
-    let command = Command::Manage(Management::Open(slot.value, given));
-    line_of(to.scan, command, 0, 0)
+    Ok(alone(Command::Manage(Management::Open(slot, opening))))
 }
 
-fn sample_line(rt: HostRuntime, buf: &mut [u8; 65536], c: Scan) -> CallLine
-    ensures { result.scan.left ≤ c.left }
+// SLOT
+fn free_line(input: &mut Input) -> Result<CallLine, Why>
+    ensures { input.new.left ≤ input.old.left }
 {
-    let link = input::number(rt, buf, c, 255);
-    let ms = input::number(rt, buf, link.scan, MOST);
-    let command = Command::Manage(Management::Sample(link.value as u8, ms.value));
-    line_of(ms.scan, command, 0, 0)
+    let slot = input.number(MOST)? as u32;
+    Ok(alone(Command::Manage(Management::Free(slot))))
 }
 
-// A plain send or an urgent one.
-fn send_line(
-    rt: HostRuntime,
-    buf: &mut [u8; 65536],
-    given: &mut [u8],
-    c: Scan,
-    request: Request,
-) -> CallLine
-    ensures { result.scan.left ≤ c.left }
+// LINK MS
+fn sample_line(input: &mut Input) -> Result<CallLine, Why>
+    ensures { input.new.left ≤ input.old.left }
 {
-    let slot = input::number(rt, buf, c, MOST);
-    let b = input::bytes(rt, buf, given, slot.scan);
-    let command = Command::On(slot.value, request);
-    line_of(b.scan, command, b.count, 0)
+    let link = input.number(255);
+    let ms = input.number(MOST);
+    let sample = Management::Sample(link? as u8, ms? as u32);
+    Ok(alone(Command::Manage(sample)))
 }
 
-fn place_line(rt: HostRuntime, buf: &mut [u8; 65536], given: &mut [u8], c: Scan) -> CallLine
-    ensures { result.scan.left ≤ c.left }
+// SLOT HEX, of a plain send or an urgent one.
+fn send_line(input: &mut Input, given: &mut [u8], request: Request) -> Result<CallLine, Why>
+    ensures { input.new.left ≤ input.old.left }
 {
-    let slot = input::number(rt, buf, c, MOST);
-    let offset = input::number(rt, buf, slot.scan, MOST);
-    let b = input::bytes(rt, buf, given, offset.scan);
-    let command = Command::On(slot.value, Request::Place(offset.value));
-    line_of(b.scan, command, b.count, 0)
+    let slot = input.number(MOST);
+    let count = input.bytes(given);
+    Ok(CallLine {
+        command: Command::On(slot? as u32, request),
+        count: count?,
+        room: 0,
+    })
 }
 
-fn read_line(rt: HostRuntime, buf: &mut [u8; 65536], c: Scan) -> CallLine
-    ensures { result.scan.left ≤ c.left }
+// SLOT OFFSET HEX
+fn place_line(input: &mut Input, given: &mut [u8]) -> Result<CallLine, Why>
+    ensures { input.new.left ≤ input.old.left }
 {
-    let slot = input::number(rt, buf, c, MOST);
-    let room = input::number(rt, buf, slot.scan, 65600);
-    let command = Command::On(slot.value, Request::Read);
-    line_of(room.scan, command, 0, room.value as usize)
+    let slot = input.number(MOST);
+    let offset = input.number(MOST);
+    let count = input.bytes(given);
+    Ok(CallLine {
+        command: Command::On(slot? as u32, Request::Place(offset? as u32)),
+        count: count?,
+        room: 0,
+    })
 }
 
-fn hear_line(rt: HostRuntime, buf: &mut [u8; 65536], given: &mut [u8], c: Scan) -> CallLine
-    ensures { result.scan.left ≤ c.left }
+// SLOT ROOM
+fn read_line(input: &mut Input) -> Result<CallLine, Why>
+    ensures { input.new.left ≤ input.old.left }
 {
-    let b = input::bytes(rt, buf, given, c);
-    line_of(b.scan, Command::Hear, b.count, 0)
+    let slot = input.number(MOST);
+    let room = input.number(65600);
+    Ok(CallLine {
+        command: Command::On(slot? as u32, Request::Read),
+        count: 0,
+        room: room? as usize,
+    })
 }
 
-// The four calls that name a slot and nothing else.
-fn slot_command(verb: CallVerb, slot: u32) -> Command {
-    match verb {
-        CallVerb::Shutdown => Command::On(slot, Request::Shutdown),
-        CallVerb::Close => Command::On(slot, Request::Close),
-        CallVerb::Abort => Command::On(slot, Request::Abort),
-        _ => Command::Manage(Management::Free(slot)),
-    }
-}
-
-fn slot_line(rt: HostRuntime, buf: &mut [u8; 65536], c: Scan, verb: CallVerb) -> CallLine
-    ensures { result.scan.left ≤ c.left }
+// HEX
+fn hear_line(input: &mut Input, given: &mut [u8]) -> Result<CallLine, Why>
+    ensures { input.new.left ≤ input.old.left }
 {
-    let slot = input::number(rt, buf, c, MOST);
-    let command = slot_command(verb, slot.value);
-    line_of(slot.scan, command, 0, 0)
+    let count = input.bytes(given)?;
+    Ok(CallLine {
+        command: Command::Hear,
+        count,
+        room: 0,
+    })
+}
+
+// SLOT, of a request that has nothing else.
+fn slot_line(input: &mut Input, request: Request) -> Result<CallLine, Why>
+    ensures { input.new.left ≤ input.old.left }
+{
+    let slot = input.number(MOST)? as u32;
+    Ok(alone(Command::On(slot, request)))
 }
 
 // The rest of a call's line, after its verb; its bytes go to `given`, from its start on.
-pub fn parse(
-    rt: HostRuntime,
-    buf: &mut [u8; 65536],
-    given: &mut [u8],
-    c: Scan,
-    verb: CallVerb,
-) -> CallLine
-    ensures { result.scan.left ≤ c.left }
+pub fn parse(input: &mut Input, given: &mut [u8], verb: CallVerb) -> Result<CallLine, Why>
+    ensures { input.new.left ≤ input.old.left }
 {
     match verb {
-        CallVerb::Open => open_line(rt, buf, c),
-        CallVerb::Sample => sample_line(rt, buf, c),
-        CallVerb::Send => send_line(rt, buf, given, c, Request::Send),
-        CallVerb::Urgent => send_line(rt, buf, given, c, Request::Urgent),
-        CallVerb::Place => place_line(rt, buf, given, c),
-        CallVerb::Read => read_line(rt, buf, c),
-        CallVerb::Hear => hear_line(rt, buf, given, c),
-        _ => slot_line(rt, buf, c, verb),
+        CallVerb::Open => open_line(input),
+        CallVerb::Free => free_line(input),
+        CallVerb::Sample => sample_line(input),
+        CallVerb::Send => send_line(input, given, Request::Send),
+        CallVerb::Urgent => send_line(input, given, Request::Urgent),
+        CallVerb::Place => place_line(input, given),
+        CallVerb::Read => read_line(input),
+        CallVerb::Hear => hear_line(input, given),
+        CallVerb::Shutdown => slot_line(input, Request::Shutdown),
+        CallVerb::Close => slot_line(input, Request::Close),
+        CallVerb::Abort => slot_line(input, Request::Abort),
     }
 }

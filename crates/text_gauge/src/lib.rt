@@ -2,237 +2,101 @@
 // is the 16 digits of its bits.
 #![tactic(auto)]
 
-ghost use Rattle.std.specs.Prelude.{◌≤◌, ◌<◌};
+ghost use Rattle.std.specs.Prelude.{◌≤◌, IfOk};
 
 use gauge::{Gauge, Health, Word};
-use text_stream::input::{Decimal, Scan};
-use text_stream::{input, output};
+use std::num::{f64_from_bits_with_nan, f64_to_bits_with_nan};
+use text_stream::input::Input;
+use text_stream::output::Output;
+use text_stream::why::Why;
 
-// A link, and the gauge to lay there.
-#[derive(Clone, Copy)]
-pub struct Laid {
-    pub scan: Scan,
-    pub link: u8,
-    pub gauge: Gauge,
-}
-
-#[derive(Clone, Copy)]
-struct Times {
-    scan: Scan,
-    mean: f64,
-    worst: f64,
-}
-
-#[derive(Clone, Copy)]
-struct Double {
-    scan: Scan,
-    value: f64,
-}
-
-fn wide(x: u8) -> u64
-    ensures { result < 256 }
+// MEAN or WORST: one that is not finite does not parse.
+fn double_of(input: &mut Input, given: &mut [u8]) -> Result<f64, Why>
+    ensures { input.new.left ≤ input.old.left }
 {
-    x as u64
-}
-
-// Byte k, 0 where there is none.
-fn byte_at(given: &[u8], k: usize) -> u64
-    ensures { result < 256 }
-{
-    if k < given.len() { wide(given[k]) } else { 0 }
-}
-
-// Four bytes as a number, high byte first.
-fn four(a: u64, b: u64, c: u64, d: u64) -> u64
-    requires { (a < 256) × (b < 256) × (c < 256) × (d < 256) }
-    ensures { result < 4294967296 }
-{
-    a * 16777216 + b * 65536 + c * 256 + d
-}
-
-// The first eight bytes as a number, high byte first.
-fn bits_in(given: &[u8]) -> u64 {
-    let high = four(
-        byte_at(given, 0),
-        byte_at(given, 1),
-        byte_at(given, 2),
-        byte_at(given, 3),
-    );
-    let low = four(
-        byte_at(given, 4),
-        byte_at(given, 5),
-        byte_at(given, 6),
-        byte_at(given, 7),
-    );
-    high * 4294967296 + low
-}
-
-// A double that does not parse.
-fn no_double(scan: Scan, why: u8) -> Double
-    ensures { result.scan.left ≤ scan.left }
-{
-    let bad = input::spoilt(scan, why);
-    Double {
-        scan: bad,
-        value: 0.0,
-    }
-}
-
-// MEAN or WORST: one that is not finite, whose exponent is all ones, does not parse.
-fn double_of(rt: HostRuntime, buf: &mut [u8; 65536], given: &mut [u8], c: Scan) -> Double
-    ensures { result.scan.left ≤ c.left }
-{
-    let b = input::bytes(rt, buf, given, c);
-    let scan = b.scan;
-    if b.count != 8 {
-        return no_double(scan, input::BYTES);
-    }
-    let bits = bits_in(given);
-    if bits % 9223372036854775808 / 4503599627370496 == 2047 {
-        return no_double(scan, input::FIELD);
-    }
-    Double {
-        scan: scan,
-        value: f64::from_bits(bits),
+    let count = input.bytes(given)?;
+    let Ok(bytes) = <[u8; 8]>::try_from(&given[..count]) else {
+        return Err(Why::Bytes);
+    };
+    let x = f64_from_bits_with_nan(u64::from_be_bytes(bytes));
+    if x.is_finite() {
+        Ok(x)
+    } else {
+        Err(Why::Field)
     }
 }
 
 // LINK, 1 to 4.
-pub fn link_of(rt: HostRuntime, buf: &mut [u8; 65536], c: Scan) -> Decimal
-    ensures { (result.scan.left ≤ c.left) × (result.value ≤ 4) }
+pub fn link_of(input: &mut Input) -> Result<u8, Why>
+    ensures left { input.new.left ≤ input.old.left }
+    ensures fits { IfOk result (λ k. k ≤ 4) }
 {
-    let k = input::number(rt, buf, c, 4);
-    if 0 < k.value {
-        return k;
-    }
-    let bad = input::spoilt(k.scan, input::FIELD);
-    Decimal {
-        scan: bad,
-        value: 0,
+    match input.number(4)? {
+        0 => Err(Why::Field),
+        k => Ok(k as u8),
     }
 }
 
-// MEAN WORST
-fn times_of(rt: HostRuntime, buf: &mut [u8; 65536], given: &mut [u8], c: Scan) -> Times
-    ensures { result.scan.left ≤ c.left }
+// LINK MEAN WORST COUNT LATE: a link, and the gauge to lay there.
+pub fn gauge_of(input: &mut Input, given: &mut [u8]) -> Result<(u8, Gauge), Why>
+    ensures { input.new.left ≤ input.old.left }
 {
-    let mean = double_of(rt, buf, given, c);
-    let worst = double_of(rt, buf, given, mean.scan);
-    let scan = worst.scan;
-    Times {
-        scan: scan,
-        mean: mean.value,
-        worst: worst.value,
-    }
-}
-
-// COUNT LATE, of a gauge at this link with these times.
-fn counted(rt: HostRuntime, buf: &mut [u8; 65536], link: u8, t: Times) -> Laid
-    ensures { result.scan.left ≤ t.scan.left }
-{
-    let count = input::number(rt, buf, t.scan, 255);
-    let late = input::number(rt, buf, count.scan, 1);
-    let g = Gauge {
-        mean: t.mean,
-        worst: t.worst,
-        count: count.value as u8,
-        late: late.value == 1,
+    let link = link_of(input);
+    let mean = double_of(input, given);
+    let worst = double_of(input, given);
+    let count = input.number(255);
+    let late = input.number(1);
+    let link = link?;
+    let gauge = Gauge {
+        mean: mean?,
+        worst: worst?,
+        count: count? as u8,
+        late: late? == 1,
     };
-    let scan = late.scan;
-    Laid {
-        scan: scan,
-        link: link,
-        gauge: g,
-    }
+    Ok((link, gauge))
 }
 
-// LINK MEAN WORST COUNT LATE
-pub fn gauge_of(rt: HostRuntime, buf: &mut [u8; 65536], given: &mut [u8], c: Scan) -> Laid
-    ensures { result.scan.left ≤ c.left }
-{
-    let k = link_of(rt, buf, c);
-    let link = k.value as u8;
-    let t = times_of(rt, buf, given, k.scan);
-    counted(rt, buf, link, t)
-}
-
-// The bits of a double; of what is no number, those of the quiet one.
-fn bits_of(x: f64) -> u64 {
-    if x == x {
-        f64::to_bits(x)
-    } else {
-        9221120237041090560
-    }
-}
-
-// A space and a double.
-fn double_field(rt: HostRuntime, o: &mut [u8; 65536], at: usize, x: f64) -> usize
-    ensures { result ≤ 65536 }
-{
-    let b = bits_of(x);
-    let bytes = [
-        (b / 72057594037927936 % 256) as u8,
-        (b / 281474976710656 % 256) as u8,
-        (b / 1099511627776 % 256) as u8,
-        (b / 4294967296 % 256) as u8,
-        (b / 16777216 % 256) as u8,
-        (b / 65536 % 256) as u8,
-        (b / 256 % 256) as u8,
-        (b % 256) as u8,
-    ];
-    let to = output::byte(rt, o, at, b' ');
-    output::hex(rt, o, to, &bytes)
-}
-
-fn word(rt: HostRuntime, o: &mut [u8; 65536], at: usize, w: Word) -> usize
-    ensures { result ≤ 65536 }
-{
-    match w {
-        Word::Unheard => output::text(rt, o, at, b"unheard"),
-        Word::Steady => output::text(rt, o, at, b"steady"),
-        Word::Late => output::text(rt, o, at, b"late"),
-    }
+// A space and a double; what is no number has the bits of the quiet one.
+fn double_field(out: &mut Output, x: f64) {
+    out.byte(b' ');
+    out.hex(&f64_to_bits_with_nan(x).to_be_bytes());
 }
 
 // A health, as the press room's view shows it, and the line's end.
-pub fn health(rt: HostRuntime, o: &mut [u8; 65536], at: usize, h: Health) -> usize
-    ensures { result ≤ 65536 }
+pub fn health(out: &mut Output, h: Health)
+    ensures { out.new.at ≤ 65536 }
 {
     let v = gauge::view_of(h);
-    let w = v.word;
-    let a = word(rt, o, at, w);
-    let b = if 0 < v.shown {
-        double_field(rt, o, a, v.mean)
-    } else {
-        a
-    };
-    let c = if 1 < v.shown {
-        double_field(rt, o, b, v.worst)
-    } else {
-        b
-    };
-    output::byte(rt, o, c, b'\n')
+    out.text(match v.word {
+        Word::Unheard => "unheard",
+        Word::Steady => "steady",
+        Word::Late => "late",
+    });
+    if 0 < v.shown {
+        double_field(out, v.mean);
+    }
+    if 1 < v.shown {
+        double_field(out, v.worst);
+    }
+    out.text("\n");
 }
 
 // A gauge's line of `table`, as `gauge` has it.
-fn line(rt: HostRuntime, o: &mut [u8; 65536], at: usize, k: u64, g: Gauge) -> usize
-    ensures { result ≤ 65536 }
-{
-    let a = output::text(rt, o, at, b"gauge");
-    let b = output::field(rt, o, a, k);
-    let c = double_field(rt, o, b, g.mean);
-    let d = double_field(rt, o, c, g.worst);
-    let e = output::field(rt, o, d, g.count as u64);
-    let f = output::field(rt, o, e, if g.late { 1 } else { 0 });
-    output::byte(rt, o, f, b'\n')
+fn line(out: &mut Output, k: u64, g: &Gauge) {
+    out.text("gauge");
+    out.field(k);
+    double_field(out, g.mean);
+    double_field(out, g.worst);
+    out.field(g.count as u64);
+    out.field(g.late as u64);
+    out.byte(b'\n');
 }
 
 // The four gauges' lines.
-pub fn lines(rt: HostRuntime, o: &mut [u8; 65536], at: usize, gauges: [Gauge; 4]) -> usize
-    ensures { result ≤ 65536 }
+pub fn lines(out: &mut Output, gauges: &[Gauge; 4])
+    ensures { out.new.at ≤ 65536 }
 {
-    let a = line(rt, o, at, 1, gauges[0]);
-    let b = line(rt, o, a, 2, gauges[1]);
-    let c = line(rt, o, b, 3, gauges[2]);
-    line(rt, o, c, 4, gauges[3])
+    for (k, g) in gauges.iter().enumerate() {
+        line(out, k as u64 + 1, g);
+    }
 }

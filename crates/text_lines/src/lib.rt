@@ -10,19 +10,18 @@ use gauge::Gauge;
 use group_link::LinkCommand;
 use group_make::Command;
 use text_calls::CallVerb;
-use text_link_read::{LinkCallVerb, LinkLine, LinkVerb, Room};
+use text_link_read::{LinkCallVerb, LinkLine, LinkVerb};
 use text_pool::{PoolLine, PoolVerb};
-use text_records::read;
+use text_records::{ROWS, read};
 use text_setup::{SetupLine, SetupVerb};
-use text_stream::input;
-use text_stream::input::{Decimal, Scan};
+use text_stream::input::Input;
+use text_stream::why::Why;
 
+// Bytes are named by how many were read to the front of a buffer, as what a call is lent is promised (`Lent` of text_replay).
 #[derive(Clone, Copy)]
 pub enum Line {
     // empty, or a comment
     Skipped,
-    // why: one of the reasons of `stream`, or of this crate
-    Bad(u8),
     // S, N, LEN, COUNT
     Group(u32, u32, usize, usize),
     // how many bytes are lent beside the call, and how many of out
@@ -45,23 +44,11 @@ pub enum Line {
     Setup(SetupLine),
     // a line that lays something of the links in
     Link(LinkLine),
-    // a call on links: how many bytes are lent beside it, and how many of buffer
-    LinkCall(LinkCommand, usize, Room),
+    // a call on links: how many bytes are lent beside it, and how many of buffer where the line says it
+    LinkCall(LinkCommand, usize, Option<usize>),
 }
 
-#[derive(Clone, Copy)]
-pub struct Parsed {
-    pub scan: Scan,
-    pub line: Line,
-}
-
-// Why a line that parses is bad all the same: its slot is none of the table's;
-pub const SLOT: u8 = 11;
-
-// its bytes do not lie within the memory.
-pub const MEMORY: u8 = 12;
-
-const MOST: u32 = 4294967295;
+const MOST: u64 = 4294967295;
 
 #[derive(Clone, Copy)]
 enum Verb {
@@ -78,471 +65,177 @@ enum Verb {
     Setup(SetupVerb),
     Link(LinkVerb),
     LinkCall(LinkCallVerb),
-    Unknown,
 }
 
-// Whether the first `count` letters are this name.
-fn is(letters: &[u8; 8], count: usize, name: &[u8]) -> bool
-    requires { count ≤ 8 }
-{
-    if count != name.len() {
-        return false;
-    }
-    let mut k = 0;
-    while k < count {
-        if letters[k] != name[k] {
-            return false;
+impl TryFrom<&[u8]> for Verb {
+    type Error = Why;
+
+    fn try_from(word: &[u8]) -> Result<Verb, Why> {
+        match word {
+            b"group" => Ok(Verb::Group),
+            b"record" => Ok(Verb::Record),
+            b"poke" => Ok(Verb::Poke),
+            b"table" => Ok(Verb::Table),
+            b"memory" => Ok(Verb::Memory),
+            b"health" => Ok(Verb::Health),
+            b"gauge" => Ok(Verb::Gauge),
+            // the desk calls
+            b"open" => Ok(Verb::Call(CallVerb::Open)),
+            b"free" => Ok(Verb::Call(CallVerb::Free)),
+            b"sample" => Ok(Verb::Call(CallVerb::Sample)),
+            // a connection's calls
+            b"send" => Ok(Verb::Call(CallVerb::Send)),
+            b"urgent" => Ok(Verb::Call(CallVerb::Urgent)),
+            b"gather" => Ok(Verb::Gather),
+            b"place" => Ok(Verb::Call(CallVerb::Place)),
+            b"read" => Ok(Verb::Call(CallVerb::Read)),
+            b"hear" => Ok(Verb::Call(CallVerb::Hear)),
+            b"shutdown" => Ok(Verb::Call(CallVerb::Shutdown)),
+            b"close" => Ok(Verb::Call(CallVerb::Close)),
+            b"abort" => Ok(Verb::Call(CallVerb::Abort)),
+            // the pool
+            b"pool" => Ok(Verb::Pool(PoolVerb::Pool)),
+            b"take" => Ok(Verb::Pool(PoolVerb::Take)),
+            b"return" => Ok(Verb::Pool(PoolVerb::Return)),
+            b"books" => Ok(Verb::Pool(PoolVerb::Books)),
+            // setting up
+            b"settings" => Ok(Verb::Setup(SetupVerb::Settings)),
+            b"setup" => Ok(Verb::Setup(SetupVerb::Setup)),
+            b"clc" => Ok(Verb::Setup(SetupVerb::Clc)),
+            // links
+            b"link" => Ok(Verb::LinkCall(LinkCallVerb::Change)),
+            b"linkmsg" => Ok(Verb::LinkCall(LinkCallVerb::Message)),
+            b"linksend" => Ok(Verb::LinkCall(LinkCallVerb::Send)),
+            b"links" => Ok(Verb::Link(LinkVerb::States)),
+            b"role" => Ok(Verb::Link(LinkVerb::Role)),
+            b"exchange" => Ok(Verb::Link(LinkVerb::Exchange)),
+            b"queue" => Ok(Verb::Link(LinkVerb::Queue)),
+            _ => Err(Why::Word),
         }
-        k += 1;
     }
-    true
 }
 
-// The verbs on links.
-fn link_verb(letters: &[u8; 8], count: usize) -> Verb
-    requires { count ≤ 8 }
+fn unknown(input: &mut Input) -> Result<Line, Why>
+    ensures { input.new.left ≤ input.old.left - 1 }
 {
-    if is(letters, count, b"link") {
-        return Verb::LinkCall(LinkCallVerb::Change);
-    }
-    if is(letters, count, b"linkmsg") {
-        return Verb::LinkCall(LinkCallVerb::Message);
-    }
-    if is(letters, count, b"linksend") {
-        return Verb::LinkCall(LinkCallVerb::Send);
-    }
-    if is(letters, count, b"links") {
-        return Verb::Link(LinkVerb::States);
-    }
-    if is(letters, count, b"role") {
-        return Verb::Link(LinkVerb::Role);
-    }
-    if is(letters, count, b"exchange") {
-        return Verb::Link(LinkVerb::Exchange);
-    }
-    if is(letters, count, b"queue") {
-        return Verb::Link(LinkVerb::Queue);
-    }
-    Verb::Unknown
+    input.next_line();
+    Err(Why::Word)
 }
 
-// The verbs of setting up.
-fn setup_verb(letters: &[u8; 8], count: usize) -> Verb
-    requires { count ≤ 8 }
+// S N LEN, and COUNT, or what stands for it where the line has none: S, as far as there are rows.
+fn group_line(input: &mut Input) -> Result<Line, Why>
+    ensures { input.new.left ≤ input.old.left }
 {
-    if is(letters, count, b"settings") {
-        return Verb::Setup(SetupVerb::Settings);
-    }
-    if is(letters, count, b"setup") {
-        return Verb::Setup(SetupVerb::Setup);
-    }
-    if is(letters, count, b"clc") {
-        return Verb::Setup(SetupVerb::Clc);
-    }
-    link_verb(letters, count)
-}
-
-// The verbs of the pool.
-fn pool_verb(letters: &[u8; 8], count: usize) -> Verb
-    requires { count ≤ 8 }
-{
-    if is(letters, count, b"pool") {
-        return Verb::Pool(PoolVerb::Pool);
-    }
-    if is(letters, count, b"take") {
-        return Verb::Pool(PoolVerb::Take);
-    }
-    if is(letters, count, b"return") {
-        return Verb::Pool(PoolVerb::Return);
-    }
-    if is(letters, count, b"books") {
-        return Verb::Pool(PoolVerb::Books);
-    }
-    setup_verb(letters, count)
-}
-
-// The verbs of a connection's calls.
-fn call_verb(letters: &[u8; 8], count: usize) -> Verb
-    requires { count ≤ 8 }
-{
-    if is(letters, count, b"send") {
-        return Verb::Call(CallVerb::Send);
-    }
-    if is(letters, count, b"urgent") {
-        return Verb::Call(CallVerb::Urgent);
-    }
-    if is(letters, count, b"gather") {
-        return Verb::Gather;
-    }
-    if is(letters, count, b"place") {
-        return Verb::Call(CallVerb::Place);
-    }
-    if is(letters, count, b"read") {
-        return Verb::Call(CallVerb::Read);
-    }
-    if is(letters, count, b"hear") {
-        return Verb::Call(CallVerb::Hear);
-    }
-    if is(letters, count, b"shutdown") {
-        return Verb::Call(CallVerb::Shutdown);
-    }
-    if is(letters, count, b"close") {
-        return Verb::Call(CallVerb::Close);
-    }
-    if is(letters, count, b"abort") {
-        return Verb::Call(CallVerb::Abort);
-    }
-    pool_verb(letters, count)
-}
-
-// The verbs of the desk calls.
-fn management_verb(letters: &[u8; 8], count: usize) -> Verb
-    requires { count ≤ 8 }
-{
-    if is(letters, count, b"open") {
-        return Verb::Call(CallVerb::Open);
-    }
-    if is(letters, count, b"free") {
-        return Verb::Call(CallVerb::Free);
-    }
-    if is(letters, count, b"sample") {
-        return Verb::Call(CallVerb::Sample);
-    }
-    call_verb(letters, count)
-}
-
-fn verb_of(letters: &[u8; 8], count: usize) -> Verb
-    requires { count ≤ 8 }
-{
-    if is(letters, count, b"group") {
-        return Verb::Group;
-    }
-    if is(letters, count, b"record") {
-        return Verb::Record;
-    }
-    if is(letters, count, b"poke") {
-        return Verb::Poke;
-    }
-    if is(letters, count, b"table") {
-        return Verb::Table;
-    }
-    if is(letters, count, b"memory") {
-        return Verb::Memory;
-    }
-    if is(letters, count, b"health") {
-        return Verb::Health;
-    }
-    if is(letters, count, b"gauge") {
-        return Verb::Gauge;
-    }
-    management_verb(letters, count)
-}
-
-// Why a line is bad where nothing more is taken of it.
-fn left_over(c: Scan) -> u8 {
-    if c.why != input::FINE {
-        return c.why;
-    }
-    if c.byte == b'\n' {
-        return input::FINE;
-    }
-    if c.byte == b' ' {
-        input::LEFT
+    let s = input.number(MOST);
+    let n = input.number(MOST);
+    let len = input.number(1048704);
+    let count = if input.byte == b' ' {
+        input.number(ROWS as u64)
     } else {
-        input::CHARACTER
-    }
+        s
+    };
+    Ok(Line::Group(
+        s? as u32,
+        n? as u32,
+        len? as usize,
+        (count? as usize).min(ROWS),
+    ))
 }
 
-// The line, where what was taken parses and nothing is left of it.
-fn ended(rt: HostRuntime, buf: &mut [u8; 65536], c: Scan, line: Line) -> Parsed
-    ensures { result.scan.left ≤ c.left - 1 }
-{
-    let why = left_over(c);
-    let scan = input::next_line(rt, buf, c);
-    if why == input::FINE {
-        Parsed {
-            scan: scan,
-            line: line,
-        }
-    } else {
-        Parsed {
-            scan: scan,
-            line: Line::Bad(why),
-        }
-    }
-}
-
-fn unknown(rt: HostRuntime, buf: &mut [u8; 65536], c: Scan) -> Parsed
-    ensures { result.scan.left ≤ c.left - 1 }
-{
-    let scan = input::next_line(rt, buf, c);
-    Parsed {
-        scan: scan,
-        line: Line::Bad(input::WORD),
-    }
-}
-
-// COUNT, or what stands for it where the line has none: S, as far as there are rows.
-fn count_of(rt: HostRuntime, buf: &mut [u8; 65536], c: Scan, s: u32) -> Decimal
-    ensures { (result.scan.left ≤ c.left) × (result.value ≤ 300) }
-{
-    if c.byte == b' ' {
-        return input::number(rt, buf, c, 300);
-    }
-    let value = if s < 300 { s } else { 300 };
-    Decimal {
-        scan: c,
-        value: value,
-    }
-}
-
-// The rest of a `group` line, after S, N and LEN.
-fn counted(rt: HostRuntime, buf: &mut [u8; 65536], c: Scan, s: u32, n: u32, len: usize) -> Parsed
-    ensures { result.scan.left ≤ c.left - 1 }
-{
-    let count = count_of(rt, buf, c, s);
-    ended(
-        rt,
-        buf,
-        count.scan,
-        Line::Group(s, n, len, count.value as usize),
-    )
-}
-
-fn group_line(rt: HostRuntime, buf: &mut [u8; 65536], c: Scan) -> Parsed
-    ensures { result.scan.left ≤ c.left - 1 }
-{
-    let s = input::number(rt, buf, c, MOST);
-    let n = input::number(rt, buf, s.scan, MOST);
-    let len = input::number(rt, buf, n.scan, 1048704);
-    counted(rt, buf, len.scan, s.value, n.value, len.value as usize)
-}
-
-fn poke_line(rt: HostRuntime, buf: &mut [u8; 65536], given: &mut [u8], c: Scan) -> Parsed
-    ensures { result.scan.left ≤ c.left - 1 }
-{
-    let at = input::number(rt, buf, c, MOST);
-    let b = input::bytes(rt, buf, given, at.scan);
-    ended(rt, buf, b.scan, Line::Poke(at.value as usize, b.count))
-}
-
-fn memory_line(rt: HostRuntime, buf: &mut [u8; 65536], c: Scan) -> Parsed
-    ensures { result.scan.left ≤ c.left - 1 }
-{
-    let at = input::number(rt, buf, c, MOST);
-    let count = input::number(rt, buf, at.scan, 65600);
-    ended(
-        rt,
-        buf,
-        count.scan,
-        Line::Memory(at.value as usize, count.value as usize),
-    )
-}
-
-fn record_line(rt: HostRuntime, buf: &mut [u8; 65536], c: Scan) -> Parsed
-    ensures { result.scan.left ≤ c.left - 1 }
-{
-    let p = read::record(rt, buf, c);
-    let r = p.record;
-    ended(rt, buf, p.scan, Line::Record(p.slot, r))
-}
-
-fn health_line(rt: HostRuntime, buf: &mut [u8; 65536], c: Scan) -> Parsed
-    ensures { result.scan.left ≤ c.left - 1 }
-{
-    let link = text_gauge::link_of(rt, buf, c);
-    ended(rt, buf, link.scan, Line::Health(link.value as u8))
-}
-
-fn gauge_line(rt: HostRuntime, buf: &mut [u8; 65536], given: &mut [u8], c: Scan) -> Parsed
-    ensures { result.scan.left ≤ c.left - 1 }
-{
-    let p = text_gauge::gauge_of(rt, buf, given, c);
-    let g = p.gauge;
-    ended(rt, buf, p.scan, Line::Gauge(p.link, g))
-}
-
-fn call_line(
-    rt: HostRuntime,
-    buf: &mut [u8; 65536],
-    given: &mut [u8],
-    c: Scan,
-    verb: CallVerb,
-) -> Parsed
-    ensures { result.scan.left ≤ c.left - 1 }
-{
-    let p = text_calls::parse(rt, buf, given, c, verb);
-    let command = p.command;
-    ended(rt, buf, p.scan, Line::Call(command, p.count, p.room))
-}
-
-fn gather_line(
-    rt: HostRuntime,
-    buf: &mut [u8; 65536],
-    given: &mut [u8],
-    body: &mut [u8],
-    c: Scan,
-) -> Parsed
-    ensures { result.scan.left ≤ c.left - 1 }
-{
-    let p = text_gather::parse(rt, buf, given, body, c);
-    ended(rt, buf, p.scan, Line::Gather(p.slot, p.head, p.body))
-}
-
-fn pool_line(
-    rt: HostRuntime,
-    buf: &mut [u8; 65536],
-    given: &mut [u8],
-    c: Scan,
-    verb: PoolVerb,
-) -> Parsed
-    ensures { result.scan.left ≤ c.left - 1 }
-{
-    let p = text_pool::parse(rt, buf, given, c, verb);
-    let line = p.line;
-    ended(rt, buf, p.scan, Line::Pool(line))
-}
-
-fn setup_line(
-    rt: HostRuntime,
-    buf: &mut [u8; 65536],
-    given: &mut [u8],
-    c: Scan,
-    verb: SetupVerb,
-) -> Parsed
-    ensures { result.scan.left ≤ c.left - 1 }
-{
-    let p = text_setup::parse(rt, buf, given, c, verb);
-    let line = p.line;
-    ended(rt, buf, p.scan, Line::Setup(line))
-}
-
-fn link_line(
-    rt: HostRuntime,
-    buf: &mut [u8; 65536],
-    given: &mut [u8],
-    c: Scan,
-    verb: LinkVerb,
-) -> Parsed
-    ensures { result.scan.left ≤ c.left - 1 }
-{
-    let p = text_link_read::parse(rt, buf, given, c, verb);
-    let line = p.line;
-    ended(rt, buf, p.scan, Line::Link(line))
-}
-
-fn link_call(
-    rt: HostRuntime,
-    buf: &mut [u8; 65536],
-    given: &mut [u8],
-    c: Scan,
-    verb: LinkCallVerb,
-) -> Parsed
-    ensures { result.scan.left ≤ c.left - 1 }
-{
-    let p = text_link_read::call(rt, buf, given, c, verb);
-    let command = p.command;
-    let room = p.room;
-    ended(rt, buf, p.scan, Line::LinkCall(command, p.count, room))
-}
-
-fn line_of(
-    rt: HostRuntime,
-    buf: &mut [u8; 65536],
-    given: &mut [u8],
-    body: &mut [u8],
-    c: Scan,
-    verb: Verb,
-) -> Parsed
-    ensures { result.scan.left ≤ c.left - 1 }
+// Numbers and bytes, after the verb, up to where the line should end.
+fn line_of(input: &mut Input, given: &mut [u8], body: &mut [u8], verb: Verb) -> Result<Line, Why>
+    ensures { input.new.left ≤ input.old.left }
 {
     match verb {
-        Verb::Group => group_line(rt, buf, c),
-        Verb::Call(v) => call_line(rt, buf, given, c, v),
-        Verb::Gather => gather_line(rt, buf, given, body, c),
-        Verb::Record => record_line(rt, buf, c),
-        Verb::Poke => poke_line(rt, buf, given, c),
-        Verb::Table => ended(rt, buf, c, Line::Table),
-        Verb::Memory => memory_line(rt, buf, c),
-        Verb::Health => health_line(rt, buf, c),
-        Verb::Gauge => gauge_line(rt, buf, given, c),
-        Verb::Pool(v) => pool_line(rt, buf, given, c, v),
-        Verb::Setup(v) => setup_line(rt, buf, given, c, v),
-        Verb::Link(v) => link_line(rt, buf, given, c, v),
-        Verb::LinkCall(v) => link_call(rt, buf, given, c, v),
-        Verb::Unknown => unknown(rt, buf, c),
+        Verb::Group => group_line(input),
+        Verb::Call(verb) => {
+            let call = text_calls::parse(input, given, verb)?;
+            Ok(Line::Call(call.command, call.count, call.room))
+        }
+        Verb::Gather => {
+            let p = text_gather::parse(input, given, body)?;
+            Ok(Line::Gather(p.slot, p.head, p.body))
+        }
+        Verb::Record => {
+            let (slot, record) = read::record(input)?;
+            Ok(Line::Record(slot, record))
+        }
+        Verb::Poke => {
+            let at = input.number(MOST);
+            let count = input.bytes(given);
+            Ok(Line::Poke(at? as usize, count?))
+        }
+        Verb::Table => Ok(Line::Table),
+        Verb::Memory => {
+            let at = input.number(MOST);
+            let count = input.number(65600);
+            Ok(Line::Memory(at? as usize, count? as usize))
+        }
+        Verb::Health => Ok(Line::Health(text_gauge::link_of(input)?)),
+        Verb::Gauge => {
+            let (link, gauge) = text_gauge::gauge_of(input, given)?;
+            Ok(Line::Gauge(link, gauge))
+        }
+        Verb::Pool(verb) => Ok(Line::Pool(text_pool::parse(input, given, verb)?)),
+        Verb::Setup(verb) => Ok(Line::Setup(text_setup::parse(input, given, verb)?)),
+        Verb::Link(verb) => Ok(Line::Link(text_link_read::parse(input, given, verb)?)),
+        Verb::LinkCall(verb) => {
+            let call = text_link_read::call(input, given, verb)?;
+            Ok(Line::LinkCall(call.command, call.count, call.room))
+        }
     }
 }
 
-// The line that begins here, with the start of the next; its bytes go to `given`, from its start on, and its second bytes to `body`.
-pub fn parse(
-    rt: HostRuntime,
-    buf: &mut [u8; 65536],
-    given: &mut [u8],
-    body: &mut [u8],
-    c: Scan,
-) -> Parsed
-    ensures { result.scan.left ≤ c.left - 1 }
+// The line that begins here; then the input is at the next. Its bytes go to `given`, from its start on, and its second bytes to `body`.
+pub fn parse(input: &mut Input, given: &mut [u8], body: &mut [u8]) -> Result<Line, Why>
+    ensures { input.new.left ≤ input.old.left - 1 }
 {
-    if (c.byte == b'\n') | (c.byte == b'#') {
-        let scan = input::next_line(rt, buf, c);
-        return Parsed {
-            scan: scan,
-            line: Line::Skipped,
-        };
+    if matches!(input.byte, b'\n' | b'#') {
+        input.next_line();
+        return Ok(Line::Skipped);
     }
-    let mut letters = [0u8; 8];
-    let w = input::word(rt, buf, &mut letters, c);
-    if (w.scan.byte != b' ') & (w.scan.byte != b'\n') {
-        return unknown(rt, buf, w.scan);
+    let mut letters = [0; 8];
+    let verb = Verb::try_from(input.word(&mut letters));
+    match verb {
+        Ok(verb) if matches!(input.byte, b' ' | b'\n') => {
+            let line = line_of(input, given, body, verb);
+            input.end_line(line)
+        }
+        _ => unknown(input),
     }
-    let verb = verb_of(&letters, w.count);
-    line_of(rt, buf, given, body, w.scan, verb)
 }
 
 // The slot of a `record` line is one of the table's, of which a replay has at most 300 rows.
-fn no_slot(slot: usize, count: usize) -> u8
+fn no_slot(slot: usize, count: usize) -> Option<Why>
     ensures { result ≡ no_slot_of slot count }
 {
-    if (1 <= slot) & ((slot <= count) & (slot <= text_records::ROWS)) {
-        input::FINE
+    if 1 <= slot && slot <= count && slot <= ROWS {
+        None
     } else {
-        SLOT
+        Some(Why::Slot)
     }
 }
 
 // The bytes of a `poke` or `memory` line lie within the memory.
-fn outside(at: usize, n: usize, len: usize) -> u8
+fn outside(at: usize, n: usize, len: usize) -> Option<Why>
     ensures { result ≡ outside_of at n len }
 {
-    if at <= len {
-        if n <= len - at {
-            return input::FINE;
-        }
+    if at <= len && n <= len - at {
+        None
+    } else {
+        Some(Why::Memory)
     }
-    MEMORY
 }
 
-// Why a line is bad: by its words, or by the group that it meets, whose table has `count` rows and whose memory `len` bytes. 0 for a line
-// that is not.
-pub fn why(line: Line, count: usize, len: usize) -> u8
+// Why a line is bad: by its words, or by the group that it meets, whose table has `count` rows and whose memory `len` bytes.
+pub fn why(line: Result<Line, Why>, count: usize, len: usize) -> Option<Why>
     ensures { result ≡ why_of line count len }
 {
     match line {
-        Line::Bad(w) => w,
-        Line::Record(slot, _) => no_slot(slot, count),
-        Line::Poke(at, n) => outside(at, n, len),
-        Line::Memory(at, n) => outside(at, n, len),
-        Line::Skipped => input::FINE,
-        Line::Group(_, _, _, _) => input::FINE,
-        Line::Call(_, _, _) => input::FINE,
-        Line::Gather(_, _, _) => input::FINE,
-        Line::Table => input::FINE,
-        Line::Health(_) => input::FINE,
-        Line::Gauge(_, _) => input::FINE,
-        Line::Pool(_) => input::FINE,
-        Line::Setup(_) => input::FINE,
-        Line::Link(_) => input::FINE,
-        Line::LinkCall(_, _, _) => input::FINE,
+        Err(why) => Some(why),
+        Ok(Line::Record(slot, _)) => no_slot(slot, count),
+        Ok(Line::Poke(at, n)) => outside(at, n, len),
+        Ok(Line::Memory(at, n)) => outside(at, n, len),
+        Ok(_) => None,
     }
 }

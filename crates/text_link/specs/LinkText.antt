@@ -1,6 +1,6 @@
 -- The replay format's lines of 2026-01 and 2026-13 that are no calls: which links each leaves, of the links l and the bytes read with the
 -- line; and what is read for a call. Assumes nothing.
-use Rattle.std.specs.Prelude.{ℕ, ◌+◌, ◌*◌, min, Bool, List, [], ◌∷◌}
+use Rattle.std.specs.Prelude.{ℕ, ◌+◌, ◌*◌, min, Bool, Option, Some, None, List, [], ◌∷◌}
 use Rattle.layout.specs.Layout.{number_at, bytes_at}
 use Rattle.link_exchange.specs.declared.Role as Roles
 use Rattle.link_exchange.specs.declared.Waiting.{Waiting}
@@ -9,8 +9,6 @@ use Rattle.group_table.specs.declared.Links.{Links}
 use Rattle.group_table.specs.Table.{exchange_set}
 use Rattle.text_link_read.specs.declared.LinkLine.{LinkLine}
 use Rattle.text_link_read.specs.declared.LinkLine.TheVariants.{Role, States, Exchange, Queue}
-use Rattle.text_link_read.specs.declared.Room.{Room}
-use Rattle.text_link_read.specs.declared.Room.TheVariants.{ForSlots, Named}
 
 -- twelve values of eight bytes each
 abbrev pub values_in : List ℕ → List ℕ
@@ -41,6 +39,6 @@ left_of l given (Exchange x) = exchange_set l x l.queue
 left_of l given Queue = exchange_set l l.exchange (queue_in given)
 
 -- the buffer of a call: ROOM bytes, or 44 a slot of at most 300
-abbrev pub room_of : ℕ → Room → ℕ
-room_of s ForSlots = 44 * min s 300
-room_of s (Named n) = n
+abbrev pub room_of : ℕ → Option ℕ → ℕ
+room_of s None = 44 * min s 300
+room_of s (Some n) = n

@@ -13,5 +13,5 @@ pub const ROWS: usize = 300;
 pub fn rows(count: usize) -> usize
     ensures { result ≤ 300 }
 {
-    if count < ROWS { count } else { ROWS }
+    count.min(ROWS)
 }

@@ -4,154 +4,97 @@ ghost use Rattle.std.specs.Prelude.{◌≤◌};
 use conn_record::{RToken, Record, Urgent};
 use cursor::Cursor;
 use group_table::Links;
-use text_stream::output;
+use text_stream::output::Output;
 
-fn weight(b: bool, w: u64) -> u64
-    ensures { result ≤ w }
-{
-    if b { w } else { 0 }
-}
-
-// 1 for yes, 0 for no.
-fn flag(rt: HostRuntime, o: &mut [u8; 65536], at: usize, b: bool) -> usize {
-    output::field(rt, o, at, weight(b, 1))
-}
-
-fn cursor(rt: HostRuntime, o: &mut [u8; 65536], at: usize, c: Cursor) -> usize {
-    let to = output::field(rt, o, at, c.offset as u64);
-    output::field(rt, o, to, c.wrap as u64)
+fn cursor(out: &mut Output, c: Cursor) {
+    out.field(c.offset as u64);
+    out.field(c.wrap as u64);
 }
 
 // The sum of the marks' weights.
-fn marks(rec: Record) -> u64 {
+fn marks(rec: &Record) -> u64 {
     let m = rec.marks;
-    weight(m.sent.done, 1)
-        + weight(m.sent.closed, 2)
-        + weight(m.heard.done, 4)
-        + weight(m.heard.closed, 8)
-        + weight(m.first, 16)
-        + weight(m.abort, 32)
-        + weight(rec.outbound.blocked, 64)
-        + weight(rec.inbound.blocked, 128)
-        + weight(rec.inbound.request, 256)
+    m.sent.done as u64
+        + 2 * m.sent.closed as u64
+        + 4 * m.heard.done as u64
+        + 8 * m.heard.closed as u64
+        + 16 * m.first as u64
+        + 32 * m.abort as u64
+        + 64 * rec.outbound.blocked as u64
+        + 128 * rec.inbound.blocked as u64
+        + 256 * rec.inbound.request as u64
 }
 
 // OPEN OWN PEER LINK SIZE
-fn who(rt: HostRuntime, o: &mut [u8; 65536], at: usize, rec: Record) -> usize {
-    let id = rec.id;
-    let a = flag(rt, o, at, id.opened);
-    let b = output::field(rt, o, a, id.own as u64);
-    let d = output::field(rt, o, b, id.peer as u64);
-    let e = output::field(rt, o, d, id.link as u64);
-    output::field(rt, o, e, rec.remote.size as u64)
+fn who(out: &mut Output, rec: &Record) {
+    out.field(rec.id.opened as u64);
+    out.field(rec.id.own as u64);
+    out.field(rec.id.peer as u64);
+    out.field(rec.id.link as u64);
+    out.field(rec.remote.size as u64);
 }
 
 // P C T Q R
-fn cursors(rt: HostRuntime, o: &mut [u8; 65536], at: usize, rec: Record) -> usize {
-    let p = rec.inbound.producer;
-    let c = rec.inbound.consumer;
-    let t = rec.inbound.told;
-    let q = rec.outbound.producer;
-    let r = rec.outbound.consumer;
-    let a = cursor(rt, o, at, p);
-    let b = cursor(rt, o, a, c);
-    let d = cursor(rt, o, b, t);
-    let e = cursor(rt, o, d, q);
-    cursor(rt, o, e, r)
+fn cursors(out: &mut Output, rec: &Record) {
+    cursor(out, rec.inbound.producer);
+    cursor(out, rec.inbound.consumer);
+    cursor(out, rec.inbound.told);
+    cursor(out, rec.outbound.producer);
+    cursor(out, rec.outbound.consumer);
 }
 
 // KEY BASE
-fn token(rt: HostRuntime, o: &mut [u8; 65536], at: usize, t: RToken) -> usize {
-    let a = output::field(rt, o, at, t.key as u64);
-    output::field(rt, o, a, t.base)
+fn token(out: &mut Output, t: RToken) {
+    out.field(t.key as u64);
+    out.field(t.base);
 }
 
 // INDEX KEY1 BASE1 KEY2 BASE2 KEY3 BASE3 KEY4 BASE4
-fn remote(rt: HostRuntime, o: &mut [u8; 65536], at: usize, rec: Record) -> usize {
-    let r = rec.remote;
-    let one = r.link1;
-    let two = r.link2;
-    let three = r.link3;
-    let four = r.link4;
-    let a = output::field(rt, o, at, r.index as u64);
-    let b = token(rt, o, a, one);
-    let c = token(rt, o, b, two);
-    let d = token(rt, o, c, three);
-    token(rt, o, d, four)
+fn element(out: &mut Output, rec: &Record) {
+    out.field(rec.remote.index as u64);
+    token(out, rec.remote.link1);
+    token(out, rec.remote.link2);
+    token(out, rec.remote.link3);
+    token(out, rec.remote.link4);
 }
 
 // An urgent place, `-` for none.
-fn urgent(rt: HostRuntime, o: &mut [u8; 65536], at: usize, u: Urgent) -> usize {
-    let place = u.place;
+fn urgent(out: &mut Output, u: Urgent) {
     if u.standing {
-        let a = output::field(rt, o, at, place.offset as u64);
-        let b = output::byte(rt, o, a, b':');
-        output::decimal(rt, o, b, place.wrap as u64)
+        out.field(u.place.offset as u64);
+        out.byte(b':');
+        out.decimal(u.place.wrap as u64);
     } else {
-        output::text(rt, o, at, b" -")
+        out.text(" -");
     }
-}
-
-// The urgent place of our own sends, and the one in our element.
-fn places(rt: HostRuntime, o: &mut [u8; 65536], at: usize, rec: Record) -> usize {
-    let ours = rec.outbound.urgent;
-    let theirs = rec.inbound.urgent;
-    let a = urgent(rt, o, at, ours);
-    urgent(rt, o, a, theirs)
 }
 
 // A slot's line, as `record` has it, but for the first word.
-fn slot(rt: HostRuntime, o: &mut [u8; 65536], at: usize, k: u64, rec: Record) -> usize {
-    let a = output::text(rt, o, at, b"slot");
-    let b = output::field(rt, o, a, k);
-    let d = who(rt, o, b, rec);
-    let e = cursors(rt, o, d, rec);
-    let f = output::field(rt, o, e, rec.outbound.next as u64);
-    let g = output::field(rt, o, f, rec.inbound.last as u64);
-    let h = output::field(rt, o, g, marks(rec));
-    let i = remote(rt, o, h, rec);
-    let j = places(rt, o, i, rec);
-    output::byte(rt, o, j, b'\n')
+fn slot(out: &mut Output, k: u64, rec: &Record) {
+    out.text("slot");
+    out.field(k);
+    who(out, rec);
+    cursors(out, rec);
+    out.field(rec.outbound.next as u64);
+    out.field(rec.inbound.last as u64);
+    out.field(marks(rec));
+    element(out, rec);
+    urgent(out, rec.outbound.urgent);
+    urgent(out, rec.inbound.urgent);
+    out.byte(b'\n');
 }
 
-// The lines of the first `count` records.
-fn slots(
-    rt: HostRuntime,
-    o: &mut [u8; 65536],
-    at: usize,
-    table: [Record; crate::ROWS],
-    count: usize,
-) -> usize {
-    let most = crate::rows(count);
-    let mut to = at;
-    let mut k: usize = 0;
-    while k < most {
-        let rec = table[k];
-        k += 1;
-        to = slot(rt, o, to, k as u64, rec);
-    }
-    to
-}
-
-// The lines of the slots that a table of `count` records has, whether each link is up, and the gauges.
-pub fn tables(
-    rt: HostRuntime,
-    o: &mut [u8; 65536],
-    at: usize,
-    table: [Record; crate::ROWS],
-    count: usize,
-    links: Links,
-) -> usize
-    ensures { result ≤ 65536 }
+// The lines of the slots, whether each link is up, and the gauges.
+pub fn tables(out: &mut Output, table: &[Record], links: &Links)
+    ensures { out.new.at ≤ 65536 }
 {
-    let up = links.active;
-    let gauges = links.gauges;
-    let a = slots(rt, o, at, table, count);
-    let b = output::text(rt, o, a, b"links");
-    let c = flag(rt, o, b, up[0]);
-    let d = flag(rt, o, c, up[1]);
-    let e = flag(rt, o, d, up[2]);
-    let f = flag(rt, o, e, up[3]);
-    let g = output::byte(rt, o, f, b'\n');
-    text_gauge::lines(rt, o, g, gauges)
+    for (k, rec) in table.iter().enumerate() {
+        slot(out, k as u64 + 1, rec);
+    }
+    out.text("links");
+    for up in &links.active {
+        out.field(*up as u64);
+    }
+    out.byte(b'\n');
+    text_gauge::lines(out, &links.gauges);
 }

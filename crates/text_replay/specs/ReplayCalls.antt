@@ -1,47 +1,53 @@
 -- What the lines of a replay that are calls leave of its group. Assumes nothing.
-use Rattle.std.specs.Prelude.{ℕ, ◌≤◌, ◌≡◌, false, List, ◌++◌, length, take, drop, replicate}
+use Rattle.std.specs.Prelude.{ℕ, ◌≡◌, Option, false, List, ◌++◌, length, take, drop, replicate}
 use Rattle.link_exchange.specs.declared.Role.TheVariants.{Client}
 use Rattle.link_exchange.specs.Exchange.{no_exchange, empty_queue}
 use Rattle.gauge.specs.Gauge.{cleared_of}
 use Rattle.conn_record.specs.Connection.{zero_record}
+use Rattle.group_table.specs.declared.Links.{Links}
 use Rattle.group_make.specs.declared.Command.{Command}
 use Rattle.group_make.specs.declared.Made.{Made}
 use Rattle.group_make.specs.Rows as Rows
 use Rattle.text_gather.specs.declared.GatherMade.{GatherMade}
 use Rattle.text_gather.specs.GatherText as Gather
 use Rattle.group_link.specs.declared.LinkCommand.{LinkCommand}
-use Rattle.text_link_read.specs.declared.Room.{Room}
 use Rattle.text_link.specs.LinkText.{values_in, room_of}
 use Rattle.group_link.specs.declared.LinkMade.{LinkMade}
 use Rattle.group_link.specs.LinkRows as LinkRows
+use Rattle.setup.specs.declared.Settings.{Settings}
+use Rattle.text_stream.specs.declared.output.Output.{Output}
 use Rattle.text_state.specs.declared.World.{World}
-use Rattle.text_state.specs.World.{table_to, links_to, at_to}
+use Rattle.text_state.specs.World.{table_to, links_to, output_to}
 
--- a fresh group: every slot all zeros, every link down, every gauge cleared; a client, no exchange, none that waits
-unfoldable pub fresh_of : ℕ → ℕ → ℕ → ℕ → List ℕ → List ℕ → ℕ → World
-fresh_of s n len count books settings at =
+-- the links of a fresh group: every link down, every gauge cleared; a client, no exchange, none that waits
+unfoldable pub no_links : Links
+no_links =
+    record {
+      active = replicate 4 false;
+      gauges = replicate 4 cleared_of;
+      role = Client;
+      exchange = no_exchange;
+      queue = empty_queue;
+    }
+
+-- a fresh group: every slot all zeros, and such links
+unfoldable pub fresh_of : ℕ → ℕ → ℕ → ℕ → List ℕ → Settings → Output → World
+fresh_of s n len count books settings output =
     record {
       s = s;
       n = n;
       len = len;
       table = replicate 300 zero_record;
       count = count;
-      links =
-          record {
-            active = replicate 4 false;
-            gauges = replicate 4 cleared_of;
-            role = Client;
-            exchange = no_exchange;
-            queue = empty_queue;
-          };
+      links = no_links;
       books = books;
       settings = settings;
-      at = at;
+      output = output;
     }
 
 -- only the table, the links and what is printed changed
 abbrev pub Turned : World → World → Type 0
-Turned w r = (r.at ≤ 65536) × (r ≡ at_to (links_to (table_to w r.table) r.links) r.at)
+Turned w r = r ≡ output_to (links_to (table_to w r.table) r.links) r.output
 
 -- the call, on a memory m with b beside it and the out buffer out, left m as l and out as `left`
 pub record Called (w : World) (c : Command) (m b out : List ℕ) (r : World) (l left : List ℕ) : Type 0 where
@@ -76,7 +82,7 @@ pub record LinkCalled (w : World) (c : LinkCommand) (m b vs out : List ℕ) (r :
   pub turned : Turned w r
 
 -- the same, lent LEN bytes of m, `count` of b or the values there, and its room of out, all A5; the bytes after it stay
-pub record LinkLent (w : World) (c : LinkCommand) (count : ℕ) (room : Room) (m b out : List ℕ) (r : World) (out' : List ℕ) : Type 0 where
+pub record LinkLent (w : World) (c : LinkCommand) (count : ℕ) (room : Option ℕ) (m b out : List ℕ) (r : World) (out' : List ℕ) : Type 0 where
   pub left : List ℕ
   pub called :
       LinkCalled w c (take w.len m) (take count b) (values_in b) (replicate (length (take (room_of w.s room) out)) 165) r left

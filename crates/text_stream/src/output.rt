@@ -1,13 +1,16 @@
-// The output: bytes, words, numbers and hexadecimal into a buffer, which is written whenever it is full. `at` is how far it is filled.
+// The output: bytes, words, numbers and hexadecimal into a buffer, which is written whenever it is full.
 ghost use Rattle.std.specs.Prelude.{◌≡◌, ◌≤◌};
 
 use itoa::Buffer;
 
-// No buffer is filled further than its end.
-fn filled(at: usize) -> usize
-    ensures { result ≤ 65536 }
-{
-    if at < 65536 { at } else { 65536 }
+// `at` is how far the buffer is filled.
+// A buffer and its fill, not a `BufWriter`: that one is made on the heap, and where it cannot be made replay would print nothing.
+#[derive(Drop)]
+pub struct Output {
+    rt: HostRuntime,
+    buf: [u8; 65536],
+    pub at: usize,
+    ghost filled: { at ≤ 65536 },
 }
 
 // Writes bytes to the standard output. A program has no exit status of its own, so a failed write is told on the standard error.
@@ -19,88 +22,79 @@ fn write(rt: HostRuntime, s: &[u8]) {
     }
 }
 
-pub fn byte(rt: HostRuntime, o: &mut [u8; 65536], at: usize, b: u8) -> usize
-    ensures { result ≤ 65536 }
-{
-    if at < 65536 {
-        o[at] = b;
-        return at + 1;
-    }
-    write(rt, o);
-    o[0] = b;
-    1
-}
-
-// Writes what is in the buffer, and leaves it empty.
-pub fn flush(rt: HostRuntime, o: &[u8], at: usize) -> usize
-    ensures { result ≡ 0 }
-{
-    if at <= o.len() {
-        write(rt, &o[0..at]);
-    }
-    0
-}
-
-pub fn text(rt: HostRuntime, o: &mut [u8; 65536], at: usize, s: &[u8]) -> usize
-    ensures { result ≤ 65536 }
-{
-    let mut to = filled(at);
-    let mut k = 0;
-    while k < s.len() {
-        to = byte(rt, o, to, s[k]);
-        k += 1;
-    }
-    to
-}
-
-pub fn decimal(rt: HostRuntime, o: &mut [u8; 65536], at: usize, n: u64) -> usize
-    ensures { result ≤ 65536 }
-{
-    let mut buffer = Buffer::new();
-    let t = buffer.format(n).as_bytes();
-    let k = t.len();
-    text(rt, o, at, &t[..k])
-}
-
-// A space and a number.
-pub fn field(rt: HostRuntime, o: &mut [u8; 65536], at: usize, n: u64) -> usize
-    ensures { result ≤ 65536 }
-{
-    let to = byte(rt, o, at, b' ');
-    decimal(rt, o, to, n)
-}
-
+// A hexadecimal digit: upper case, where `from_digit` gives lower.
 fn digit(d: u8) -> u8 {
-    if d < 10 {
-        return d + b'0';
+    match d {
+        0..=9 => d + b'0',
+        10..=15 => d - 10 + b'A',
+        _ => b'?',
     }
-    if d < 16 {
-        return d - 10 + b'A';
-    }
-    b'?'
 }
 
-fn digits(rt: HostRuntime, o: &mut [u8; 65536], at: usize, s: &[u8]) -> usize
-    ensures { result ≤ 65536 }
-{
-    let mut to = filled(at);
-    let mut k = 0;
-    while k < s.len() {
-        let b = s[k];
-        to = byte(rt, o, to, digit(b / 16));
-        to = byte(rt, o, to, digit(b % 16));
-        k += 1;
+impl Output {
+    // The standard output.
+    pub fn new(rt: HostRuntime) -> Output
+        ensures { result.at ≡ 0 }
+    {
+        Output {
+            rt,
+            buf: [0u8; 65536],
+            at: 0,
+        }
     }
-    to
-}
 
-// Upper-case hexadecimal; `-` for no bytes.
-pub fn hex(rt: HostRuntime, o: &mut [u8; 65536], at: usize, s: &[u8]) -> usize
-    ensures { result ≤ 65536 }
-{
-    if s.len() == 0 {
-        byte(rt, o, at, b'-')
-    } else {
-        digits(rt, o, at, s)
+    // Writes what is in the buffer, and leaves it empty.
+    pub fn flush(&mut self)
+        ensures { self.new.at ≡ 0 }
+    {
+        write(self.rt, &self.buf[..self.at]);
+        self.at = 0;
+    }
+
+    pub fn byte(&mut self, b: u8)
+        ensures { self.new.at ≤ 65536 }
+    {
+        if self.at == 65536 {
+            self.flush();
+        }
+        self.buf[self.at] = b;
+        self.at += 1;
+    }
+
+    pub fn text(&mut self, s: &str)
+        ensures { self.new.at ≤ 65536 }
+    {
+        for b in s.as_bytes() {
+            self.byte(*b);
+        }
+    }
+
+    pub fn decimal(&mut self, n: u64)
+        ensures { self.new.at ≤ 65536 }
+    {
+        let mut buffer = Buffer::new();
+        let digits = buffer.format(n);
+        self.text(digits);
+    }
+
+    // A space and a number.
+    pub fn field(&mut self, n: u64)
+        ensures { self.new.at ≤ 65536 }
+    {
+        self.byte(b' ');
+        self.decimal(n);
+    }
+
+    // Upper-case hexadecimal; `-` for no bytes.
+    pub fn hex(&mut self, s: &[u8])
+        ensures { self.new.at ≤ 65536 }
+    {
+        if s.is_empty() {
+            self.byte(b'-');
+        }
+        for b in s {
+            self.byte(digit(*b / 16));
+            self.byte(digit(*b % 16));
+        }
     }
 }

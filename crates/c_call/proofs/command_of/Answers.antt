@@ -2,10 +2,10 @@
 use Rattle.c_call.specs.Flat.{command_of}
 use Rattle.c_call.proofs.command_of.Goals as goal
 
-pub returns-then-known : goal.returns-then-known
+pub returns-in-Ok : goal.returns-in-Ok
 unfolding command_of
-returns-then-known c = simp (c.named.ensures, ← c.known.ensures, c.if-known.true)
+returns-in-Ok c = simp (c.in-Ok.ensures.0, c.in-Ok.ensures.1)
 
-pub returns : goal.returns
+pub returns-in-Err : goal.returns-in-Err
 unfolding command_of
-returns c = simp (← c.known.ensures, c.if-known.false)
+returns-in-Err c = simp c.in-Err.ensures.0

@@ -2,10 +2,10 @@
 use Rattle.c_call.specs.Flat.{told_of}
 use Rattle.c_call.proofs.told.Goals as goal
 
-pub returns-then-known : goal.returns-then-known
+pub returns-in-Ok : goal.returns-in-Ok
 unfolding told_of
-returns-then-known c = simp (c.answer_of.ensures, ← c.known.ensures, c.if-known.true)
+returns-in-Ok c = simp (c.from.ensures, c.in-Ok.ensures.0)
 
-pub returns : goal.returns
+pub returns-in-Err : goal.returns-in-Err
 unfolding told_of
-returns c = simp (c.bare_answer.ensures, ← c.known.ensures, c.if-known.false)
+returns-in-Err c = simp (c.bare_answer.ensures, c.in-Err.ensures.0)

@@ -2,4 +2,4 @@
 use Rattle.c_call.proofs.with_heard.Goals as goal
 
 pub returns : goal.returns
-returns c = simp c.state_number-number.ensures
+returns c = simp c.from-number.ensures

@@ -2,11 +2,10 @@
 use Rattle.c_call_link.specs.FlatLink.{link_told_of}
 use Rattle.c_call_link.proofs.told.Goals as goal
 
-pub returns-then-known : goal.returns-then-known
+pub returns-in-Ok : goal.returns-in-Ok
 unfolding link_told_of
-returns-then-known c =
-    simp (c.link_told.ensures, c.named-c.ensures, ← c.known.ensures, c.if-known.true)
+returns-in-Ok c = simp (c.link_told.ensures, c.in-Ok.ensures.0, c.in-Ok.ensures.1)
 
-pub returns : goal.returns
+pub returns-in-Err : goal.returns-in-Err
 unfolding link_told_of
-returns c = simp (c.link_bare.ensures, ← c.known.ensures, c.if-known.false)
+returns-in-Err c = simp (c.link_bare.ensures, c.in-Err.ensures.0)

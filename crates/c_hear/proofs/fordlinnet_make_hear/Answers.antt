@@ -1,10 +1,15 @@
--- `c_hear::fordlinnet_make_hear` meets its contract, by its laws. Assumes nothing.
-use Rattle.c_hear.proofs.Laws.{fordlinnet_make_hear_returns}
+-- `c_hear::fordlinnet_make_hear` meets its contract. Assumes nothing.
+use mathlib.Core.Path.{ap, ◌∙◌}
+use Rattle.group_table.specs.Table.{holder_in}
+use Rattle.c_hear.proofs.Laws.{heard_ok, heard_err}
 use Rattle.c_hear.proofs.fordlinnet_make_hear.Goals as goal
 
-pub returns : goal.returns
-returns c =
-    fordlinnet_make_hear_returns c.args.s c.args.n c.args.mem.now c.args.table.now c.args.links c.args.bytes.now c.args.message.now
-    c.parse-what.result c.parse-what.ensures c.token_of-token.result c.token_of-token.ensures c.find-slot.result
-    c.find-slot.ensures c.before-j.result c.before-j.ensures c.hear_unless.result c.hear_unless.new.table c.hear_unless.new.message
-    c.hear_unless.ensures
+pub returns-in-Ok : goal.returns-in-Ok
+returns-in-Ok c =
+    heard_ok _ _ _ _ c.args.links _ _ _ c.parse-heard.ensures _
+    (c.find-slot.ensures ∙ ap (holder_in c.args.table.now) c.token_of.ensures) _ c.in-Ok.ensures _ _ _ c.hear_on.ensures
+
+pub returns-in-Err : goal.returns-in-Err
+returns-in-Err c =
+    heard_err _ _ _ _ c.args.links _ _ _ c.parse-heard.ensures _
+    (c.find-slot.ensures ∙ ap (holder_in c.args.table.now) c.token_of.ensures) _ c.in-Err.ensures _ c.refused.ensures

@@ -1,9 +1,17 @@
--- `c_hear::put` meets its contract, by its laws. Assumes nothing.
-use Rattle.c_hear.proofs.Laws.{put_returns}
+-- `c_hear::put` meets its contract. Assumes nothing.
+use mathlib.Core.Path.{sym}
+use Rattle.group_table.proofs.Laws.{record_kept}
+use Rattle.c_hear.specs.TableLeft.{table_left}
 use Rattle.c_hear.proofs.put.Goals as goal
 
-pub returns : goal.returns
-returns c =
-    put_returns c.args.table.now c.args.slot c.args.m c.args.t c.taking-at.result c.taking-at.ensures c.take_at.result
-    c.take_at.new.table c.take_at.ensures c.ending-gone.result c.ending-gone.ensures c.end_at.result c.end_at.new.table
-    c.end_at.ensures
+pub returns-then-t : goal.returns-then-t
+unfolding table_left
+returns-then-t c = simp (c.put_record.ensures, c.ended.ensures, c.record_at-rec.ensures, c.if-t.true)
+
+pub returns-then-t-2 : goal.returns-then-t-2
+unfolding table_left
+returns-then-t-2 c = simp (c.put_record-then-t-2.ensures, c.left.ensures, c.record_at-rec.ensures, c.if-t.false, c.if-t-2.true)
+
+pub returns-else-t-2 : goal.returns-else-t-2
+unfolding table_left
+returns-else-t-2 c = simp (c.if-t.false, c.if-t-2.false) (sym (record_kept _ _))

@@ -6,4 +6,4 @@ use Rattle.c_pool.proofs.give_back.Goals as goal
 pub returns : goal.returns
 returns c =
     let d = c.give_back.ensures in
-    record { answered = c.answer_of.ensures ∙ (λ i. flat_of (d.answered i) (d.left i)) }
+    record { answered = c.from.ensures ∙ (λ i. flat_of (d.answered i) (d.left i)) }

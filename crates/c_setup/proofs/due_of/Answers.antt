@@ -1,5 +1,5 @@
 -- `c_setup::due_of` meets its contract. Assumes nothing.
-use borrow.Author.Tests.{ne_eqb}
+use Rattle.std.proofs.Common.{ne_eqb, arith}
 use Rattle.c_setup.specs.FlatSetup.{due_of}
 use Rattle.c_setup.proofs.due_of.Goals as goal
 
@@ -17,4 +17,10 @@ returns-in-3 c = simp c.in-3.is
 
 pub returns-in_default : goal.returns-in_default
 unfolding due_of
-returns-in_default c = let r = c.in_default.in_default-own.rest in simp (ne_eqb _ 1 r.0.0.1, ne_eqb _ 2 r.0.1, ne_eqb _ 3 r.1)
+returns-in_default c =
+    let k = c.args.k in
+    simp (
+      ne_eqb k 1 (λ e. absurd (omega (arith, e))),
+      ne_eqb k 2 (λ e. absurd (omega (arith, e))),
+      ne_eqb k 3 (λ e. absurd (omega (arith, e))),
+    )

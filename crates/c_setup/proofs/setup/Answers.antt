@@ -9,7 +9,4 @@ returns-then-due-gt-CONFIRM c = simp (c.bare.ensures, lt-ltb _ _ c.if-due-gt-CON
 
 pub returns : goal.returns
 unfolding flat_setup
-returns c =
-    let s = c in
-    let d = s in
-    simp (c.answer_of.ensures, s.setup.ensures, d.due_of-what.ensures, le-ltb _ _ d.if-due-gt-CONFIRM.false)
+returns c = simp (c.from.ensures, c.setup.ensures, c.due_of.ensures, le-ltb _ _ c.if-due-gt-CONFIRM.false)

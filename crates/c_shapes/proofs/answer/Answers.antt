@@ -5,4 +5,4 @@ use Rattle.c_shapes.proofs.answer.Goals as goal
 
 pub returns : goal.returns
 unfolding of_bits of_int
-returns c = refl
+returns c = simp c.links_from-links.ensures refl

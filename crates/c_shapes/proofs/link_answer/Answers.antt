@@ -1,8 +1,5 @@
--- `c_shapes::link_answer` meets its contract: each float is the one of its bit pattern. Assumes nothing.
-use mathlib.Core.Path.{refl}
-use lib.Ieee.{of_bits, of_int}
+-- `c_shapes::link_answer` meets its contract. Assumes nothing.
 use Rattle.c_shapes.proofs.link_answer.Goals as goal
 
 pub returns : goal.returns
-unfolding of_bits of_int
-returns c = refl
+returns c = simp (c.links_from-links.ensures, c.values.ensures, c.values-2.ensures)

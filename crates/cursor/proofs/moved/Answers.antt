@@ -9,4 +9,4 @@ returns-then-at-size c = simp (lt-ltb _ _ c.if-at-size.true)
 
 pub returns-else-at-size : goal.returns-else-at-size
 unfolding moved_of
-returns-else-at-size c = simp (le-ltb _ _ c.if-at-size.false, c.next_wrap.ensures)
+returns-else-at-size c = simp (le-ltb _ _ c.if-at-size.false)

@@ -13,24 +13,16 @@ use Rattle.element.proofs.clear.Goals as goal
 
 pub returns-then-size-ge4 : goal.returns-then-size-ge4
 returns-then-size-ge4 c =
-    let at-fresh = c in
-    let s = at-fresh in
-    let m = s.args.mem.now in
-    let base = s.args.base in
-    let size = s.args.size in
+    let m = c.args.mem.now in
+    let base = c.args.base in
+    let size = c.args.size in
     let inside : base + size ≤ length m = omega arith in
     let four : 4 ≤ size = omega arith in
     let n : length (mid_of base (base + size - base) m) ≡ size = mid_len base (base + size) m inside ∙ add-sub_cancel_left base size in
-    put_mid_lem m at-fresh.fresh.new.el (fresh_element size) base (base + size)
-    (at-fresh.fresh.ensures ∙ ap fresh_element n)
+    put_mid_lem m c.fresh.new.el (fresh_element size) base (base + size)
+    (c.fresh.ensures ∙ ap fresh_element n)
     (ap (λ (x : ℕ). base + x) (sym (fresh_length size four)))
     ∙ sym (cleared_in_lem m base size inside four)
 
-pub returns-else-size-ge4 : goal.returns-else-size-ge4
-returns-else-size-ge4 c = sym (cleared_out _ _ _ (λ h. omega arith))
-
-pub returns-else-size-len : goal.returns-else-size-len
-returns-else-size-len c = sym (cleared_out _ _ _ (λ h. omega arith))
-
 pub returns-else-base-len : goal.returns-else-base-len
-returns-else-base-len c = sym (cleared_out _ _ _ (λ h. omega arith))
+returns-else-base-len c = sym (cleared_out _ _ _ (λ h. grind arith))

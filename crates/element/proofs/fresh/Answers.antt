@@ -1,17 +1,15 @@
 -- `element::fresh` meets its contract: zeros, then the eye catcher over the first four. Assumes nothing.
-use Rattle.element.proofs.Laws.{drop-replicate}
 use Prim.Native.Nat.{ℕ}
 use mathlib.Core.Path.{ap, ◌∙◌}
-use mathlib.Core.List.{List, ◌∷◌}
+use mathlib.Core.List.{List, ◌++◌}
 use lib.ListN.{length, drop}
-use Rattle.element.specs.Element.{fresh_element}
+use Rattle.std.proofs.lemmas.List.{drop-replicate}
+use Rattle.element.specs.Element.{fresh_element, eye_catcher}
 use Rattle.element.proofs.fresh.Goals as goal
 
 pub returns : goal.returns
 unfolding fresh_element
 returns c =
-    let at-stamp = c in
-    let at_zero = at-stamp in
-    at-stamp.stamp.ensures
-    ∙ ap (λ (l : List ℕ). 0xE2 ∷ 0xD4 ∷ 0xC3 ∷ 0xD9 ∷ drop 4 l) at_zero.zero.ensures
-    ∙ ap (λ (l : List ℕ). 0xE2 ∷ 0xD4 ∷ 0xC3 ∷ 0xD9 ∷ l) (drop-replicate 4 (length at_zero.args.el.now))
+    ap (λ (l : List ℕ). l ++ drop 4 c.fill.new.self) c.copy_from_slice.ensures.after
+    ∙ ap (λ (l : List ℕ). eye_catcher ++ drop 4 l) (c.fill.ensures.after (λ y e. e))
+    ∙ ap (λ (l : List ℕ). eye_catcher ++ l) (drop-replicate 4 (length c.args.el.now) 0)

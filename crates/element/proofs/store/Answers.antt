@@ -6,15 +6,7 @@ use mathlib.Core.Path.{refl, sym, ◌∙◌}
 use Rattle.element.proofs.store.Goals as goal
 
 pub returns-then-n-len : goal.returns-then-n-len
-returns-then-n-len c =
-    let at_copy = c in
-    put_mid_lem _ _ _ _ _ at_copy.copy.ensures refl ∙ sym (stored_in _ _ _ (omega arith) (omega arith))
-
-pub returns-else-n-len : goal.returns-else-n-len
-returns-else-n-len c = sym (stored_out _ _ _ (λ h. omega arith))
-
-pub returns-else-at-len : goal.returns-else-at-len
-returns-else-at-len c = sym (stored_out _ _ _ (λ h. omega arith))
+returns-then-n-len c = put_mid_lem _ _ _ _ _ c.copy.ensures refl ∙ sym (stored_in _ _ _ (omega arith) (omega arith))
 
 pub returns-else-n-le65536 : goal.returns-else-n-le65536
-returns-else-n-le65536 c = sym (stored_out _ _ _ (λ h. omega arith))
+returns-else-n-le65536 c = sym (stored_out _ _ _ (λ h. grind arith))

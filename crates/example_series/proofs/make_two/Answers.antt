@@ -6,6 +6,4 @@ pub returns : goal.returns
 returns c =
     make_two_returns c.args.s c.args.n c.args.mem.now c.args.table.now c.args.links c.args.c c.args.given.now c.args.out.now
     c.args.d c.args.also.now c.args.into.now c.make-first.result c.make-first.new.mem c.make-first.new.table c.make-first.new.out
-    c.make-first.ensures c.links_after-left.result c.links_after-left.ensures
-    c.make-second.result c.make-second.new.mem c.make-second.new.table c.make-second.new.out c.make-second.ensures
-    c.both.result c.both.ensures
+    c.make-first.ensures c.make-second.result c.make-second.new.mem c.make-second.new.table c.make-second.new.out c.make-second.ensures

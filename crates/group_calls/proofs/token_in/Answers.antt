@@ -5,8 +5,8 @@ use Rattle.group_calls.proofs.token_in.Goals as goal
 
 pub returns-in-Good : goal.returns-in-Good
 unfolding token_in
-returns-in-Good c = ap token_is (sym c.in-Good.is ∙ c.decode-what.ensures)
+returns-in-Good c = ap token_is (sym c.in-Good.is ∙ c.decode.ensures)
 
 pub returns-in-Malformed : goal.returns-in-Malformed
 unfolding token_in
-returns-in-Malformed c = ap token_is (sym c.in-Malformed.is ∙ c.decode-what.ensures)
+returns-in-Malformed c = ap token_is (sym c.in-Malformed.is ∙ c.decode.ensures)

@@ -8,10 +8,8 @@ use Rattle.group_desk.proofs.free.Goals as goal
 
 pub returns : goal.returns
 returns c =
-    let o = c in
-    let z = o in
-    let f = z in
-    let a = f.args in
-    free_shown a.s a.n a.mem.now a.count a.links a.slot a.rec o.outcome_of-o.result c.settled.result
-    f.free_refusal-no.result c.settled.ensures f.free_refusal-no.ensures
-    (o.outcome_of-o.ensures ∙ ap (outcome_of Accepted false) z.zero_record-z.ensures)
+    let a = c.args in
+    let v = a.view.now in
+    free_shown v.s v.n a.mem.now v.count v.links a.slot v.rec c.outcome_of-o.result c.settled.result
+    c.free_refusal-no.result c.settled.ensures c.free_refusal-no.ensures
+    (c.outcome_of-o.ensures ∙ ap (outcome_of Accepted false) c.zero_record-z.ensures)

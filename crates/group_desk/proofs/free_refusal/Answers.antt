@@ -2,21 +2,22 @@
 use Rattle.group_rules.specs.Promises.{free_number}
 use Rattle.group_desk.proofs.free_refusal.Goals as goal
 
-pub returns : goal.returns
+pub returns-then-not-sizes_ok : goal.returns-then-not-sizes_ok
 unfolding free_number
-returns c =
-    let r2 = c in
-    let r3 = r2 in
-    let r7 = r3 in
-    let w = r7 in
-    let k = w in
-    let z = k in
-    simp (
-      c.refusal_if.ensures,
-      r2.refusal_if-no_2.ensures,
-      r3.refusal_if-no_3.ensures,
-      r7.refusal_if-no_7.ensures,
-      w.coherent-incoherent.ensures,
-      k.slot_ok.ensures,
-      z.sizes_ok-wrong.ensures,
-    )
+returns-then-not-sizes_ok c = simp (← c.sizes_ok.ensures, c.if-not-sizes_ok.true)
+
+pub returns-then-not-slot_ok-view : goal.returns-then-not-slot_ok-view
+unfolding free_number
+returns-then-not-slot_ok-view c = simp (← c.sizes_ok.ensures, c.if-not-sizes_ok.false, ← c.slot_ok.ensures, c.if-not-slot_ok-view.true)
+
+pub returns-then-not-coherent : goal.returns-then-not-coherent
+unfolding free_number
+returns-then-not-coherent c = simp (← c.sizes_ok.ensures, c.if-not-sizes_ok.false, ← c.slot_ok.ensures, c.if-not-slot_ok-view.false, ← c.coherent.ensures, c.if-not-coherent.true)
+
+pub returns-then-not-view : goal.returns-then-not-view
+unfolding free_number
+returns-then-not-view c = simp (← c.sizes_ok.ensures, c.if-not-sizes_ok.false, ← c.slot_ok.ensures, c.if-not-slot_ok-view.false, ← c.coherent.ensures, c.if-not-coherent.false, c.if-not-view.true)
+
+pub returns-else-not-view : goal.returns-else-not-view
+unfolding free_number
+returns-else-not-view c = simp (← c.sizes_ok.ensures, c.if-not-sizes_ok.false, ← c.slot_ok.ensures, c.if-not-slot_ok-view.false, ← c.coherent.ensures, c.if-not-coherent.false, c.if-not-view.false)

@@ -10,26 +10,18 @@ use Rattle.group_desk.proofs.open.Goals as goal
 
 pub returns-then-no-eq0 : goal.returns-then-no-eq0
 returns-then-no-eq0 c =
-    let w = c in
-    let b = w in
-    let d = b in
-    let o = d in
-    let r = o in
-    let f = r in
-    let a = f.args in
-    open_shown a.s a.n a.mem.now a.count a.links a.slot a.rec o.outcome_of-o.result d.settled-d.result
-    f.open_refusal-no.result d.settled-d.ensures a.holder a.given f.open_refusal-no.ensures
-    (o.outcome_of-o.ensures ∙ ap (outcome_of Accepted false) r.opened_record-after.ensures) _
-    (λ z. w.clear.ensures ∙ ap (λ (x : ℕ). cleared_of a.mem.now x a.n) b.base_of-base.ensures)
-    (λ h. absurd (h b.if-no-eq0.true))
+    let a = c.args in
+    let v = a.view.now in
+    open_shown v.s v.n a.mem.now v.count v.links a.slot v.rec c.outcome_of-o.result c.settled-d.result
+    c.open_refusal-no.result c.settled-d.ensures a.holder a.given c.open_refusal-no.ensures
+    (c.outcome_of-o.ensures ∙ ap (outcome_of Accepted false) c.opened_record-after.ensures) _
+    (λ z. c.clear.ensures ∙ ap (λ (x : ℕ). cleared_of a.mem.now x v.n) c.base_of-base.ensures)
+    (λ h. absurd (h c.if-no-eq0.true))
 
 pub returns-else-no-eq0 : goal.returns-else-no-eq0
 returns-else-no-eq0 c =
-    let d = c in
-    let o = d in
-    let r = o in
-    let f = r in
-    let a = f.args in
-    open_shown a.s a.n a.mem.now a.count a.links a.slot a.rec o.outcome_of-o.result d.settled-d.result
-    f.open_refusal-no.result d.settled-d.ensures a.holder a.given f.open_refusal-no.ensures
-    (o.outcome_of-o.ensures ∙ ap (outcome_of Accepted false) r.opened_record-after.ensures) _ (λ z. absurd (c.if-no-eq0.false z)) (λ h. refl)
+    let a = c.args in
+    let v = a.view.now in
+    open_shown v.s v.n a.mem.now v.count v.links a.slot v.rec c.outcome_of-o.result c.settled-d.result
+    c.open_refusal-no.result c.settled-d.ensures a.holder a.given c.open_refusal-no.ensures
+    (c.outcome_of-o.ensures ∙ ap (outcome_of Accepted false) c.opened_record-after.ensures) _ (λ z. absurd (c.if-no-eq0.false z)) (λ h. refl)

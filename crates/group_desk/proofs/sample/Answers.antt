@@ -1,5 +1,5 @@
 -- `group_desk::sample` meets its contract. Assumes nothing.
-use mathlib.Core.Path.{◌≡◌, ap, ◌∙◌}
+use mathlib.Core.Path.{◌∙◌}
 use Rattle.group_desk.specs.Linkstate.{health_by}
 use Rattle.group_desk.proofs.LinkstateLaws.{sample_refused, sampled_is, sample_did}
 use Rattle.group_desk.proofs.sample.Goals as goal

@@ -2,19 +2,18 @@
 use Rattle.group_rules.specs.Rules.{sample_refusal}
 use Rattle.group_desk.proofs.sample_refusal.Goals as goal
 
-pub returns : goal.returns
+pub returns-then-not-link_ok : goal.returns-then-not-link_ok
 unfolding sample_refusal
-returns c =
-    let r6 = c in
-    let r17 = r6 in
-    let s = r17 in
-    let a = s in
-    let o = a in
-    simp (
-      c.refusal_if.ensures,
-      r6.refusal_if-no_6.ensures,
-      r17.refusal_if-no_17.ensures,
-      s.is_sample-long.ensures,
-      a.link_active-down.ensures,
-      o.link_ok-outside.ensures,
-    )
+returns-then-not-link_ok c = simp (← c.link_ok.ensures, c.if-not-link_ok.true)
+
+pub returns-then-not-link_active : goal.returns-then-not-link_active
+unfolding sample_refusal
+returns-then-not-link_active c = simp (← c.link_ok.ensures, c.if-not-link_ok.false, ← c.link_active.ensures, c.if-not-link_active.true)
+
+pub returns-then-not-is_sample : goal.returns-then-not-is_sample
+unfolding sample_refusal
+returns-then-not-is_sample c = simp (← c.link_ok.ensures, c.if-not-link_ok.false, ← c.link_active.ensures, c.if-not-link_active.false, ← c.is_sample.ensures, c.if-not-is_sample.true)
+
+pub returns-else-not-is_sample : goal.returns-else-not-is_sample
+unfolding sample_refusal
+returns-else-not-is_sample c = simp (← c.link_ok.ensures, c.if-not-link_ok.false, ← c.link_active.ensures, c.if-not-link_active.false, ← c.is_sample.ensures, c.if-not-is_sample.false)

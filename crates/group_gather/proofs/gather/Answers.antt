@@ -5,5 +5,4 @@ use Rattle.group_gather.proofs.gather.Goals as goal
 pub returns : goal.returns
 returns c =
     gather_returns c.args.s c.args.n c.args.mem.now c.args.table.now c.args.links c.args.slot c.args.head.now c.args.body.now
-    c.record_at-rec.result c.record_at-rec.ensures c.turn-d.result c.turn-d.ensures c.after_of-after.result c.after_of-after.ensures
-    c.put_record.result c.put_record.new.table c.put_record.ensures c.answer_of.result c.answer_of.ensures
+    c.record_at-found.result c.record_at-found.ensures c.turn-d.result c.turn-d.ensures c.put_record.new.table c.put_record.ensures

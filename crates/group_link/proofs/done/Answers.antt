@@ -4,4 +4,4 @@ use Rattle.group_link.proofs.done.Goals as goal
 
 pub returns : goal.returns
 unfolding done_by
-returns c = simp c.reply_of-reply.ensures
+returns c = simp c.reply_of.ensures

@@ -4,4 +4,4 @@ use Rattle.group_link.proofs.lent_ok.Goals as goal
 
 pub returns : goal.returns
 unfolding lent_b
-returns c = simp c.sizes_ok-sized.ensures
+returns c = simp c.sizes_ok.ensures

@@ -6,8 +6,6 @@ pub returns-then-lent_ok : goal.returns-then-lent_ok
 unfolding lent_of
 returns-then-lent_ok c = simp (← c.lent_ok.ensures, c.if-lent_ok.true, c.work_on.ensures)
 
-pub returns : goal.returns
+pub returns-else-lent_ok : goal.returns-else-lent_ok
 unfolding lent_of
-returns c =
-    let n = c in
-    simp (← n.lent_ok.ensures, n.if-lent_ok.false, c.none_up-nobody.ensures, n.no_fields-none.ensures)
+returns-else-lent_ok c = simp (← c.lent_ok.ensures, c.if-lent_ok.false, c.bare.ensures)

@@ -1,11 +1,6 @@
 -- `group_table::record_at` meets its contract. Assumes nothing.
-use Rattle.conn_record.specs.Connection.{zero_record}
-use Rattle.group_table.proofs.SlotsLaws.{record_at_returns, record_at_returns_2}
+use Rattle.group_table.proofs.SlotsLaws.{record_at_returns_2}
 use Rattle.group_table.proofs.record_at.Goals as goal
-
-pub returns-then-i-table : goal.returns-then-i-table
-unfolding zero_record
-returns-then-i-table c = record_at_returns c.args.table.now c.args.slot c.index-i.result c.index-i.ensures c.if-i-table.true
 
 pub returns-else-i-table : goal.returns-else-i-table
 returns-else-i-table c =

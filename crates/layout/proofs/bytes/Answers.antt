@@ -1,23 +1,23 @@
 -- `layout::bytes` meets its contract. Assumes nothing.
-use Rattle.layout.specs.Layout.{bytes_at}
-use Rattle.layout.proofs.Places.{filled_next, bytes_filled}
+use native.Mathlib.Nat.{add-sub_cancel_left}
 use native.Mathlib.Omega.{arith}
-use Prim.Native.Nat.{ℕ, ◌-◌, ◌<◌}
-use mathlib.Core.Path.{◌≡◌, refl, ap, ◌∙◌}
-use lib.ListN.{length, drop, get_or, length-set}
+use Prim.Native.Nat.{ℕ, ◌-◌}
+use mathlib.Core.Path.{◌≡◌, ap, ◌∙◌}
+use mathlib.Core.List.{List, ◌++◌}
+use lib.ListN.{length, take, drop, replicate, length-drop}
+use lib.Seq.{length-take-le}
+use Rattle.layout.proofs.Places.{halves, bytes_and_zeros}
 use Rattle.layout.proofs.bytes.Goals as goal
 
-pub loop-i-init : goal.loop-i-init
-loop-i-init c = (refl, λ k h. absurd (omega arith))
-
-pub loop-i-preserved : goal.loop-i-preserved
-loop-i-preserved c = let l = c.loop-i in
-    let a = c.args in
-    (simp length-set l.invariant.0, filled_next l.out (drop a.at a.s.now) l.i c.byte.result (omega arith) c.byte.ensures l.invariant.1)
-
 pub returns : goal.returns
-returns c = let l = c.loop-i in
-    let a = c.args in
-    let n : length l.out ≡ length a.out.now = l.invariant.0 in
-    bytes_filled a.s.now l.out a.at (λ i. (c.shared_slice_known-1.given i).fits) (λ k h. l.invariant.1 k (omega arith))
-    ∙ ap (bytes_at a.s.now a.at) n
+returns c =
+    let s = c.args.s.now in
+    let o = c.args.out.now in
+    let f = c.min-from.result in
+    let n = c.min-n.result in
+    let q : c.copy_from_slice.new.self ≡ take n (drop f s) =
+    c.copy_from_slice.ensures.after ∙ ap (λ (k : ℕ). take k (drop f s)) (add-sub_cancel_left f n) in
+    let l : length c.copy_from_slice.new.self ≡ n = ap length q ∙ length-take-le n (drop f s) (omega (arith, length-drop f s)) in
+    halves c.copy_from_slice.new.self o c.fill.new.self n l (omega arith) (c.fill.ensures.after (λ y e. e))
+    ∙ ap (λ (t : List ℕ). t ++ replicate (length o - n) 0) q
+    ∙ bytes_and_zeros s c.args.at f n (length o) c.min-from.ensures c.min-n.ensures (λ i. (c.type_inv.s i).fits)

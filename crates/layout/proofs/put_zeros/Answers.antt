@@ -1,24 +1,22 @@
 -- `layout::put_zeros` meets its contract. Assumes nothing.
-use Rattle.layout.proofs.Places.{laid_in, laid_out}
+use Rattle.layout.proofs.Places.{laid_mid, laid_out}
+use borrow.Rule.Slice.PartMut.{mid_len}
+use native.Mathlib.Nat.{add-sub_cancel_left}
 use native.Mathlib.Omega.{arith}
-use Prim.Native.Nat.{ℕ, ◌+◌}
-use mathlib.Core.Path.{◌≡◌, sym, ap, ◌∙◌}
-use mathlib.Core.List.{◌++◌}
-use lib.ListN.{length, take, drop, replicate, length-replicate}
+use Prim.Native.Nat.{ℕ, ◌+◌, ◌≤◌}
+use mathlib.Core.Path.{sym, ap, ◌∙◌}
+use lib.ListN.{length, replicate, length-replicate}
 use Rattle.layout.proofs.put_zeros.Goals as goal
 
 pub returns-then-at-out : goal.returns-then-at-out
-returns-then-at-out c = let b = c in
-    let a = b.args in
-    let e : length (replicate {A = ℕ} a.n 0) ≡ a.n = length-replicate a.n 0 in
-    b.wipe.ensures
-    ∙ ap (λ (k : ℕ). take a.at a.out.now ++ (replicate a.n 0 ++ drop (a.at + k) a.out.now)) (sym e)
-    ∙ sym (laid_in a.out.now (replicate a.n 0) a.at (omega arith))
-
-pub returns-else-at-out : goal.returns-else-at-out
-returns-else-at-out c = let a = c.args in
-    sym (laid_out a.out.now (replicate a.n 0) a.at (omega (arith, length-replicate {A = ℕ} a.n 0)))
+returns-then-at-out c =
+    let o = c.args.out.now in
+    let at = c.args.at in
+    let n = c.args.n in
+    let inside : at + n ≤ length o = omega arith in
+    laid_mid _ _ (replicate n 0) at n
+    (c.fill.ensures.after (λ y e. e) ∙ ap (λ (k : ℕ). replicate k 0) (mid_len at (at + n) o inside ∙ add-sub_cancel_left at n))
+    (sym (length-replicate n 0)) inside
 
 pub returns-else-n-out : goal.returns-else-n-out
-returns-else-n-out c = let a = c.args in
-    sym (laid_out a.out.now (replicate a.n 0) a.at (omega (arith, length-replicate {A = ℕ} a.n 0)))
+returns-else-n-out c = sym (laid_out _ (replicate c.args.n 0) _ (grind (arith, length-replicate {A = ℕ} c.args.n 0)))

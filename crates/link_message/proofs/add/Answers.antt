@@ -1,6 +1,6 @@
 -- `link_message::add` meets its contract. Assumes nothing.
-use Prim.Native.Nat.{ℕ, ◌+◌, ◌*◌, ◌^◌, ◌<◌, min}
-use mathlib.Core.Path.{◌≡◌, ap, ◌∙◌, sym, subst}
+use Prim.Native.Nat.{◌+◌, ◌*◌}
+use mathlib.Core.Path.{ap, ◌∙◌}
 use native.Mathlib.Nat.{min-eq_left}
 use native.Mathlib.Omega.{arith}
 use lib.Pow.{pow_mono}

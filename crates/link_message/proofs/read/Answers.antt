@@ -1,17 +1,17 @@
 -- `link_message::read` meets its contract. Assumes nothing.
-use Prim.Native.Nat.{ℕ, ◌+◌, ◌-◌, ◌*◌, ◌%◌, ◌^◌, ◌≤◌, ◌<◌}
+use Prim.Native.Nat.{ℕ, ◌≤◌, ◌<◌}
 use mathlib.Core.Path.{◌≡◌, ap, ◌∙◌, sym, subst}
 use native.Mathlib.Omega.{arith}
 use lib.ListN.{length, get_or, set}
 use mathlib.Core.List.{List}
 use Rattle.link_message.specs.declared.Place.{Place}
-use Rattle.link_message.specs.Layouts.{table_of, count_of, no_place, value_at, values_in, reduced, read_of, reduced_of, most_rows}
+use Rattle.link_message.specs.Layouts.{table_of, value_at, values_in, read_of}
 use Rattle.link_message.proofs.Table.{count_is, count_most}
-use Rattle.link_message.proofs.Adding.{filled_to, filled_none, filled_more, filled_all, value_at_lem, values_length, reduced_at, reduced_length, within}
+use Rattle.link_message.proofs.Adding.{filled_none, filled_more, filled_all, value_at_lem, values_length, within}
 use Rattle.link_message.proofs.read.Goals as goal
 
 pub loop-i-init : goal.loop-i-init
-loop-i-init c = (c.count-n.ensures, omega arith, filled_none _)
+loop-i-init c = (c.count-i-end.ensures, filled_none _)
 
 pub value-requires : goal.value-requires
 value-requires c =
@@ -41,8 +41,7 @@ loop-i-preserved c =
     let x : c.value.result ≡ get_or (values_in t s) l.i 0 =
     c.value.ensures ∙ ap (value_at s) c.place_of.ensures ∙ sym (value_at_lem t s l.i h) in (
       l.invariant.0,
-      omega arith,
-      ap (λ (v : List ℕ). set v l.i c.value.result) l.invariant.2
+      ap (λ (v : List ℕ). set v l.i c.value.result) l.invariant.1
           ∙ filled_more (values_in t s) l.i c.value.result (omega (arith, values_length t s)) (omega (arith, count_most a.kind)) x,
     )
 
@@ -51,6 +50,6 @@ unfolding read_of
 returns c =
     let l = c.loop-i in
     let a = c.args in
-    l.invariant.2
+    l.invariant.1
     ∙ filled_all (values_in (table_of a.kind) a.s.now) l.i
     (omega (arith, values_length (table_of a.kind) a.s.now, count_is a.kind))

@@ -1,15 +1,10 @@
 -- `link_message::value` meets its contract. Assumes nothing.
-use Prim.Native.Nat.{ℕ, ◌/◌, ◌%◌, ◌^◌, min}
-use mathlib.Core.Path.{ap, ◌∙◌, ◌≡◌}
+use Prim.Native.Nat.{◌/◌, ◌%◌, ◌^◌}
+use mathlib.Core.Path.{ap, ◌∙◌}
 use native.Mathlib.Nat.{min-eq_left}
-use native.Mathlib.Omega.{arith}
-use lib.Pow.{pow_pos}
 use Rattle.layout.specs.Layout.{number_at}
 use Rattle.link_message.specs.Layouts.{value_at}
 use Rattle.link_message.proofs.value.Goals as goal
-
-pub nonzero_div-number : goal.nonzero_div-number
-nonzero_div-number c = omega (arith, c.power.ensures, pow_pos c.args.p.2)
 
 pub returns : goal.returns
 unfolding value_at
@@ -17,4 +12,4 @@ returns c =
     let a = c.args in
     let pre = c.requires in
     let n = c.number.ensures.0 ∙ ap (number_at a.s.now a.p.0) (min-eq_left pre.0) in
-    c.low.ensures ∙ (λ i. n i / c.power.ensures i % 2 ^ a.p.3)
+    c.low.ensures ∙ (λ i. n i / 2 ^ a.p.2 % 2 ^ a.p.3)

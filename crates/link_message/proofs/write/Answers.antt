@@ -1,16 +1,16 @@
 -- `link_message::write` meets its contract. Assumes nothing.
-use Prim.Native.Nat.{ℕ, ◌+◌, ◌-◌, ◌*◌, ◌%◌, ◌^◌, ◌≤◌, ◌<◌}
+use Prim.Native.Nat.{ℕ, ◌+◌, ◌*◌, ◌%◌, ◌^◌, ◌≤◌, ◌<◌}
 use mathlib.Core.Path.{◌≡◌, ap, ◌∙◌, sym, subst}
 use mathlib.Core.List.{List, ◌∷◌}
 use native.Mathlib.Omega.{arith}
-use lib.ListN.{length, get_or, set, take, replicate}
+use lib.ListN.{get_or, take, replicate}
 use lib.Pow.{pow_mono}
 use Rattle.layout.specs.Layout.{number_at, laid_at, be_of}
 use Rattle.link_message.specs.declared.Kind.{Kind}
 use Rattle.link_message.specs.declared.Place.{Place}
-use Rattle.link_message.specs.Layouts.{table_of, count_of, no_place, encode_of, mark}
-use Rattle.link_message.proofs.Table.{count_is, count_most}
-use Rattle.link_message.proofs.Adding.{Within, within, Step, step, none_yet, all_there}
+use Rattle.link_message.specs.Layouts.{table_of, no_place, encode_of, mark}
+use Rattle.link_message.proofs.Table.{count_most}
+use Rattle.link_message.proofs.Adding.{within, Step, step, none_yet, all_there}
 use Rattle.link_message.proofs.write.Goals as goal
 
 -- what the step says, of the place and the number in hand
@@ -32,7 +32,7 @@ module _ (k : Kind) (vs : List ℕ) (i : ℕ) (out : List ℕ) (p : Place) (x : 
 
 pub loop-i-init : goal.loop-i-init
 loop-i-init c =
-    (c.count-n.ensures, omega arith, ap (λ (b : ℕ). b ∷ mark ∷ replicate 42 0) c.code_of.ensures ∙ none_yet c.args.kind)
+    (c.count-i-end.ensures, ap (λ (b : ℕ). b ∷ mark ∷ replicate 42 0) c.code_of.ensures ∙ none_yet c.args.kind)
 
 pub offset_bounds-vs-i : goal.offset_bounds-vs-i
 offset_bounds-vs-i c = omega (arith, count_most c.args.kind)
@@ -40,29 +40,16 @@ offset_bounds-vs-i c = omega (arith, count_most c.args.kind)
 pub bounds-vs-i : goal.bounds-vs-i
 bounds-vs-i c = omega (arith, count_most c.args.kind)
 
-pub power-requires : goal.power-requires
-power-requires c =
-    let l = c.loop-i in
-    let w = within c.args.kind l.i (omega arith) in
+pub overflow_shl-x : goal.overflow_shl-x
+overflow_shl-x c =
+    let w = within c.args.kind c.loop-i.i (omega arith) in
     subst (λ (p : Place). p.2 < 64) (sym c.place_of-p.ensures) w.low
-
-pub overflow_mul-x : goal.overflow_mul-x
-overflow_mul-x c =
-    let a = c.args in
-    let l = c.loop-i in
-    let w = within a.kind l.i (omega arith) in
-    let g = step a.kind a.vs l.i (omega arith) in
-    let p = get_or (table_of a.kind) l.i no_place in
-    let e = c.place_of-p.ensures in
-    let x : c.low.result * c.power.result ≡ get_or a.vs l.i 0 % 2 ^ p.3 * 2 ^ p.2 =
-    λ j. (c.low.ensures ∙ ap (λ (q : Place). get_or a.vs l.i 0 % 2 ^ q.3) e) j * (c.power.ensures ∙ ap (λ (q : Place). 2 ^ q.2) e) j in
-    record { fits = omega (arith, x, g.fits, w.small, pow_mono {i = 8 * p.1} {j = 64} (omega (arith, w.small))) }
 
 pub returns : goal.returns
 returns c =
     let l = c.loop-i in
     let a = c.args in
-    l.invariant.2 ∙ all_there a.kind a.vs l.i (omega arith)
+    l.invariant.1 ∙ all_there a.kind a.vs l.i (omega arith)
 
 pub add-requires : goal.add-requires
 add-requires c =
@@ -72,24 +59,26 @@ add-requires c =
     let g = step a.kind a.vs l.i (omega arith) in
     let p = get_or (table_of a.kind) l.i no_place in
     let e = c.place_of-p.ensures in
-    let x : c.low.result * c.power.result ≡ get_or a.vs l.i 0 % 2 ^ p.3 * 2 ^ p.2 =
-    λ j. (c.low.ensures ∙ ap (λ (q : Place). get_or a.vs l.i 0 % 2 ^ q.3) e) j
-    * (c.power.ensures ∙ ap (λ (q : Place). 2 ^ q.2) e) j in (
+    let y : c.low.result * 2 ^ c.place_of-p.result.2 ≡ get_or a.vs l.i 0 % 2 ^ p.3 * 2 ^ p.2 =
+    λ j. (c.low.ensures ∙ ap (λ (q : Place). get_or a.vs l.i 0 % 2 ^ q.3) e) j * 2 ^ (e j).2 in
+    let x : c.low.result * 2 ^ c.place_of-p.result.2 % 18446744073709551616 ≡ get_or a.vs l.i 0 % 2 ^ p.3 * 2 ^ p.2 =
+    omega (arith, y, g.fits, w.small, pow_mono {i = 8 * p.1} {j = 64} (omega (arith, w.small))) in (
       subst (λ (q : Place). q.1 ≤ 8) (sym e) w.small,
-      bound a.kind a.vs l.i l.out c.place_of-p.result _ l.invariant.2 e x g,
+      bound a.kind a.vs l.i l.out c.place_of-p.result _ l.invariant.1 e x g,
     )
 
 pub loop-i-preserved : goal.loop-i-preserved
 loop-i-preserved c =
     let a = c.args in
     let l = c.loop-i in
+    let w = within a.kind l.i (omega arith) in
     let g = step a.kind a.vs l.i (omega arith) in
     let p = get_or (table_of a.kind) l.i no_place in
     let e = c.place_of-p.ensures in
-    let x : c.low.result * c.power.result ≡ get_or a.vs l.i 0 % 2 ^ p.3 * 2 ^ p.2 =
-    λ j. (c.low.ensures ∙ ap (λ (q : Place). get_or a.vs l.i 0 % 2 ^ q.3) e) j
-    * (c.power.ensures ∙ ap (λ (q : Place). 2 ^ q.2) e) j in (
+    let y : c.low.result * 2 ^ c.place_of-p.result.2 ≡ get_or a.vs l.i 0 % 2 ^ p.3 * 2 ^ p.2 =
+    λ j. (c.low.ensures ∙ ap (λ (q : Place). get_or a.vs l.i 0 % 2 ^ q.3) e) j * 2 ^ (e j).2 in
+    let x : c.low.result * 2 ^ c.place_of-p.result.2 % 18446744073709551616 ≡ get_or a.vs l.i 0 % 2 ^ p.3 * 2 ^ p.2 =
+    omega (arith, y, g.fits, w.small, pow_mono {i = 8 * p.1} {j = 64} (omega (arith, w.small))) in (
       l.invariant.0,
-      omega arith,
-      c.add.ensures ∙ laid_next a.kind a.vs l.i l.out c.place_of-p.result _ l.invariant.2 e x g,
+      c.add.ensures ∙ laid_next a.kind a.vs l.i l.out c.place_of-p.result _ l.invariant.1 e x g,
     )

@@ -1,13 +1,15 @@
--- `plan::refusal_at` meets its contract, by its laws. Assumes nothing.
-use Rattle.plan.proofs.Laws.{refusal_at_returns, refusal_at_returns_2}
+-- `plan::refusal_at` meets its contract. Assumes nothing.
+use mathlib.Core.Path.{ap, ◌∙◌}
+use Rattle.conn_record.specs.declared.Record.{Record}
+use Rattle.plan.specs.Direct.{held_of, refusal_in}
+use Rattle.plan.proofs.Laws.{sized, unsized}
 use Rattle.plan.proofs.refusal_at.Goals as goal
 
-pub returns-then-sized : goal.returns-then-sized
-returns-then-sized c =
-    refusal_at_returns c.args.s c.args.n c.args.len c.args.table.now c.args.links c.args.slot c.sizes_ok-sized.result
-    c.sizes_ok-sized.ensures c.if-sized.true c.held_at.result c.held_at.ensures
+pub returns-then-not-sizes_ok : goal.returns-then-not-sizes_ok
+returns-then-not-sizes_ok c = ap refusal_in (unsized _ _ _ _ _ _ c.sizes_ok.ensures c.if-not-sizes_ok.true)
 
-pub returns-else-sized : goal.returns-else-sized
-returns-else-sized c =
-    refusal_at_returns_2 c.args.s c.args.n c.args.len c.args.table.now c.args.links c.args.slot c.sizes_ok-sized.result
-    c.sizes_ok-sized.ensures c.if-sized.false
+pub returns : goal.returns
+returns c =
+    c.held.ensures
+    ∙ ap (λ (x : Record). refusal_in (held_of c.args.s c.args.n c.args.links.active c.args.slot x)) c.record_at-rec.ensures
+    ∙ ap refusal_in (sized _ _ _ _ _ _ c.sizes_ok.ensures c.if-not-sizes_ok.false)

@@ -1,13 +1,14 @@
 -- `plan_finish::finish` meets its contract. Assumes nothing.
-use Rattle.plan_finish.proofs.Laws.{finish_returns, finish_returns_2}
+use mathlib.Core.Path.{refl, sym, ap, ◌∙◌}
+use Rattle.plan.proofs.Laws.{was_none, was_some}
+use Rattle.plan_finish.specs.Finishing.{silently}
+use Rattle.plan_finish.proofs.Laws.{all_refused, all_planned}
 use Rattle.plan_finish.proofs.finish.Goals as goal
 
-pub returns-then-j-gt0 : goal.returns-then-j-gt0
-returns-then-j-gt0 c =
-    finish_returns c.args.what c.args.s c.args.n c.args.mem.now c.args.table.now c.args.links c.args.slot c.refusal_at-j.result
-    c.refusal_at-j.ensures c.if-j-gt0.true c.refused-said.result c.refused-said.ensures c.silent.result c.silent.ensures
+pub returns-in-Some : goal.returns-in-Some
+returns-in-Some c =
+    let j = was_some _ _ (sym c.in-Some.ensures) in
+    all_refused _ _ _ _ _ c.args.links _ _ j.0 (λ z. j.1 (sym j.0 ∙ z)) _ (c.silent.ensures ∙ ap silently c.refused.ensures)
 
-pub returns-else-j-gt0 : goal.returns-else-j-gt0
-returns-else-j-gt0 c =
-    finish_returns_2 c.args.what c.args.s c.args.n c.args.mem.now c.args.table.now c.args.links c.args.slot c.refusal_at-j.result
-    c.refusal_at-j.ensures c.if-j-gt0.false c.finish_on.result c.finish_on.new.table c.finish_on.ensures
+pub returns-in-None : goal.returns-in-None
+returns-in-None c = all_planned _ _ _ _ _ c.args.links _ _ refl (was_none _ (sym c.in-None.ensures)) _ _ c.finish_on.ensures

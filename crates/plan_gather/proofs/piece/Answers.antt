@@ -5,4 +5,4 @@ use Rattle.plan_gather.proofs.piece.Goals as goal
 pub returns : goal.returns
 returns c =
     let w = c in
-    piece_is _ _ _ _ _ _ w.least-at.ensures w.placing_with-p.ensures c.cut.ensures
+    piece_is _ _ _ _ _ _ w.min-at.ensures w.placing_with-p.ensures c.cut.ensures

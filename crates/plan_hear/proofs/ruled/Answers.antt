@@ -12,4 +12,4 @@ pub returns : goal.returns
 unfolding ruled_hearing
 returns c =
     let b = c in
-    simp (← b.consumer_ok.ensures, ← b.producer_ok.ensures, c.if-ok.false, c.refused.ensures)
+    simp (← b.consumer_ok.ensures, ← b.producer_ok.ensures, c.if-ok.false, c.stays.ensures)

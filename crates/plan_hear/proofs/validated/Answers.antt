@@ -8,7 +8,7 @@ unfolding validated_hearing
 returns-then-m-rec c =
     let n = c in
     let s = n in
-    simp (eq-eqb _ _ s.if-m-rec.true, c.kept.ensures, n.state_number.ensures, s.state_of.ensures)
+    simp (eq-eqb _ _ s.if-m-rec.true, c.kept.ensures, n.from.ensures, s.state_of.ensures)
 
 pub returns : goal.returns
 unfolding validated_hearing

@@ -6,16 +6,16 @@ use Rattle.plan_send.proofs.placing.Goals as goal
 
 pub overflow_mul-before : goal.overflow_mul-before
 overflow_mul-before c =
-    let k = c.elements_before-k in
+    let k = c.saturating_sub in
     let a = c.args in
-    omega (arith, place_fits k.result a.size 0 k.ensures.1 (omega arith) (omega arith))
+    omega (arith, place_fits k.result a.size 0 (omega (arith, k.ensures)) (omega arith) (omega arith))
 
 pub overflow_add-at : goal.overflow_add-at
 overflow_add-at c =
-    let k = c.elements_before-k in
+    let k = c.saturating_sub in
     let a = c.args in
-    omega (arith, place_fits k.result a.size a.s.offset k.ensures.1 (omega arith) (omega arith))
+    omega (arith, place_fits k.result a.size a.s.offset (omega (arith, k.ensures)) (omega arith) (omega arith))
 
 pub returns : goal.returns
 unfolding placing_in
-returns c = simp (c.wrapping_add_u64-address.ensures.value, c.elements_before-k.ensures.0)
+returns c = simp c.saturating_sub.ensures

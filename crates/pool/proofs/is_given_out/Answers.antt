@@ -5,7 +5,7 @@ use Rattle.pool.proofs.is_given_out.Goals as goal
 
 pub returns-then-start-lt64 : goal.returns-then-start-lt64
 unfolding given_out_b
-returns-then-start-lt64 c = rw (lt-ltb _ _ c.if-start-lt64.true, c.wide-given.ensures.0)
+returns-then-start-lt64 c = rw (lt-ltb _ _ c.if-start-lt64.true, c.from-given.ensures)
 
 pub returns : goal.returns
 unfolding given_out_b

@@ -40,7 +40,7 @@ pub loop-i-preserved : goal.loop-i-preserved
 loop-i-preserved c =
     let a = c.args in
     let l = c.loop-i in
-    let w = c.wide-size.ensures.0 in
+    let w = c.from-size.ensures in
     let p = past_block a.b.now l.i c.loop-i-test.true (sym c.is_alone.ensures ∙ c.if-not-is_alone.false) (λ e. c.if-size-eq0.false (w ∙ e)) in
     (rw w p.0, rw w (l.invariant.1 ∙ p.1))
 

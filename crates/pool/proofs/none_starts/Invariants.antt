@@ -1,12 +1,9 @@
--- `pool::none_starts` meets its contract. The loop's invariant: what the units from k on say is the answer. Assumes nothing.
-use Prim.Native.Nat.{◌-◌, ◌≤◌}
+-- `pool::none_starts`: what the units from k on say is the answer. Assumes nothing.
+use Prim.Native.Nat.{◌+◌, ◌-◌, ◌≤◌}
 use Rattle.pool.specs.Pool.{every}
 use Rattle.pool.specs.Steps.{empty_b}
 use mathlib.Core.Path.{◌≡◌}
 use Rattle.pool.proofs.none_starts.Given as goal
 
 abbrev pub invariant-loop-k : goal.invariant-loop-k
-invariant-loop-k l = (l.k ≤ l.end) × (every (empty_b l.b) l.start l.n ≡ every (empty_b l.b) l.k (l.end - l.k))
-
-abbrev pub decreases-loop-k : goal.decreases-loop-k
-decreases-loop-k l = l.end - l.k
+invariant-loop-k l = every (empty_b l.b) l.start l.n ≡ every (empty_b l.b) l.k (l.start + l.n - l.k)

@@ -1,6 +1,6 @@
 -- `setup::quiet` meets its contract. Assumes nothing.
+use Rattle.std.proofs.Common.{refl}
 use Rattle.setup.specs.Setup.{silent}
-use mathlib.Core.Path.{refl}
 use Rattle.setup.proofs.quiet.Goals as goal
 
 pub returns : goal.returns

@@ -4,4 +4,4 @@ use Rattle.setup.proofs.say.Goals as goal
 
 pub returns : goal.returns
 unfolding saying
-returns c = simp (c.write-n.ensures.0, c.write-n.ensures.1)
+returns c = simp (c.write-count.ensures.0, c.write-count.ensures.1)

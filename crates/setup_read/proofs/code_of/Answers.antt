@@ -1,32 +1,41 @@
 -- `setup_read::code_of` meets its contract. Assumes nothing.
+use Rattle.std.proofs.Common.{ne_eqb, arith}
 use Rattle.setup_read.specs.Codes.{code_of}
-use borrow.Author.Tests.{eq-eqb, ne_eqb}
 use Rattle.setup_read.proofs.code_of.Goals as goal
 
-pub returns-then-n : goal.returns-then-n
+pub returns-in-16384 : goal.returns-in-16384
 unfolding code_of
-returns-then-n c = simp (eq-eqb _ 16384 c.if-n.true)
+returns-in-16384 c = simp c.in-16384.is
 
-pub returns-then-n-2 : goal.returns-then-n-2
+pub returns-in-32768 : goal.returns-in-32768
 unfolding code_of
-returns-then-n-2 c = simp (ne_eqb _ 16384 c.if-n.false, eq-eqb _ 32768 c.if-n-2.true)
+returns-in-32768 c = simp c.in-32768.is
 
-pub returns-then-n-3 : goal.returns-then-n-3
+pub returns-in-65536 : goal.returns-in-65536
 unfolding code_of
-returns-then-n-3 c = simp (ne_eqb _ 16384 c.if-n.false, ne_eqb _ 32768 c.if-n-2.false, eq-eqb _ 65536 c.if-n-3.true)
+returns-in-65536 c = simp c.in-65536.is
 
-pub returns-then-n-4 : goal.returns-then-n-4
+pub returns-in-131072 : goal.returns-in-131072
 unfolding code_of
-returns-then-n-4 c = simp (ne_eqb _ 16384 c.if-n.false, ne_eqb _ 32768 c.if-n-2.false, ne_eqb _ 65536 c.if-n-3.false, eq-eqb _ 131072 c.if-n-4.true)
+returns-in-131072 c = simp c.in-131072.is
 
-pub returns-then-n-5 : goal.returns-then-n-5
+pub returns-in-262144 : goal.returns-in-262144
 unfolding code_of
-returns-then-n-5 c = simp (ne_eqb _ 16384 c.if-n.false, ne_eqb _ 32768 c.if-n-2.false, ne_eqb _ 65536 c.if-n-3.false, ne_eqb _ 131072 c.if-n-4.false, eq-eqb _ 262144 c.if-n-5.true)
+returns-in-262144 c = simp c.in-262144.is
 
-pub returns-then-n-6 : goal.returns-then-n-6
+pub returns-in-524288 : goal.returns-in-524288
 unfolding code_of
-returns-then-n-6 c = simp (ne_eqb _ 16384 c.if-n.false, ne_eqb _ 32768 c.if-n-2.false, ne_eqb _ 65536 c.if-n-3.false, ne_eqb _ 131072 c.if-n-4.false, ne_eqb _ 262144 c.if-n-5.false, eq-eqb _ 524288 c.if-n-6.true)
+returns-in-524288 c = simp c.in-524288.is
 
-pub returns-else-n-6 : goal.returns-else-n-6
+pub returns-in_default : goal.returns-in_default
 unfolding code_of
-returns-else-n-6 c = simp (ne_eqb _ 16384 c.if-n.false, ne_eqb _ 32768 c.if-n-2.false, ne_eqb _ 65536 c.if-n-3.false, ne_eqb _ 131072 c.if-n-4.false, ne_eqb _ 262144 c.if-n-5.false, ne_eqb _ 524288 c.if-n-6.false)
+returns-in_default c =
+    let n = c.args.n in
+    simp (
+      ne_eqb n 16384 (λ e. absurd (omega (arith, e))),
+      ne_eqb n 32768 (λ e. absurd (omega (arith, e))),
+      ne_eqb n 65536 (λ e. absurd (omega (arith, e))),
+      ne_eqb n 131072 (λ e. absurd (omega (arith, e))),
+      ne_eqb n 262144 (λ e. absurd (omega (arith, e))),
+      ne_eqb n 524288 (λ e. absurd (omega (arith, e))),
+    )

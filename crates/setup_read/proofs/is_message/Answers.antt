@@ -5,8 +5,8 @@ use mathlib.Core.Path.{sym, ◌∙◌}
 use native.Mathlib.Omega.{arith}
 use Rattle.setup_read.proofs.is_message.Goals as goal
 
-pub overflow_sub-n : goal.overflow_sub-n
-overflow_sub-n c =
+pub overflow_sub-s : goal.overflow_sub-s
+overflow_sub-s c =
     let l = c.args.s.now in
     omega (arith, begins_long l (sym c.begins.ensures ∙ c.if-begins.true))
 

@@ -1,24 +1,18 @@
 -- `setup_read::sized` meets its contract. Assumes nothing.
-use borrow.Author.Tests.{eq-eqb, ne_eqb}
+use Rattle.std.proofs.Common.{ne_eqb, arith}
 use Rattle.setup_read.specs.Clc.{sized_b}
 use Rattle.setup_read.proofs.sized.Goals as goal
 
-pub returns-then-kind-eq4 : goal.returns-then-kind-eq4
+pub returns-in-4 : goal.returns-in-4
 unfolding sized_b
-returns-then-kind-eq4 c = simp (← c.u8_at-kind.ensures, eq-eqb _ 4 c.if-kind-eq4.true, c.requires)
+returns-in-4 c = simp (← c.u8_at.ensures, c.in-4.is)
 
-pub returns-then-kind-ne1 : goal.returns-then-kind-ne1
+pub returns-in-1 : goal.returns-in-1
 unfolding sized_b
-returns-then-kind-ne1 c = simp (← c.u8_at-kind.ensures, ne_eqb _ 4 c.if-kind-eq4.false, ne_eqb _ 1 c.if-kind-ne1.true, c.requires)
+returns-in-1 c = simp (c.u8_at-p.ensures, c.u16_at-o.ensures, ← c.u8_at.ensures, c.in-1.is)
 
-pub returns : goal.returns
+pub returns-in_default : goal.returns-in_default
 unfolding sized_b
-returns c = let b = c in
-    simp (
-      c.u8_at-p.ensures,
-      c.u16_at-o.ensures,
-      ← b.u8_at-kind.ensures,
-      eq-eqb _ 1 b.if-kind-ne1.false,
-      ne_eqb _ 4 b.if-kind-eq4.false,
-      b.requires,
-    )
+returns-in_default c =
+    let t = c.u8_at.result in
+    simp (← c.u8_at.ensures, ne_eqb t 4 (λ e. absurd (omega (arith, e))), ne_eqb t 1 (λ e. absurd (omega (arith, e))))

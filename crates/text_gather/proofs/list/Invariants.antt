@@ -1,9 +1,9 @@
 -- `text_gather::list` is safe and ends: each piece before the empty one leaves fewer bytes of n. Assumes nothing.
-use Prim.Native.Nat.{◌-◌, ◌≤◌}
+use Rattle.std.proofs.Common.{◌-◌, ◌≤◌}
 use Rattle.text_gather.proofs.list.Given as goal
 
-abbrev pub invariant-loop-p : goal.invariant-loop-p
-invariant-loop-p l = (l.p.at ≤ 65536) × ((l.p.len ≤ l.n - l.k) × (l.k ≤ l.n))
+abbrev pub invariant-loop-len : goal.invariant-loop-len
+invariant-loop-len l = (l.len ≤ l.n - l.k) × (l.k ≤ l.n)
 
-abbrev pub decreases-loop-p : goal.decreases-loop-p
-decreases-loop-p l = l.n - l.k
+abbrev pub decreases-loop-len : goal.decreases-loop-len
+decreases-loop-len l = l.n - l.k

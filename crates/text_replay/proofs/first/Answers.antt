@@ -1,10 +1,19 @@
 -- `text_replay::first` meets its contract. Assumes nothing.
-use mathlib.Core.Path.{◌∙◌}
-use lib.ListN.{replicate}
+use Rattle.std.proofs.Common.{replicate}
 use Rattle.text_replay.specs.ReplayCalls.{fresh_of}
 use Rattle.text_replay.proofs.first.Goals as goal
 
-pub returns : goal.returns
-returns c =
-    let f = c.fresh.ensures in
-    f.1 ∙ (λ i. fresh_of 1 8 8 1 (c.free_pool-books.ensures i) (replicate 252 0) (f.0 i))
+pub returns-clause-fresh : goal.returns-clause-fresh
+unfolding fresh_of
+returns-clause-fresh c =
+    λ i. record {
+      s = 1;
+      n = 8;
+      len = 8;
+      table = replicate 300 (c.zero_record-zero.ensures i);
+      count = 1;
+      links = c.fresh_links.ensures i;
+      books = c.free_pool-books.ensures i;
+      settings = c.no_settings.ensures i;
+      output = c.new-output.result;
+    }

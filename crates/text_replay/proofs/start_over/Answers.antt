@@ -1,13 +1,20 @@
 -- `text_replay::start_over` meets its contract. Assumes nothing.
-use Rattle.text_replay.proofs.Laws.{wiped}
+use Rattle.std.proofs.Common.{replicate}
+use Rattle.text_replay.specs.ReplayCalls.{fresh_of}
 use Rattle.text_replay.proofs.start_over.Goals as goal
 
-pub returns : goal.returns
-returns c =
-    let t = c in
-    let f = t in
-    let l = f in
-    let a = l.args in (
-      rw c.fresh.ensures.0 t.text-at.ensures,
-      (c.fresh.ensures.1, wiped a.mem.now _ _ _ l.least-most.ensures.0 f.fill.ensures),
-    )
+pub returns-clause-world : goal.returns-clause-world
+unfolding fresh_of
+returns-clause-world c =
+    let a = c.args in
+    λ i. record {
+      s = a.s;
+      n = a.n;
+      len = a.len;
+      table = replicate 300 (c.zero_record-zero.ensures i);
+      count = a.count;
+      links = c.fresh_links-w.ensures i;
+      books = a.w.now.books;
+      settings = a.w.now.settings;
+      output = c.text.new.self;
+    }

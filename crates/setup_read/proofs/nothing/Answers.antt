@@ -1,8 +1,0 @@
--- `setup_read::nothing` meets its contract. Assumes nothing.
-use Rattle.setup_read.specs.Places.{no_message}
-use mathlib.Core.Path.{refl}
-use Rattle.setup_read.proofs.nothing.Goals as goal
-
-pub returns : goal.returns
-unfolding no_message
-returns c = refl

@@ -1,2 +1,0 @@
--- `Laws`: what the tests tell of a double and of its bits.
-pub mod Laws
