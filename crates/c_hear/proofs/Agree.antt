@@ -148,7 +148,7 @@ module _ (rec : Record) (m : Message) where
     ruled_agrees =
         by_test (producer_b n rec m.producer && consumer_b rec m.consumer) (λ e. accepted_agrees) (λ e. refused_agrees 8 refl)
 
-    pub agree : (active : Bool) → Agrees rec m (hearing_of n active rec m) (hear_of n active rec m)
+    pub agree : (active : Bool) → Agrees rec m (hearing_of n active rec m 0) (hear_of n active rec m)
     unfolding hearing_of hear_of followed_of
     agree active =
         let no = refusal_of n active rec false in

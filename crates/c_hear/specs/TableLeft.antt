@@ -16,5 +16,5 @@ table_left t k m h =
 -- of the table t and the message's buffer b it leaves u and c
 abbrev pub HeardBy : ℕ → List Record → List Bool → ℕ → Message → List ℕ → HearAnswer → List Record → List ℕ → Type 0
 HeardBy n t active k m b r u c =
-    let q = hearing_of n (active_b active (record_at t k).id.link) (record_at t k) m in
+    let q = hearing_of n (active_b active (record_at t k).id.link) (record_at t k) m 0 in
     (r ≡ q.said) × (u ≡ table_left t k m q) × (c ≡ message_left (record_at t k) q b)

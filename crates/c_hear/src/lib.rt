@@ -30,7 +30,25 @@ fn put(table: &mut [Record], slot: usize, m: Message, t: Hearing)
     }
 }
 
-// A hear that 1, 4 and 5 do not refuse.
+// A hear of the slot's record.
+fn hear_at(
+    n: u32,
+    table: &mut [Record],
+    links: LinkStates,
+    slot: usize,
+    m: Message,
+    message: &mut [u8; 44],
+) -> HearAnswer
+    ensures { HeardBy n table.old links.active slot m message.old result table.new message.new }
+{
+    let t = plan_hear::hear_record(n, links, group_table::record_at(table, slot), m, 0);
+    plan_hear::tell(group_table::record_at(table, slot), t, message);
+    put(table, slot, m, t);
+    t.said
+}
+
+// A hear that 1, 4 and 5 do not refuse. A slot outside the table has a branch of its own: the compiler then knows in the other that the slot
+// has a record, and inlines `hear_record`, with one caller.
 fn hear_on(
     n: u32,
     table: &mut [Record],
@@ -41,10 +59,12 @@ fn hear_on(
 ) -> HearAnswer
     ensures { HeardBy n table.old links.active slot m message.old result table.new message.new }
 {
-    let t = plan_hear::hear_record(n, links, group_table::record_at(table, slot), m);
-    plan_hear::tell(group_table::record_at(table, slot), t, message);
-    put(table, slot, m, t);
-    t.said
+    let i = group_table::index(slot, table.len());
+    if i < table.len() {
+        hear_at(n, table, links, slot, m, message)
+    } else {
+        plan_hear::hear_none(0).said
+    }
 }
 
 // Hears. What refuses comes first, as in `c_read`.
@@ -65,7 +85,7 @@ pub extern "C" fn fordlinnet_make_hear(
     let heard = plan_hear::parse(bytes);
     let slot = group_table::find(table, plan_hear::token_of(heard));
     match plan_hear::before(s, n, mem.len(), table.len(), heard, slot) {
-        Ok(m) => hear_on(n, table, links, slot, m, message),
-        Err(j) => plan_hear::refused(j),
+        0 => hear_on(n, table, links, slot, heard.message, message),
+        j => plan_hear::refused(j),
     }
 }

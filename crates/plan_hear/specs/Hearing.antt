@@ -1,6 +1,6 @@
 -- A hear as the code takes it apart: what it answers and does with its record, in few values (`Hearing`), and the record and the message by
 -- these. Assumes nothing.
-use Rattle.std.specs.Prelude.{ℕ, Option, Some, None, Result, Ok, Err, Bool, true, false, ◌&&◌, ◌||◌, not, cond, List, ltb, eqb}
+use Rattle.std.specs.Prelude.{ℕ, Bool, true, false, ◌&&◌, ◌||◌, not, cond, List, ltb, eqb}
 use Rattle.cursor.specs.Cursor.{same_b}
 use Rattle.cdc.specs.declared.Message.{Message}
 use Rattle.cdc.specs.declared.Decoded.{Decoded}
@@ -11,35 +11,47 @@ use Rattle.closing.specs.Closing.{number_of, state_of, abort_sent, marks_heard}
 use Rattle.conn_record.specs.declared.Inbound.{Inbound}
 use Rattle.conn_record.specs.declared.Outbound.{Outbound}
 use Rattle.conn_record.specs.declared.Record.{Record}
-use Rattle.conn_record.specs.Connection.{zero_record, no_place, place_at, reached_b, refusal_of}
+use Rattle.conn_record.specs.Connection.{zero_cursor, zero_record, no_place, place_at, reached_b, refusal_of}
 use Rattle.conn_record.specs.Connection.{p_to, t_to, last_to, flags_to, urgent_in_to, r_to, next_to, urgent_out_to, inbound_to, outbound_to, marks_to}
 use Rattle.conn_answer.specs.Outcome.{sequence_after, told_of, message_of}
 use Rattle.conn_hear.specs.Heard.{producer_b, consumer_b, moved_by, next_b}
 use Rattle.group_table.specs.Table.{sizes_b}
 use Rattle.plan.specs.Direct.{marks_left}
 use Rattle.plan_hear.specs.declared.HearAnswer.{HearAnswer}
+use Rattle.plan_hear.specs.declared.Parsed.{Parsed}
 use Rattle.plan_hear.specs.declared.Hearing.{Hearing}
 
--- what bytes are read as
-abbrev pub parsed_of : Decoded → Option Message
-parsed_of (Good m) = Some m
-parsed_of Malformed = None
+abbrev pub no_heard : Message
+no_heard =
+    record {
+      sequence = 0;
+      token = 0;
+      producer = zero_cursor;
+      consumer = zero_cursor;
+      flags =
+          record {
+            blocked = false;
+            pending = false;
+            urgent = false;
+            request = false;
+            failover = false;
+            done = false;
+            closed = false;
+            abort = false;
+          };
+    }
 
-unfoldable pub parsed_in : List ℕ → Option Message
+-- what bytes are read as; zeros where they are no message
+abbrev pub parsed_of : Decoded → Parsed
+parsed_of (Good m) = record { good = true; message = m }
+parsed_of Malformed = record { good = false; message = no_heard }
+
+unfoldable pub parsed_in : List ℕ → Parsed
 parsed_in b = parsed_of (decode_of b)
 
--- the token that it names; 0 where it is no message
-abbrev pub token_in : Option Message → ℕ
-token_in (Some m) = m.token
-token_in None = 0
-
--- 1, then 4, then 5; or the message to hear
-abbrev pub heard_in_slot : Option Message → ℕ → Result Message ℕ
-heard_in_slot (Some m) slot = cond (eqb slot 0) (Err 5) (Ok m)
-heard_in_slot None slot = Err 4
-
-unfoldable pub heard_first : ℕ → ℕ → ℕ → ℕ → Option Message → ℕ → Result Message ℕ
-heard_first s n len count p slot = cond (sizes_b s n len count) (heard_in_slot p slot) (Err 1)
+-- 1, then 4, then 5; 0: none of them
+unfoldable pub refused_before : ℕ → ℕ → ℕ → ℕ → Bool → ℕ → ℕ
+refused_before s n len count good slot = cond (sizes_b s n len count) (cond good (cond (eqb slot 0) 5 0) 4) 1
 
 abbrev pub refused_answer : ℕ → HearAnswer
 refused_answer j = record { refusal = j; made = false; state = 0; moved = 0 }
@@ -118,16 +130,22 @@ unfoldable pub ruled_hearing : ℕ → Record → Message → Hearing
 ruled_hearing N rec m =
     cond (producer_b N rec m.producer && consumer_b rec m.consumer) (accepted_hearing N rec m) (refused_hearing 8)
 
--- 3, 6, and without A and F 16, 8
-unfoldable pub hearing_of : ℕ → Bool → Record → Message → Hearing
-hearing_of N active rec m =
+-- `j` is what was refused before, 0 for nothing; then 3, 6, and without A and F 16, 8
+unfoldable pub hearing_of : ℕ → Bool → Record → Message → ℕ → Hearing
+hearing_of N active rec m j =
     let no = refusal_of N active rec false in
-    cond (eqb no 0)
+    cond (eqb j 0)
+    (cond (eqb no 0)
     (cond m.flags.abort (abort_hearing rec.marks.abort)
     (cond rec.marks.abort (kept_hearing 5)
     (cond m.flags.failover (validated_hearing rec m)
     (cond (next_b rec m) (ruled_hearing N rec m) (refused_hearing 16)))))
-    (refused_hearing no)
+    (refused_hearing no))
+    (refused_hearing j)
+
+-- of a record that is all zeros
+unfoldable pub none_hearing : ℕ → Hearing
+none_hearing j = cond (eqb j 0) (refused_hearing 3) (refused_hearing j)
 
 -- P, sequence, B and R flag, the urgent place where it is a new one, T where a message is made
 unfoldable pub inbound_left : Inbound → Message → Hearing → Inbound

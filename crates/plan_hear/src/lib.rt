@@ -5,11 +5,11 @@
 ghost use Rattle.std.specs.Prelude.{◌≡◌, cond};
 ghost use Rattle.conn_record.specs.Connection.{place_at};
 ghost use Rattle.group_table.specs.Table.{active_b};
-ghost use Rattle.plan_hear.specs.Hearing.{parsed_in, token_in, heard_first, refused_answer, refused_hearing, abort_hearing, kept_hearing};
-ghost use Rattle.plan_hear.specs.Hearing.{break_hearing, validated_hearing, accepted_hearing, ruled_hearing, hearing_of, inbound_left};
+ghost use Rattle.plan_hear.specs.Hearing.{no_heard, parsed_in, refused_before, refused_answer, refused_hearing, abort_hearing, kept_hearing};
+ghost use Rattle.plan_hear.specs.Hearing.{break_hearing, validated_hearing, accepted_hearing, ruled_hearing, hearing_of, none_hearing, inbound_left};
 ghost use Rattle.plan_hear.specs.Hearing.{outbound_left, record_left, abort_left, ended_of, told_by, message_left};
 
-use cdc::{Decoded, Message};
+use cdc::{Decoded, Flags, Message};
 use conn_record::{Inbound, Outbound, Record, Urgent};
 use cursor::Cursor;
 use plan::LinkStates;
@@ -24,6 +24,14 @@ pub struct HearAnswer {
     pub moved: u64,
 }
 
+// What bytes are read as: whether they are a message, and which; zeros where they are none. A flag beside the message, no Option: callers may
+// lend any two, and `token_of` answers of the message alone (docs/DESIGN-PASS.md).
+#[derive(Clone, Copy)]
+pub struct Parsed {
+    pub good: bool,
+    pub message: Message,
+}
+
 // What a hear does with its record: the answer; whether what the message says is put into it, or the slot closed; whether the urgent place
 // of our element is a new one, and our own cleared; whether A is sent: a slot that is not closed then breaks, its record takes A alone.
 #[derive(Clone, Copy)]
@@ -36,45 +44,61 @@ pub struct Hearing {
     pub aborts: bool,
 }
 
-// The message that the bytes are, if they are one.
-pub fn parse(bytes: &[u8]) -> Option<Message>
+fn no_message() -> Message
+    ensures { result ≡ no_heard }
+{
+    let at = Cursor { offset: 0, wrap: 0 };
+    let flags = Flags {
+        blocked: false,
+        pending: false,
+        urgent: false,
+        request: false,
+        failover: false,
+        done: false,
+        closed: false,
+        abort: false,
+    };
+    Message {
+        sequence: 0,
+        token: 0,
+        producer: at,
+        consumer: at,
+        flags,
+    }
+}
+
+pub fn parse(bytes: &[u8]) -> Parsed
     ensures { result ≡ parsed_in bytes.now }
 {
     match cdc::decode(bytes) {
-        Decoded::Good(m) => Some(m),
-        Decoded::Malformed => None,
+        Decoded::Good(m) => Parsed {
+            good: true,
+            message: m,
+        },
+        Decoded::Malformed => Parsed {
+            good: false,
+            message: no_message(),
+        },
     }
 }
 
-// The token that it names; 0, which no slot has, where there is none.
-pub fn token_of(p: Option<Message>) -> u32
-    ensures { result ≡ token_in p }
+pub fn token_of(p: Parsed) -> u32
+    ensures { result ≡ p.message.token }
 {
-    match p {
-        Some(m) => m.token,
-        None => 0,
-    }
+    p.message.token
 }
 
-// The message to hear, or what refuses it before the record is looked at: 1, then 4, then 5.
-pub fn before(
-    s: u32,
-    n: u32,
-    len: usize,
-    count: usize,
-    p: Option<Message>,
-    slot: usize,
-) -> Result<Message, u8>
-    ensures { result ≡ heard_first s n len count p slot }
+// What is tested before the record is looked at: 1, then 4, then 5; 0 for none.
+pub fn before(s: u32, n: u32, len: usize, count: usize, p: Parsed, slot: usize) -> u8
+    ensures { result ≡ refused_before s n len count p.good slot }
 {
     if !group_table::sizes_ok(s, n, len, count) {
-        return Err(1);
+        return 1;
     }
-    match p {
-        None => Err(4),
-        Some(_) if slot == 0 => Err(5),
-        Some(m) => Ok(m),
+    if !p.good {
+        return 4;
     }
+    if slot == 0 { 5 } else { 0 }
 }
 
 // What is answered where `j` refuses.
@@ -218,10 +242,13 @@ fn ruled(n: u32, rec: Record, m: Message) -> Hearing
     stays(8)
 }
 
-// A hear of the record that 1, 4 and 5 do not refuse.
-pub fn hear_record(n: u32, links: LinkStates, rec: Record, m: Message) -> Hearing
-    ensures { result ≡ hearing_of n (active_b links.active rec.id.link) rec m }
+// A hear of the record, where `j` is what was refused before.
+pub fn hear_record(n: u32, links: LinkStates, rec: Record, m: Message, j: u8) -> Hearing
+    ensures { result ≡ hearing_of n (active_b links.active rec.id.link) rec m j }
 {
+    if j != 0 {
+        return stays(j);
+    }
     let active = plan::link_active(links, rec.id.link);
     let no = conn_record::refusal(n, active, rec, false);
     if no != 0 {
@@ -242,6 +269,14 @@ pub fn hear_record(n: u32, links: LinkStates, rec: Record, m: Message) -> Hearin
         return ruled(n, rec, m);
     }
     stays(16)
+}
+
+// A hear of a slot outside the table, whose record is all zeros: incoherent. (It is not `hear_record`, which has one caller and so is
+// inlined.)
+pub fn hear_none(j: u8) -> Hearing
+    ensures { result ≡ none_hearing j }
+{
+    if j == 0 { stays(3) } else { stays(j) }
 }
 
 fn urgent_left(u: Urgent, at: Cursor, urged: bool) -> Urgent

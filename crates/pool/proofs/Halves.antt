@@ -12,7 +12,7 @@ use Rattle.std.proofs.Common.{Option, Some, None}
 use Rattle.pool.specs.Pool.{Books, size_at, every, size_b, sound_b, fits_b, lowest}
 use Rattle.pool.specs.Statement.{In, Starts, Held}
 use Rattle.pool.specs.Steps.{empty_b, Part}
-use Rattle.pool.proofs.Every.{every_at, every_of, lowest_split, lowest_at, lowest_first, none_lowest}
+use Rattle.pool.proofs.Every.{every_at, every_of, lowest_split, lowest_first, none_lowest}
 use Rattle.pool.proofs.Sizes.{sizes, size_most, size_some, one_goes, between, next, through, together, fits_off}
 use Rattle.pool.proofs.Sound.{same_bool, own, some_of, sound_of}
 use Rattle.pool.proofs.Units.{fits_of_lem, of_fits}

@@ -102,27 +102,29 @@ fn is_sound(b: &[u8; 64]) -> bool
 // Where the lowest block of the size asked starts that may be given out among the units from `at` on, `size` of them. These are halved,
 // and halved again, the lower half tried first, until the halves have the size asked. What one block holds is not halved. No block from
 // before `at` reaches further, so only what starts in a half is looked at.
-fn find(b: &[u8; 64], at: usize, size: usize, want: usize) -> Option<usize>
+fn find(b: &[u8; 64], mut at: usize, mut size: usize, want: usize) -> Option<usize>
     requires { Part b.now want at size }
     ensures { result ≡ lowest (fits_b b.now want) at size }
 {
-    if size <= want {
-        if none_starts(b, at, want) {
-            return Some(at);
+    // Kept: each turn has another place and size. The upper half is a turn and no call: an Option comes back through memory.
+    while want < size {
+        let held = usize::from(b[at]);
+        if size <= held {
+            return None;
         }
-        return None;
+        let half = size / 2;
+        let middle = at + half;
+        let lower = find(b, at, half, want);
+        if lower.is_some() {
+            return lower;
+        }
+        at = middle;
+        size = half;
     }
-    let held = usize::from(b[at]);
-    if size <= held {
-        return None;
+    if none_starts(b, at, want) {
+        return Some(at);
     }
-    let half = size / 2;
-    let middle = at + half;
-    let lower = find(b, at, half, want);
-    if lower.is_some() {
-        return lower;
-    }
-    find(b, middle, half, want)
+    None
 }
 
 // Whether a block of that size was given out in that place.

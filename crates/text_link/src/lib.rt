@@ -2,7 +2,7 @@
 // `table`. What follows a line's first word is read by `text_link_read`, a call on the rows of a table made by `group_link`.
 #![tactic(auto)]
 
-ghost use Rattle.std.specs.Prelude.{◌≡◌, ◌≤◌};
+ghost use Rattle.std.specs.Prelude.{◌≡◌, ◌≤◌, length};
 ghost use Rattle.text_link.specs.LinkText.{values_in, waiting_in, queue_in, left_of, room_of};
 
 use conn_answer::Reply;
@@ -61,7 +61,9 @@ fn message(out: &mut Output, said: &Answered) {
 }
 
 // A buffer without the A5 bytes at its end.
-fn shown(buffer: &[u8]) -> &[u8] {
+fn shown(buffer: &[u8]) -> &[u8]
+    ensures { length result.now ≤ length buffer.now }
+{
     match buffer.iter().rposition(|b| *b != 0xA5) {
         Some(last) => &buffer[..last + 1],
         None => &buffer[..0],

@@ -16,7 +16,7 @@ use text_stream::output::Output;
 // The group as the last call left it, its memory aside, of which it has the first `len` bytes; of the table it has the first `count` rows.
 // The books of the pool and the settings beside it; and the output, to which each line prints its answer.
 // `len` and `count` are lengths beside fixed memory: the format's LEN and COUNT, which may be out of range and are lent as they stand.
-#[derive(Drop)]
+#[derive(Clone, Copy)]
 pub struct World {
     pub s: u32,
     pub n: u32,

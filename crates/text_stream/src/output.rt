@@ -5,7 +5,7 @@ use itoa::Buffer;
 
 // `at` is how far the buffer is filled.
 // A buffer and its fill, not a `BufWriter`: that one is made on the heap, and where it cannot be made replay would print nothing.
-#[derive(Drop)]
+#[derive(Clone, Copy)]
 pub struct Output {
     rt: HostRuntime,
     buf: [u8; 65536],

@@ -1,7 +1,6 @@
 -- `pool::none_starts` meets its contract. Assumes nothing.
 use mathlib.Core.Path.{sym, ◌∙◌}
 use Prim.Native.Nat.{◌+◌}
-use native.Mathlib.Omega.{arith}
 use borrow.Author.Tests.{eq-eqb, ne_eqb}
 use Rattle.pool.specs.Steps.{empty_b}
 use Rattle.pool.proofs.Every.{every_start, every_here, every_on, every_end}

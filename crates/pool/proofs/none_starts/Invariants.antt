@@ -1,5 +1,5 @@
 -- `pool::none_starts`: what the units from k on say is the answer. Assumes nothing.
-use Prim.Native.Nat.{◌+◌, ◌-◌, ◌≤◌}
+use Prim.Native.Nat.{◌+◌, ◌-◌}
 use Rattle.pool.specs.Pool.{every}
 use Rattle.pool.specs.Steps.{empty_b}
 use mathlib.Core.Path.{◌≡◌}
