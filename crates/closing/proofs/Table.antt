@@ -1,15 +1,13 @@
 -- The table's rule, at all 32 values of the five marks by one computation.
 -- Assumes nothing.
-use mathlib.Core.Path.{◌≡◌, ◌∙◌, ap, sym}
+use mathlib.Core.Path.{◌≡◌, ◌∙◌, ap}
 use mathlib.Core.Bool.{Bool, true, false, ◌&&◌}
 use mathlib.Core.List.{List}
 use Prim.Native.Nat.{ℕ, ◌<◌}
 use lib.Dec.{T, eqb, eqb→eq, ltb, ltb→lt}
 use lib.ListN.{get_or}
 use Rattle.closing.specs.declared.Marks.{Marks}
-use Rattle.closing.specs.declared.State.{State}
-use Rattle.closing.specs.Closing.{close_state_of, number_of, packed_of, state_at}
-use Rattle.closing.proofs.Laws.{state_back}
+use Rattle.closing.specs.Closing.{close_state_of, number_of, packed_of}
 
 left : (a b : Bool) → T (a && b) → T a
 left true b t = tt
@@ -48,21 +46,17 @@ everywhere_at f m h =
     (each (λ cs. all (λ dh. all (λ ch. all (at ds cs dh ch))))
     (each (λ ds. all (λ cs. all (λ dh. all (λ ch. all (at ds cs dh ch))))) h ds) cs) dh) ch) m.first
 
--- states of one number are one state
-same_state : (a b : State) → T (eqb (number_of a) (number_of b)) → a ≡ b
-same_state a b t = sym (state_back a) ∙ ap state_at (eqb→eq _ _ t) ∙ state_back b
-
-abbrev pub right_entry : List State → State → Marks → Bool
-right_entry table d m = eqb (number_of (get_or table (packed_of m) d)) (number_of (close_state_of m))
+abbrev pub right_entry : List ℕ → Marks → Bool
+right_entry table m = eqb (get_or table (packed_of m) 0) (number_of (close_state_of m))
 
 -- every entry of a table is the rule's
-abbrev pub right_table : List State → State → Bool → Bool
-right_table table d = everywhere (right_entry table d)
+abbrev pub right_table : List ℕ → Bool → Bool
+right_table table = everywhere (right_entry table)
 
--- a table that passes the test has, at any marks' place, their state
-pub table_right : (table : List State) (d : State) (m : Marks) (at : ℕ) → at ≡ packed_of m → T (right_table table d m.abort)
-    → get_or table at d ≡ close_state_of m
-table_right table d m at e t = ap (λ (k : ℕ). get_or table k d) e ∙ same_state _ _ (everywhere_at (right_entry table d) m t)
+-- a table that passes the test has, at any marks' place, their state's number
+pub table_right : (table : List ℕ) (m : Marks) (at : ℕ) → at ≡ packed_of m → T (right_table table m.abort)
+    → get_or table at 0 ≡ number_of (close_state_of m)
+table_right table m at e t = ap (λ (k : ℕ). get_or table k 0) e ∙ eqb→eq _ _ (everywhere_at (right_entry table) m t)
 
 below : Marks → Bool
 below m = ltb (packed_of m) 32

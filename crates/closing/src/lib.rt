@@ -2,7 +2,7 @@
 #![tactic(auto)]
 
 ghost use Rattle.std.specs.Prelude.{◌≡◌, cond, ◌≤◌, ◌<◌};
-ghost use Rattle.closing.specs.Closing.{packed_of, number_of, close_state_of, state_of, first_of, done_sent, closed_sent, abort_sent, marks_heard};
+ghost use Rattle.closing.specs.Closing.{packed_of, number_of, close_state_of, state_at, state_of, first_of, done_sent, closed_sent, abort_sent, marks_heard};
 
 // One side's marks: D done writing, C closed.
 #[repr(C)]
@@ -44,40 +44,15 @@ impl From<State> for u8 {
     }
 }
 
-// The close state for each value of the packed marks: D sent 16, C sent 8, D heard 4, C heard 2, ours first 1.
-const STATES: [State; 32] = [
-    State::Active, // no mark
-    State::Active,
-    State::AppCloseWait1,
-    State::AppCloseWait1,
-    State::AppCloseWait1,
-    State::AppCloseWait1,
-    State::AppCloseWait1,
-    State::AppCloseWait1,
-    State::PeerCloseWait1, // C sent
-    State::PeerCloseWait1,
-    State::Closed,
-    State::Closed,
-    State::PeerCloseWait2,
-    State::PeerCloseWait2,
-    State::Closed,
-    State::Closed,
-    State::PeerCloseWait1, // D sent
-    State::PeerCloseWait1,
-    State::AppCloseWait2,
-    State::AppCloseWait2,
-    State::AppCloseWait2, // D each
-    State::PeerCloseWait2, // D each, ours first
-    State::AppCloseWait2,
-    State::AppCloseWait2,
-    State::PeerCloseWait1, // D and C sent
-    State::PeerCloseWait1,
-    State::Closed,
-    State::Closed,
-    State::PeerCloseWait2,
-    State::PeerCloseWait2,
-    State::Closed,
-    State::Closed,
+// The state's number for each value of the packed close marks: D sent 16, C sent 8, D heard 4, C heard 2, ours first 1.
+const STATES: [u8; 32] = [
+    0, // no mark
+    0, 3, 3, 3, 3, 3, 3, 1, // C sent
+    1, 6, 6, 2, 2, 6, 6, 1, // D sent
+    1, 4, 4, 4, // D each
+    2, // D each, ours first
+    4, 4, 1, // D and C sent
+    1, 6, 6, 2, 2, 6, 6,
 ];
 
 // The place in the table.
@@ -91,11 +66,27 @@ fn packed(m: Marks) -> usize
         + usize::from(m.first)
 }
 
-// The close state, by the table.
-fn close_state(m: Marks) -> State
-    ensures { result ≡ close_state_of m }
+// The number of the close state, by the table.
+fn number(m: Marks) -> u8
+    ensures { result ≡ number_of (close_state_of m) }
 {
     STATES[packed(m)]
+}
+
+// The state of a number.
+#[tactic(auto, unfolding(crate::specs::Closing::state_at))]
+fn named(k: u8) -> State
+    ensures { result ≡ state_at k }
+{
+    match k {
+        0 => State::Active,
+        1 => State::PeerCloseWait1,
+        2 => State::PeerCloseWait2,
+        3 => State::AppCloseWait1,
+        4 => State::AppCloseWait2,
+        5 => State::PeerAbortWait,
+        _ => State::Closed,
+    }
 }
 
 // The state that the marks name.
@@ -105,7 +96,7 @@ pub fn state_of(m: Marks) -> State
     if m.abort {
         State::PeerAbortWait
     } else {
-        close_state(m)
+        named(number(m))
     }
 }
 

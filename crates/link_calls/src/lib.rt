@@ -313,8 +313,9 @@ fn message_work(g: Links, link: u8, bytes: [u8; 44], m: Said, due: bool, f: Fate
             true,
         )
     } else {
-        let next = link_exchange::taken_exchange(x, link, m, f);
-        settle(g, next, link_exchange::taken_touch(m, f), queue, false)
+        let number = u8::from(f);
+        let next = link_exchange::taken_exchange(x, link, m, number);
+        settle(g, next, link_exchange::taken_touch(m, number), queue, false)
     }
 }
 

@@ -69,12 +69,23 @@ pub struct Said {
     pub mtu: u8,
 }
 
+// With the numbers that the definitions count them by.
 #[derive(Clone, Copy, PartialEq)]
 pub enum Fate {
-    Taken,
-    Queued,
-    Denied,
-    Dropped,
+    Taken = 0,
+    Queued = 1,
+    Denied = 2,
+    Dropped = 3,
+}
+
+impl From<Fate> for u8 {
+    ghost from_gives = { λ fate number. number ≡ fate_number fate };
+
+    fn from(fate: Fate) -> u8
+        ensures { result ≡ fate_number fate }
+    {
+        fate as u8
+    }
 }
 
 // Exchange against arriving message; columns none, add, delete, rkey.
@@ -411,12 +422,12 @@ pub fn outside(m: Said) -> bool
     acts & !((1 <= m.link) & (m.link <= 4))
 }
 
-// The exchange that an arriving message leaves that is not due; f: its fate.
+// The exchange that an arriving message leaves that is not due; f: its fate's number.
 #[tactic(auto, unfolding(crate::specs::Fates::taken_exchange))]
-pub fn taken_exchange(x: Exchange, link: u8, m: Said, f: Fate) -> Exchange
-    ensures { result ≡ taken_exchange x link m (fate_number f) }
+pub fn taken_exchange(x: Exchange, link: u8, m: Said, f: u8) -> Exchange
+    ensures { result ≡ taken_exchange x link m f }
 {
-    if (arriving(m) == 2) & (f == Fate::Taken) {
+    if (arriving(m) == 2) & (f == 0) {
         Exchange {
             stage: 1,
             v: link,
@@ -429,10 +440,10 @@ pub fn taken_exchange(x: Exchange, link: u8, m: Said, f: Fate) -> Exchange
 
 // What it does to the links.
 #[tactic(auto, unfolding(crate::specs::Fates::taken_touch))]
-pub fn taken_touch(m: Said, f: Fate) -> Touch
-    ensures { result ≡ taken_touch m (fate_number f) }
+pub fn taken_touch(m: Said, f: u8) -> Touch
+    ensures { result ≡ taken_touch m f }
 {
-    if f != Fate::Taken {
+    if f != 0 {
         return Touch::Nothing;
     }
     match arriving(m) {
